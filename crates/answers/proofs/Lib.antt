@@ -1,0 +1,3 @@
+-- Laws of the questions. No contract cites them.
+pub mod Places
+pub mod Nearest

@@ -1,0 +1,110 @@
+-- Document 01, 'Numbers given back when a call says no': each public call as one function of what came in. It gives the three numbers
+-- and every lent byte and row afterwards; refusals stand in the document's order, the first match is given, and a refused call
+-- changes nothing. A contract cites these functions, and nothing else.
+--     build, check, readBack, question, batch
+-- The laws are in proofs/Calls.antt. Assumes nothing: these are definitions.
+use Prim.Native.Nat.{ℕ, _+_}
+use mathlib.Core.Bool.{Bool}
+use mathlib.Core.List.{List, [], _++_, map}
+use lib.Dec.{leb, ltb, eqb}
+use lib.ListN.{length, getD, take, drop}
+use Rattle.words.specs.Words.{Bytes, Rule, pick, both}
+use Rattle.format.specs.Records.{Reading, Names, Refused, readList, longest}
+use Rattle.format.specs.Book.{Opened, Book, NoBook, longestBook, goodBlock, book, opened}
+use Rattle.answers.specs.Questions.{answer}
+
+pub record Answer : Type 0 where
+  pub code : ℕ
+  pub first : ℕ
+  pub second : ℕ
+
+-- an answer, and the lent room afterwards
+pub record Written : Type 0 where
+  pub answer : Answer
+  pub room : Bytes
+
+-- an answer, and the lent answer rows afterwards
+pub record Batched : Type 0 where
+  pub answer : Answer
+  pub rows : List Answer
+
+abbrev pub given : ℕ → ℕ → Answer
+given a b = record { code = 0; first = a; second = b }
+
+abbrev pub refused : ℕ → Answer
+refused c = record { code = c; first = 0; second = 0 }
+
+-- the front of the room is written, and the rest as it was
+abbrev pub over : Bytes → Bytes → Bytes
+over out room = out ++ drop (length out) room
+
+-- 4 where the room is shorter than the output
+abbrev pub write : Bytes → Bytes → Written
+write out room = pick (leb (length out) (length room))
+    (record { answer = given (length out) 0; room = over out room })
+    (record { answer = refused 4; room = room })
+
+-- ---- build: 8; then record by record 5, 6, 7; then 9; then 4
+
+unfoldable pub builtFrom : Rule → ℕ → Bytes → Reading → Written
+builtFrom ρ k room (Refused c i) = record { answer = record { code = c; first = i; second = 0 }; room = room }
+builtFrom ρ k room (Names xs) =
+    pick (leb (length (book ρ k xs)) longestBook) (write (book ρ k xs) room) (record { answer = refused 9; room = room })
+
+unfoldable pub build : Rule → Bytes → ℕ → Bytes → Written
+build ρ list k room = pick (goodBlock k) (builtFrom ρ k room (readList ρ list)) (record { answer = refused 8; room = room })
+
+-- ---- check: 2
+
+unfoldable pub checkOf : Opened → Answer
+checkOf NoBook = refused 2
+checkOf (Book k xs) = given (length xs) k
+
+unfoldable pub check : Rule → Bytes → Answer
+check ρ s = checkOf (opened ρ s)
+
+-- ---- read back: 2, 3, 4
+
+unfoldable pub readBackOf : ℕ → Bytes → Opened → Written
+readBackOf i room NoBook = record { answer = refused 2; room = room }
+readBackOf i room (Book k xs) = pick (ltb i (length xs)) (write (getD xs i []) room) (record { answer = refused 3; room = room })
+
+unfoldable pub readBack : Rule → Bytes → ℕ → Bytes → Written
+readBack ρ s i room = readBackOf i room (opened ρ s)
+
+-- ---- a question of kind 1 to 4: 2, 1, 10
+
+unfoldable pub questionOf : Rule → ℕ → Bytes → Opened → Answer
+questionOf ρ kind q NoBook = refused 2
+questionOf ρ kind q (Book k xs) =
+    let a = answer ρ kind q xs in
+    pick (leb (length q) longest)
+    (pick (both (eqb kind 4) (eqb (length xs) 0)) (refused 10) (given (a .0) (a .1)))
+    (refused 1)
+
+unfoldable pub question : Rule → ℕ → Bytes → Bytes → Answer
+question ρ kind s q = questionOf ρ kind q (opened ρ s)
+
+-- ---- batch: 12, 2; then for each row 11, 1, 10
+
+pub record Row : Type 0 where
+  pub kind : ℕ
+  pub start : ℕ
+  pub size : ℕ
+
+-- the kind is 1 to 4, and start plus length is not past the buffer
+abbrev pub goodRow : Bytes → Row → Bool
+goodRow buffer r = both (both (leb 1 (r .kind)) (leb (r .kind) 4)) (leb (r .start + r .size) (length buffer))
+
+unfoldable pub rowAnswer : Rule → Opened → Bytes → Row → Answer
+rowAnswer ρ o buffer r = pick (goodRow buffer r) (questionOf ρ (r .kind) (take (r .size) (drop (r .start) buffer)) o) (refused 11)
+
+unfoldable pub batchOf : Rule → Bytes → List Row → List Answer → Opened → Batched
+batchOf ρ buffer rows answers NoBook = record { answer = refused 2; rows = answers }
+batchOf ρ buffer rows answers (Book k xs) =
+    record { answer = given (length rows) 0; rows = map (rowAnswer ρ (Book k xs) buffer) rows }
+
+unfoldable pub batch : Rule → Bytes → Bytes → List Row → List Answer → Batched
+batch ρ s buffer rows answers =
+    pick (both (leb (length rows) 64) (eqb (length rows) (length answers)))
+    (batchOf ρ buffer rows answers (opened ρ s)) (record { answer = refused 12; rows = answers })

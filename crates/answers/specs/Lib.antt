@@ -1,0 +1,3 @@
+-- Definitions of the questions and of what each public call gives.
+pub mod Questions
+pub mod Calls

@@ -1,0 +1,1 @@
+// Theory without code: the questions over the plain list, and what each public call gives.

@@ -1,0 +1,8 @@
+-- Laws of the list records and of the layout. No contract cites them.
+pub mod Records
+pub mod Entries
+pub mod Groups
+pub mod Spans
+pub mod Numbers
+pub mod Book
+pub mod Small

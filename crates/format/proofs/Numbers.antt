@@ -1,0 +1,71 @@
+-- Numbers of two bytes, low byte first, and lists of bytes.
+--     two-bytes                  a number below 65,536 is told by its two bytes
+--     numbers-length, numbers-append, numbers-at
+--     number-past                what stands after other bytes
+--     all-bytes, bytes-all       InBytes, by every element
+--     numbers-bytes, word-high
+-- Assumes nothing.
+use Prim.Native.Nat.{ℕ, zero, suc, _+_, _*_, _/_, _%_, _≤_, _<_, zero-le}
+use native.Mathlib.Nat.{le-of-suc-le-suc, not-suc-le-zero}
+use native.Mathlib.Omega.{arith}
+use mathlib.Core.Path.{_≡_, refl, sym, ap, ap₂, _∙_, subst}
+use mathlib.Core.List.{List, [], _∷_, _++_}
+use lib.ListN.{length, getD, take, drop, take-append-drop}
+use lib.Seq.{getD-append-add}
+use Rattle.words.specs.Words.{All, Bytes, InBytes, Lawful, Rule, at, cons, nil, word}
+use Rattle.words.proofs.Lists.{all-from, all-left}
+use Rattle.format.specs.Book.{number, numbers}
+
+pub two-bytes : (n : ℕ) → n < 65536 → n % 256 + 256 * (n / 256 % 256) ≡ n
+two-bytes n h = omega arith
+
+pub numbers-length : (ns : List ℕ) → length (numbers ns) ≡ 2 * length ns
+unfolding numbers
+numbers-length [] = refl
+numbers-length (n ∷ ns) = omega (arith, numbers-length ns)
+
+pub numbers-append : (ns ms : List ℕ) → numbers (ns ++ ms) ≡ numbers ns ++ numbers ms
+unfolding numbers
+numbers-append [] ms = refl
+numbers-append (n ∷ ns) ms = ap (λ (s : Bytes). n % 256 ∷ n / 256 % 256 ∷ s) (numbers-append ns ms)
+
+pub number-past : (s t : Bytes) (o : ℕ) → number (s ++ t) (length s + o) ≡ number t o
+unfolding number
+number-past s t o =
+    let e : length s + o + 1 ≡ length s + (o + 1) = omega arith in
+    ap₂ (λ (a b : ℕ). a + 256 * b) (getD-append-add s t o 0) (ap (λ (n : ℕ). getD (s ++ t) n 0) e ∙ getD-append-add s t (o + 1) 0)
+
+-- number j of a row of numbers, whatever stands behind them
+pub numbers-at : (ns : List ℕ) (t : Bytes) (j : ℕ) → j < length ns → getD ns j 0 < 65536 → number (numbers ns ++ t) (2 * j) ≡ getD ns j 0
+unfolding numbers number
+numbers-at [] t j h l = absurd (not-suc-le-zero h)
+numbers-at (n ∷ ns) t zero h l = two-bytes n l
+numbers-at (n ∷ ns) t (suc j) h l =
+    let e : 2 * suc j ≡ 2 + 2 * j = omega arith in
+    ap (number (numbers (n ∷ ns) ++ t)) e
+    ∙ number-past (n % 256 ∷ n / 256 % 256 ∷ []) (numbers ns ++ t) (2 * j)
+    ∙ numbers-at ns t j (le-of-suc-le-suc h) l
+
+-- ---- bytes
+
+pub all-bytes : (s : Bytes) → All (λ b. b < 256) s → InBytes s
+all-bytes [] a i = omega arith
+all-bytes (b ∷ s) (cons h a) zero = h
+all-bytes (b ∷ s) (cons h a) (suc i) = all-bytes s a i
+
+pub bytes-all : (s : Bytes) → InBytes s → All (λ b. b < 256) s
+bytes-all s h = all-from 0 s (λ i l. h i)
+
+pub numbers-bytes : (ns : List ℕ) → All (λ b. b < 256) (numbers ns)
+unfolding numbers
+numbers-bytes [] = nil
+numbers-bytes (n ∷ ns) = cons {a = n % 256} (omega arith) (cons {a = n / 256 % 256} (omega arith) (numbers-bytes ns))
+
+pub take-bytes : (n : ℕ) (s : Bytes) → All (λ b. b < 256) s → All (λ b. b < 256) (take n s)
+take-bytes n s a = all-left (take n s) (drop n s) (subst (All (λ b. b < 256)) (sym (take-append-drop n s)) a)
+
+-- a symbol is at most 256
+pub word-high : (ρ : Rule) → Lawful ρ → (x : Bytes) → All (λ b. b < 256) x → (d : ℕ) → at (word ρ x) d ≤ 256
+word-high ρ ok [] a d = zero-le
+word-high ρ ok (b ∷ x) (cons h a) zero = ok .high b h
+word-high ρ ok (b ∷ x) (cons h a) (suc d) = word-high ρ ok x a d

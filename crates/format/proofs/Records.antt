@@ -1,0 +1,147 @@
+-- A list's bytes and its names: each sound list of names is read from one run of bytes, and no other is read.
+--     read-skip                 what was skipped does not count
+--     read-encode, read-sound   the round trip, both ways
+--     sound-few, sound-sizes, sound-rises    what a sound list's names are; their words rise
+-- Assumes nothing.
+use Prim.Native.Nat.{ℕ, zero, suc, _-_, _≤_, _<_, zero-le}
+use native.Mathlib.Nat.{le-of-suc-le-suc, not-suc-le-zero}
+use native.Mathlib.Omega.{arith}
+use mathlib.Core.Path.{_≡_, refl, ap, ap₂, _∙_}
+use mathlib.Core.Bool.{Bool, true, false}
+use mathlib.Core.List.{List, [], _∷_, _++_}
+use lib.Dec.{leb, ltb}
+use lib.ListN.{length, take, drop, length-append, take-append-drop}
+use lib.Seq.{take-append-seam, drop-append-seam, length-take-le}
+use borrow.Author.Tests.{lt-ltb, ltb-true, leb-true, le-leb}
+use Prim.Native.Nat.{ℕ, zero, suc, _≤_, _<_, zero-le}
+use native.Mathlib.Nat.{le-of-suc-le-suc, not-suc-le-zero}
+use native.Mathlib.Omega.{arith}
+use mathlib.Core.Path.{_≡_, refl, ap, _∙_}
+use mathlib.Core.Bool.{Bool, true, false}
+use mathlib.Core.List.{List, [], _∷_, _++_, map}
+use lib.Dec.{leb, ltb}
+use lib.ListN.{length}
+use borrow.Author.Tests.{lt-ltb, ltb-true, le-leb}
+use Rattle.words.specs.Words.{All, Bytes, Lawful, Rises, Rule, both, cons, less, nil, pick, rise, start, word}
+use Rattle.words.proofs.Lists.{all-map}
+use Rattle.words.proofs.Rising.{Above}
+use Rattle.words.proofs.Words.{both-true, less-trans, word-positive}
+use Rattle.format.specs.Records.{Names, Reading, Refused, after, encode, goodLength, longest, mostNames, readFrom, readList, rising, sound}
+
+-- what was skipped does not count
+pub read-skip : (ρ : Rule) (i : ℕ) (prev : Bytes) (n : ℕ) (s : Bytes) → readFrom ρ i prev n s ≡ readFrom ρ i prev 0 (drop n s)
+unfolding readFrom
+read-skip ρ i prev zero s = refl
+read-skip ρ i prev (suc n) [] = refl
+read-skip ρ i prev (suc n) (b ∷ s) = read-skip ρ i prev n s
+
+-- a record that is good is its name, and then the records after it
+read-good : (ρ : Rule) (i : ℕ) (prev x rest : Bytes) → goodLength (length x) ≡ true → less (word ρ prev) (word ρ x) ≡ true → i < mostNames
+    → readFrom ρ i prev 0 (length x ∷ x ++ rest) ≡ after x (readFrom ρ (suc i) x 0 rest)
+unfolding readFrom
+read-good ρ i prev x rest g l h =
+    rw (take-append-seam x rest, g, le-leb (length x) (length (x ++ rest)) (omega (arith, length-append x rest)), l, lt-ltb i mostNames h)
+    (ap (after x) (read-skip ρ (suc i) x (length x) (x ++ rest) ∙ ap (readFrom ρ (suc i) x 0) (drop-append-seam x rest)))
+
+read-rising : (ρ : Rule) (i : ℕ) (prev : Bytes) (xs : List Bytes) → rising ρ prev xs ≡ true → length xs ≤ mostNames - i → readFrom ρ i prev 0 (encode xs) ≡ Names xs
+unfolding readFrom encode rising
+read-rising ρ i prev [] r h = refl
+read-rising ρ i prev (x ∷ xs) r h =
+    let b = both-true (goodLength (length x)) (both (less (word ρ prev) (word ρ x)) (rising ρ x xs)) r in
+    let c = both-true (less (word ρ prev) (word ρ x)) (rising ρ x xs) (b .1) in
+    read-good ρ i prev x (encode xs) (b .0) (c .0) (omega arith) ∙ ap (after x) (read-rising ρ (suc i) x xs (c .1) (omega arith))
+
+pub read-encode : (ρ : Rule) (xs : List Bytes) → sound ρ xs ≡ true → readList ρ (encode xs) ≡ Names xs
+unfolding readList sound
+read-encode ρ xs s =
+    let b = both-true (leb (length xs) mostNames) (rising ρ [] xs) s in
+    read-rising ρ 0 [] xs (b .1) (omega (arith, leb-true (length xs) mostNames (b .0)))
+
+-- ---- what is read is sound, and its bytes are those that were read
+
+record ReadBack (ρ : Rule) (i : ℕ) (prev s : Bytes) (xs : List Bytes) : Type 0 where
+  bytes : encode xs ≡ s
+  few : length xs ≤ mostNames - i
+  rises : rising ρ prev xs ≡ true
+
+read-back : (ρ : Rule) (i : ℕ) (prev : Bytes) (n : ℕ) (s : Bytes) (xs : List Bytes) → n ≤ length s → readFrom ρ i prev n s ≡ Names xs → ReadBack ρ i prev (drop n s) xs
+unfolding readFrom encode rising
+read-back ρ i prev (suc n) [] xs h e = absurd (not-suc-le-zero h)
+read-back ρ i prev (suc n) (b ∷ s) xs h e = read-back ρ i prev n s xs (le-of-suc-le-suc h) e
+read-back ρ i prev zero [] [] h e = record { bytes = refl; few = zero-le; rises = refl }
+read-back ρ i prev zero [] (x ∷ xs) h e = let z : _≡_ {A = ℕ} 0 1 = cc in absurd (omega arith)
+read-back ρ i prev zero (n ∷ rest) xs h e =
+    go (both (goodLength n) (leb n (length rest))) (less (word ρ prev) (word ρ (take n rest))) (ltb i mostNames) (readFrom ρ (suc i) (take n rest) n rest)
+    refl refl refl refl (λ ys k. read-back ρ (suc i) (take n rest) n rest ys k) e
+  where
+    go : (a b c : Bool) (r : Reading) → both (goodLength n) (leb n (length rest)) ≡ a → less (word ρ prev) (word ρ (take n rest)) ≡ b → ltb i mostNames ≡ c
+        → readFrom ρ (suc i) (take n rest) n rest ≡ r
+        → ((ys : List Bytes) → n ≤ length rest → readFrom ρ (suc i) (take n rest) n rest ≡ Names ys → ReadBack ρ (suc i) (take n rest) (drop n rest) ys)
+        → pick a (pick b (pick c (after (take n rest) r) (Refused 7 i)) (Refused 6 i)) (Refused 5 i) ≡ Names xs
+        → ReadBack ρ i prev (n ∷ rest) xs
+    go true true true (Names ys) p q t f ih e′ =
+        let l = both-true (goodLength n) (leb n (length rest)) p in
+        let fits : n ≤ length rest = leb-true n (length rest) (l .1) in
+        let b = ih ys fits f in
+        let size : length (take n rest) ≡ n = length-take-le n rest fits in
+        let all : xs ≡ take n rest ∷ ys = cc in
+        rw all (record {
+          bytes = ap₂ (λ (m : ℕ) (r : Bytes). m ∷ r) size (ap (λ (r : Bytes). take n rest ++ r) (b .bytes) ∙ take-append-drop n rest);
+          few = omega (arith, b .few, ltb-true i mostNames t);
+          rises = rw (size, l .0, q) (b .rises);
+        })
+    go true true true (Refused c j) p q t f ih e′ = let z : _≡_ {A = ℕ} 0 1 = cc in absurd (omega arith)
+    go true true false r p q t f ih e′ = let z : _≡_ {A = ℕ} 0 1 = cc in absurd (omega arith)
+    go true false c r p q t f ih e′ = let z : _≡_ {A = ℕ} 0 1 = cc in absurd (omega arith)
+    go false b c r p q t f ih e′ = let z : _≡_ {A = ℕ} 0 1 = cc in absurd (omega arith)
+
+pub read-sound : (ρ : Rule) (s : Bytes) (xs : List Bytes) → readList ρ s ≡ Names xs → (encode xs ≡ s) × (sound ρ xs ≡ true)
+unfolding readList sound
+read-sound ρ s xs e =
+    let b = read-back ρ 0 [] 0 s xs zero-le e in
+    (b .bytes, rw (le-leb (length xs) mostNames (omega (arith, b .few))) (b .rises))
+
+-- ---- what a sound list is
+
+pub sound-few : (ρ : Rule) (xs : List Bytes) → sound ρ xs ≡ true → length xs ≤ mostNames
+unfolding sound
+sound-few ρ xs h = leb-true (length xs) mostNames (both-true (leb (length xs) mostNames) (rising ρ [] xs) h .0)
+
+pub sound-rising : (ρ : Rule) (xs : List Bytes) → sound ρ xs ≡ true → rising ρ [] xs ≡ true
+unfolding sound
+sound-rising ρ xs h = both-true (leb (length xs) mostNames) (rising ρ [] xs) h .1
+
+pub good-length : (n : ℕ) → goodLength n ≡ true → (1 ≤ n) × (n ≤ longest)
+good-length n h =
+    let b = both-true (ltb 0 n) (leb n longest) h in
+    (ltb-true 0 n (b .0), leb-true n longest (b .1))
+
+-- a list that rises from prev on, taken apart
+pub record First (ρ : Rule) (prev x : Bytes) (xs : List Bytes) : Type 0 where
+  pub size : goodLength (length x) ≡ true
+  pub above : less (word ρ prev) (word ρ x) ≡ true
+  pub rest : rising ρ x xs ≡ true
+
+pub rising-first : (ρ : Rule) (prev x : Bytes) (xs : List Bytes) → rising ρ prev (x ∷ xs) ≡ true → First ρ prev x xs
+unfolding rising
+rising-first ρ prev x xs h =
+    let b = both-true (goodLength (length x)) (both (less (word ρ prev) (word ρ x)) (rising ρ x xs)) h in
+    let c = both-true (less (word ρ prev) (word ρ x)) (rising ρ x xs) (b .1) in
+    record { size = b .0; above = c .0; rest = c .1 }
+
+pub rising-sizes : (ρ : Rule) (prev : Bytes) (xs : List Bytes) → rising ρ prev xs ≡ true → All (λ x. (1 ≤ length x) × (length x ≤ longest)) xs
+rising-sizes ρ prev [] h = nil
+rising-sizes ρ prev (x ∷ xs) h =
+    let f = rising-first ρ prev x xs h in
+    cons (good-length (length x) (f .size)) (rising-sizes ρ x xs (f .rest))
+
+-- a sound list's words: each above the one before it is each above all before it
+pub rising-rises : (ρ : Rule) → Lawful ρ → (prev : Bytes) (xs : List Bytes) → rising ρ prev xs ≡ true
+    → Above (word ρ prev) (map (word ρ) xs) × Rises (map (word ρ) xs)
+unfolding rising
+rising-rises ρ ok prev [] h = (nil, start)
+rising-rises ρ ok prev (x ∷ xs) h =
+    let b = both-true (goodLength (length x)) (both (less (word ρ prev) (word ρ x)) (rising ρ x xs)) h in
+    let c = both-true (less (word ρ prev) (word ρ x)) (rising ρ x xs) (b .1) in
+    let r = rising-rises ρ ok x xs (c .1) in
+    (cons (c .0) (all-map (λ v k. less-trans (word ρ prev) (word ρ x) v (c .0) k) (r .0)), rise (word-positive ρ ok x) (r .0) (r .1))

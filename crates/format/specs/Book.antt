@@ -1,0 +1,92 @@
+-- Document 01, 'Layout of a book': the four parts without gaps, numbers wider than a byte in two bytes, low byte first; and demand
+-- 3: what bytes are a book.
+--     numbers, number   numbers as bytes; the number that stands at an offset
+--     entryPart, blockPart, nodePart, trailer    the four parts
+--     book              the whole, for a block size and names
+--     fits              a book can be built from these
+--     opened            the block size and the names of a book, or none
+-- The laws are in proofs/Book.antt. Assumes nothing: these are definitions.
+use Prim.Native.Nat.{ℕ, _+_, _-_, _*_, _/_, _%_}
+use mathlib.Core.Bool.{Bool}
+use mathlib.Core.List.{List, [], _∷_, _++_, map}
+use lib.Dec.{leb}
+use lib.ListN.{length, getD, take}
+use Rattle.words.specs.Words.{Bytes, Rule, pick, both, word, same}
+use Rattle.format.specs.Records.{sound}
+use Rattle.format.specs.Entries.{blocks, offsets, decode}
+use Rattle.format.specs.Nodes.{Node, table}
+
+abbrev pub longestBook : ℕ
+longestBook = 65535
+
+unfoldable pub numbers : List ℕ → Bytes
+numbers [] = []
+numbers (n ∷ ns) = n % 256 ∷ n / 256 % 256 ∷ numbers ns
+
+unfoldable pub joined : List Bytes → Bytes
+joined [] = []
+joined (x ∷ xs) = x ++ joined xs
+
+unfoldable pub entryPart : ℕ → List Bytes → Bytes
+entryPart k xs = joined (blocks k xs)
+
+unfoldable pub blockPart : ℕ → List Bytes → Bytes
+blockPart k xs = numbers (offsets 0 (blocks k xs))
+
+-- a node's numbers, in their order
+abbrev pub fields : Node → List ℕ
+fields r = r .symbol ∷ r .depth ∷ r .first ∷ r .names ∷ r .nodes ∷ []
+
+unfoldable pub allFields : List Node → List ℕ
+allFields [] = []
+allFields (r ∷ rs) = fields r ++ allFields rs
+
+-- ten bytes per node
+abbrev pub nodeSize : ℕ
+nodeSize = 10
+
+unfoldable pub nodePart : List Node → Bytes
+nodePart rs = numbers (allFields rs)
+
+abbrev pub trailerSize : ℕ
+trailerSize = 16
+
+abbrev pub mark : Bytes
+mark = 0x4E ∷ 0x42 ∷ 0x4B ∷ 0x31 ∷ []
+
+-- names, block size, start of block table, start of node table, number of nodes, length of the whole book, the mark
+unfoldable pub trailer : ℕ → ℕ → ℕ → ℕ → ℕ → ℕ → Bytes
+trailer n k blocksAt nodesAt m total = numbers (n ∷ k ∷ blocksAt ∷ nodesAt ∷ m ∷ total ∷ []) ++ mark
+
+unfoldable pub book : Rule → ℕ → List Bytes → Bytes
+book ρ k xs =
+    let es = entryPart k xs in
+    let bs = blockPart k xs in
+    let rs = table (map (word ρ) xs) in
+    let ns = nodePart rs in
+    let end = trailer (length xs) k (length es) (length es + length bs) (length rs) (length es + length bs + length ns + trailerSize) in
+    es ++ (bs ++ (ns ++ end))
+
+-- ---- what bytes are a book
+
+abbrev pub goodBlock : ℕ → Bool
+goodBlock k = both (leb 1 k) (leb k 64)
+
+unfoldable pub fits : Rule → ℕ → List Bytes → Bool
+fits ρ k xs = both (goodBlock k) (both (sound ρ xs) (leb (length (book ρ k xs)) longestBook))
+
+unfoldable pub number : Bytes → ℕ → ℕ
+number s o = getD s o 0 + 256 * getD s (o + 1) 0
+
+pub data Opened : Type 0 where
+  Book : ℕ → List Bytes → Opened
+  NoBook : Opened
+
+-- The trailer points back: it tells the block size and where the entries end. Their names are those that the bytes would have to be
+-- the book of; whether they are is seen by building it.
+unfoldable pub opened : Rule → Bytes → Opened
+opened ρ s =
+    let end = length s - trailerSize in
+    let k = number s (end + 2) in
+    let xs = decode (take (number s (end + 4)) s) in
+    pick (both (fits ρ k xs) (same (book ρ k xs) s)) (Book k xs) NoBook

@@ -1,0 +1,1 @@
+// Theory without code: list records, the layout of a book, and what bytes are a book.

@@ -1,0 +1,2 @@
+-- Definitions of names, symbols and order.
+pub mod Words

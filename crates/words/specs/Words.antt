@@ -1,0 +1,98 @@
+-- Document 01, 'Names, symbols and order': a name is a run of bytes, each byte has a symbol, after the last one stands the end
+-- symbol 0, and order is by the first differing symbol. A rule gives the bytes their symbols. It enters once, in `word`; all
+-- that follows is about lists of numbers.
+--     Rule, Lawful      a symbol for each byte; from 1 to 256
+--     plain             document 01's rule
+--     word              a name's symbols, without the end symbol
+--     at                symbol number d
+--     shared            how many leading elements are the same
+--     less, begins, same
+--     nth, span         one word of a list, and the words from one position up to another
+--     Rises             words without the end symbol in them, each below all that follow
+-- The laws are in proofs/Words.antt and proofs/Rising.antt. Assumes nothing: these are definitions.
+use Prim.Native.Nat.{ℕ, zero, suc, _≤_, _<_}
+use mathlib.Core.Path.{_≡_}
+use mathlib.Core.Bool.{Bool, true, false}
+use mathlib.Core.List.{List, [], _∷_, map}
+use lib.Dec.{ltb, eqb}
+use lib.ListN.{length, getD}
+use lib.Seq.{slice}
+
+abbrev pub Bytes : Type 0
+Bytes = List ℕ
+
+abbrev pub Words : Type 0
+Words = List (List ℕ)
+
+-- each element is 0 to 255
+abbrev pub InBytes : Bytes → Type 0
+InBytes s = (i : ℕ) → getD s i 0 < 256
+
+abbrev pub pick {ℓ} : {X : Type ℓ} → Bool → X → X → X
+pick true x y = x
+pick false x y = y
+
+abbrev pub both : Bool → Bool → Bool
+both true b = b
+both false b = false
+
+-- ---- symbols
+
+abbrev pub Rule : Type 0
+Rule = ℕ → ℕ
+
+pub record Lawful (ρ : Rule) : Type 0 where
+  pub low : (b : ℕ) → 0 < ρ b
+  pub high : (b : ℕ) → b < 256 → ρ b ≤ 256
+
+-- each byte b is the symbol b + 1
+abbrev pub plain : Rule
+plain b = suc b
+
+abbrev pub word : Rule → Bytes → List ℕ
+word ρ s = map ρ s
+
+-- counted from 0; past the last symbol stands the end symbol 0
+abbrev pub at : List ℕ → ℕ → ℕ
+at w d = getD w d 0
+
+-- ---- two words
+
+unfoldable pub shared : List ℕ → List ℕ → ℕ
+shared [] y = 0
+shared (a ∷ x) [] = 0
+shared (a ∷ x) (b ∷ y) = pick (eqb a b) (suc (shared x y)) 0
+
+-- by the first differing symbol
+unfoldable pub less : List ℕ → List ℕ → Bool
+less x y = ltb (at x (shared x y)) (at y (shared x y))
+
+-- x begins with q
+unfoldable pub begins : List ℕ → List ℕ → Bool
+begins q x = eqb (shared q x) (length q)
+
+unfoldable pub same : List ℕ → List ℕ → Bool
+same x y = both (eqb (length x) (length y)) (begins x y)
+
+-- ---- lists of words
+
+-- no symbol is the end symbol
+abbrev pub Positive : List ℕ → Type 0
+Positive [] = Unit {0}
+Positive (a ∷ x) = (0 < a) × Positive x
+
+abbrev pub nth : Words → ℕ → List ℕ
+nth ws i = getD ws i []
+
+-- from lo up to, not including, hi
+abbrev pub span : Words → ℕ → ℕ → Words
+span ws lo hi = slice lo hi ws
+
+-- every element has the property
+pub data All {A : Type 0} (P : A → Type 0) : List A → Type 0 where
+  nil : All P []
+  cons : {a : A} {l : List A} → P a → All P l → All P (a ∷ l)
+
+pub data Rises : Words → Type 0 where
+  start : Rises []
+  rise : {w : List ℕ} {ws : Words} → Positive w → All (λ v. less w v ≡ true) ws → Rises ws → Rises (w ∷ ws)

@@ -1,0 +1,1 @@
+// Theory without code: symbols, what two words share, their order, and rising lists of words.
