@@ -1,5 +1,5 @@
 -- A book tells its parts, its block size and its names; and `opened` says just what bytes are a book.
---     book-split, book-length    a book is its body and its trailer; how long it is
+--     book-parts, book-split, book-length    a book is its parts, its body and its trailer; how long it is
 --     read-field                 what the trailer says: names, block size, starts, nodes, length
 --     read-names                 the names, out of a book's bytes
 --     opened-book, book-opened   `opened` gives k and xs just where those fit and the bytes are their book
@@ -74,9 +74,12 @@ module _ (ρ : Rule) (k : ℕ) (xs : List Bytes) where
   abbrev pub body : Bytes
   body = entryPart k xs ++ (blockPart k xs ++ nodePart records)
 
-  pub book-split : book ρ k xs ≡ body ++ (numbers trailerNumbers ++ mark)
+  pub book-parts : book ρ k xs ≡ entryPart k xs ++ (blockPart k xs ++ (nodePart records ++ (numbers trailerNumbers ++ mark)))
   unfolding book trailer
-  book-split = simp append-assoc
+  book-parts = refl
+
+  pub book-split : book ρ k xs ≡ body ++ (numbers trailerNumbers ++ mark)
+  book-split = book-parts ∙ simp append-assoc
 
   body-length : length body ≡ trailerAt
   body-length = omega (arith, length-append (entryPart k xs) (blockPart k xs ++ nodePart records), length-append (blockPart k xs) (nodePart records))

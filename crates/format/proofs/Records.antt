@@ -145,3 +145,6 @@ rising-rises ρ ok prev (x ∷ xs) h =
     let c = both-true (less (word ρ prev) (word ρ x)) (rising ρ x xs) (b .1) in
     let r = rising-rises ρ ok x xs (c .1) in
     (cons (c .0) (all-map (λ v k. less-trans (word ρ prev) (word ρ x) v (c .0) k) (r .0)), rise (word-positive ρ ok x) (r .0) (r .1))
+
+pub sound-rises : (ρ : Rule) → Lawful ρ → (xs : List Bytes) → sound ρ xs ≡ true → Rises (map (word ρ) xs)
+sound-rises ρ ok xs h = rising-rises ρ ok [] xs (sound-rising ρ xs h) .1

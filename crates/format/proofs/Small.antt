@@ -2,26 +2,27 @@
 --     Modest            a word of at most 200 symbols, each at most 256
 --     table-small       the numbers of a node table
 --     fields-at         where a node's fields stand
---     decode-bytes, book-bytes    names of bytes, books of bytes
+--     decode-bytes, names-bytes, book-bytes    names of bytes, books of bytes
 -- Assumes nothing.
-use Prim.Native.Nat.{ℕ, zero, suc, _+_, _*_, _≤_, _<_}
+use Prim.Native.Nat.{ℕ, zero, suc, _+_, _-_, _*_, _≤_, _<_}
 use native.Mathlib.Nat.{le-of-suc-le-suc, not-suc-le-zero}
 use native.Mathlib.Omega.{arith}
 use mathlib.Core.Path.{_≡_, refl, sym, ap, _∙_, subst}
 use mathlib.Core.List.{List, [], _∷_, _++_}
 use lib.ListN.{length, getD, take, drop, length-append, length-drop, take-append-drop}
 use lib.Seq.{getD-append-add}
-use Rattle.words.specs.Words.{All, Bytes, Rises, Rule, Words, at, cons, nil, shared}
+use Rattle.words.specs.Words.{All, Bytes, InBytes, Rises, Rule, Words, at, cons, nil, shared}
 use Rattle.words.proofs.Lists.{all-append, all-head, all-left, all-right}
 use Rattle.words.proofs.Rising.{rises-left, rises-right}
 use Rattle.words.proofs.Words.{shared-comm, shared-le}
-use Rattle.format.specs.Book.{allFields, blockPart, book, entryPart, fields, joined, nodePart, trailer}
-use Rattle.format.specs.Entries.{blocks, blocksFrom, decodeFrom, entry, front}
+use Rattle.format.specs.Book.{allFields, blockPart, book, entryPart, fields, joined, nodePart, number, trailer, trailerSize}
+use Rattle.format.specs.Entries.{blocks, blocksFrom, decode, decodeFrom, entry, front}
 use Rattle.format.specs.Nodes.{Node, depth, groups, nodeTable, rowOf, table, tableWithin}
 use Rattle.format.specs.Records.{longest}
+use Rattle.format.proofs.Book.{Fits, read-names}
 use Rattle.format.proofs.Entries.{by-blocks, entries-first}
 use Rattle.format.proofs.Groups.{Parted, Short, children, depth-length, joinedGroups, part, rowWithin, shorter, whole, within-few}
-use Rattle.format.proofs.Numbers.{numbers-bytes, take-bytes}
+use Rattle.format.proofs.Numbers.{bytes-all, numbers-bytes, take-bytes}
 
 -- a word that is short, and whose symbols are small
 pub record Modest (w : List ℕ) : Type 0 where
@@ -106,6 +107,13 @@ decode-bytes prev zero (c ∷ l ∷ rest) p (cons h (cons k a)) =
     cons x (decode-bytes (take c prev ++ take l rest) l rest x a)
 decode-bytes prev (suc n) [] p a = nil
 decode-bytes prev (suc n) (b ∷ rest) p (cons h a) = decode-bytes prev n rest p a
+
+-- the names of a book of bytes
+pub names-bytes : (ρ : Rule) (k : ℕ) (xs : List Bytes) → Fits ρ k xs → InBytes (book ρ k xs) → All Small xs
+unfolding decode
+names-bytes ρ k xs f h =
+    let n : ℕ = number (book ρ k xs) (length (book ρ k xs) - trailerSize + 4) in
+    subst (All Small) (read-names ρ k xs f) (decode-bytes [] 0 (take n (book ρ k xs)) nil (take-bytes n (book ρ k xs) (bytes-all (book ρ k xs) h)))
 
 -- ---- a book is bytes
 

@@ -1,0 +1,97 @@
+-- Every book with names meets what a search asks: opening it gives `Searchable`.
+--     book-searchable, opened-searchable
+--     asked-name       the word of the name at a position
+-- Assumes nothing.
+use Prim.Native.Nat.{ℕ, zero, suc, _+_, _*_, _≤_, _<_, zero-le}
+use native.Mathlib.Omega.{arith}
+use mathlib.Core.Path.{_≡_, refl, sym, ap, ap₂, _∙_, subst}
+use mathlib.Core.Bool.{true}
+use mathlib.Core.List.{List, [], _∷_, _++_, map, append-assoc}
+use lib.ListN.{length, getD, length-append, length-map}
+use Rattle.words.specs.Words.{All, Bytes, InBytes, Lawful, Rises, Rule, Words, cons, nil, nth, word}
+use Rattle.words.proofs.Lists.{all-at}
+use Rattle.format.specs.Book.{Book, Opened, allFields, blockPart, book, entryPart, fits, mark, nodePart, nodeSize, number, numbers, opened}
+use Rattle.format.specs.Nodes.{Node, table}
+use Rattle.format.specs.Records.{longest, mostNames, sound}
+use Rattle.format.proofs.Book.{Fits, book-length, book-opened, book-parts, fields-length, fits-parts, nodesAt, opened-book, read-field, trailerNumbers}
+use Rattle.format.proofs.Numbers.{number-past, numbers-at, numbers-length, word-high}
+use Rattle.format.proofs.Records.{rising-sizes, sound-few, sound-rises, sound-rising}
+use Rattle.format.proofs.Small.{Modest, fields-at, names-bytes, table-small}
+use Rattle.descent.proofs.Rows.{table-few}
+use Rattle.descent.proofs.Vocabulary.{NodesAt, Searchable, asked, namesOf, noNode, node, startIn, wordsIn}
+
+-- names of bytes give words of small symbols
+modest : (ρ : Rule) → Lawful ρ → (xs : List Bytes) → All (λ x. (1 ≤ length x) × (length x ≤ longest)) xs → All (λ x. All (λ b. b < 256) x) xs
+    → All Modest (map (word ρ) xs)
+modest ρ ok [] nil nil = nil
+modest ρ ok (x ∷ xs) (cons h a) (cons k b) =
+    cons {a = word ρ x} (record { short = omega (arith, length-map x ρ, h .1); symbols = word-high ρ ok x k }) (modest ρ ok xs a b)
+
+module _ (ρ : Rule) (ok : Lawful ρ) (k : ℕ) (xs : List Bytes) (fit : fits ρ k xs ≡ true) (bytes : InBytes (book ρ k xs)) (some : 0 < length xs) where
+  f : Fits ρ k xs
+  f = fits-parts ρ k xs fit
+
+  up : Rises (map (word ρ) xs)
+  up = sound-rises ρ ok xs (f .sound)
+
+  count : length (map (word ρ) xs) ≡ length xs
+  count = length-map xs (word ρ)
+
+  small : All Modest (map (word ρ) xs)
+  small = modest ρ ok xs (rising-sizes ρ [] xs (sound-rising ρ xs (f .sound))) (names-bytes ρ k xs f bytes)
+
+  table-at : NodesAt (book ρ k xs) (nodesAt ρ k xs) (map (word ρ) xs)
+  unfolding node nodePart
+  table-at =
+      let es : Bytes = entryPart k xs in
+      let bs : Bytes = blockPart k xs in
+      let rs : List Node = table (map (word ρ) xs) in
+      let end : Bytes = numbers (trailerNumbers ρ k xs) ++ mark in
+      let split : book ρ k xs ≡ (es ++ bs) ++ (numbers (allFields rs) ++ end) = book-parts ρ k xs ∙ sym (append-assoc es bs (numbers (allFields rs) ++ end)) in
+      record {
+        room = omega (arith, book-length ρ k xs, numbers-length (allFields rs), fields-length rs);
+        field = λ v j h l.
+            let o : nodesAt ρ k xs + v * nodeSize + 2 * j ≡ length (es ++ bs) + 2 * (5 * v + j) = omega (arith, length-append es bs) in
+            let i : 5 * v + j < length (allFields rs) = omega (arith, fields-length rs) in
+            let e : number (book ρ k xs) (nodesAt ρ k xs + v * nodeSize + 2 * j) ≡ getD (allFields rs) (5 * v + j) 0 =
+            ap₂ number split o ∙ number-past (es ++ bs) (numbers (allFields rs) ++ end) (2 * (5 * v + j))
+            ∙ numbers-at (allFields rs) end (5 * v + j) i (all-at 0 (allFields rs) (table-small (map (word ρ) xs) up small (omega (arith, count, sound-few ρ xs (f .sound)))) (5 * v + j) i) in
+            e ∙ fields-at rs noNode v j h l;
+      }
+
+  pub book-searchable : Searchable ρ (book ρ k xs) (startIn (book ρ k xs))
+  unfolding wordsIn startIn
+  book-searchable =
+      let names : wordsIn ρ (book ρ k xs) ≡ map (word ρ) xs = ap (λ (o : Opened). map (word ρ) (namesOf o)) (opened-book ρ k xs fit) in
+      let size : length (wordsIn ρ (book ρ k xs)) ≡ length xs = ap length names ∙ count in
+      let few : length xs ≤ mostNames = sound-few ρ xs (f .sound) in
+      record {
+        rises = subst Rises (sym names) up;
+        some = omega arith;
+        few = omega arith;
+        small = omega (arith, ap (λ (vs : Words). length (table vs)) names, table-few (map (word ρ) xs) up (omega (arith, count)), count);
+        short = subst (λ (vs : Words). (i : ℕ) → length (nth vs i) ≤ longest) (sym names) (λ i. short-at (map (word ρ) xs) small i);
+        table = subst (λ (vs : Words). NodesAt (book ρ k xs) (startIn (book ρ k xs)) vs) (sym names) (rw (read-field ρ k xs f 3 (omega arith)) table-at);
+      }
+    where
+      short-at : (vs : Words) → All Modest vs → (i : ℕ) → length (nth vs i) ≤ longest
+      short-at [] a i = zero-le
+      short-at (v ∷ vs) (cons h a) zero = h .short
+      short-at (v ∷ vs) (cons h a) (suc i) = short-at vs a i
+
+-- bytes that open as a book with names
+pub opened-searchable : (ρ : Rule) → Lawful ρ → (s : Bytes) (k : ℕ) (xs : List Bytes) → opened ρ s ≡ Book k xs → InBytes s → 0 < length xs → Searchable ρ s (startIn s)
+opened-searchable ρ ok s k xs e bytes some =
+    let b = book-opened ρ s k xs e in
+    subst (λ (t : Bytes). Searchable ρ t (startIn t)) (b .1) (book-searchable ρ ok k xs (b .0) (subst InBytes (sym (b .1)) bytes) some)
+
+-- ---- the word of the name at a position, for the caller that rebuilds the name
+
+word-nth : (ρ : Rule) (xs : List Bytes) (i : ℕ) → word ρ (getD xs i []) ≡ nth (map (word ρ) xs) i
+word-nth ρ [] i = refl
+word-nth ρ (x ∷ xs) zero = refl
+word-nth ρ (x ∷ xs) (suc i) = word-nth ρ xs i
+
+pub asked-name : (ρ : Rule) (s : Bytes) (i : ℕ) → asked ρ (getD (namesOf (opened ρ s)) i []) ≡ nth (wordsIn ρ s) i
+unfolding asked wordsIn
+asked-name ρ s i = word-nth ρ (namesOf (opened ρ s)) i
