@@ -4,12 +4,13 @@
 -- Assumes nothing.
 use Prim.Native.Nat.{ℕ, zero, suc, _+_, _*_, _≤_, _<_, zero-le}
 use native.Mathlib.Omega.{arith}
-use mathlib.Core.Path.{_≡_, refl, sym, ap, ap₂, _∙_, subst}
+use mathlib.Core.Path.{_≡_, sym, ap, ap₂, _∙_, subst}
 use mathlib.Core.Bool.{true}
 use mathlib.Core.List.{List, [], _∷_, _++_, map, append-assoc}
 use lib.ListN.{length, getD, length-append, length-map}
 use Rattle.words.specs.Words.{All, Bytes, InBytes, Lawful, Rises, Rule, Words, cons, nil, nth, word}
 use Rattle.words.proofs.Lists.{all-at}
+use Rattle.words.proofs.Rising.{nth-word}
 use Rattle.format.specs.Book.{Book, Opened, allFields, blockPart, book, entryPart, fits, mark, nodePart, nodeSize, number, numbers, opened}
 use Rattle.format.specs.Nodes.{Node, table}
 use Rattle.format.specs.Records.{longest, mostNames, sound}
@@ -87,11 +88,6 @@ opened-searchable ρ ok s k xs e bytes some =
 
 -- ---- the word of the name at a position, for the caller that rebuilds the name
 
-word-nth : (ρ : Rule) (xs : List Bytes) (i : ℕ) → word ρ (getD xs i []) ≡ nth (map (word ρ) xs) i
-word-nth ρ [] i = refl
-word-nth ρ (x ∷ xs) zero = refl
-word-nth ρ (x ∷ xs) (suc i) = word-nth ρ xs i
-
 pub asked-name : (ρ : Rule) (s : Bytes) (i : ℕ) → asked ρ (getD (namesOf (opened ρ s)) i []) ≡ nth (wordsIn ρ s) i
 unfolding asked wordsIn
-asked-name ρ s i = word-nth ρ (namesOf (opened ρ s)) i
+asked-name ρ s i = sym (nth-word ρ (namesOf (opened ρ s)) i)

@@ -5,3 +5,4 @@ pub mod Reach
 pub mod Rows
 pub mod Paths
 pub mod Bytes
+pub mod Exists

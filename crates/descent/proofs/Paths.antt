@@ -1,6 +1,6 @@
 -- The descent as a path of nodes, and what is concluded on it.
 --     halt-leaf, halt-short, halt-end, halt-other, taken     the ways that q can take at a node
---     path-start, path-room, path-on, path-few               the path as it grows
+--     passed-start, passed-room, passed-on, passed-few               the path as it grows
 --     found            the highest node whose depth is at least what the reached name shares: it holds the names that share most
 --     edge-.., fork-.. the place there
 -- Assumes nothing.
@@ -22,7 +22,7 @@ use Rattle.answers.proofs.Nearest.{reached-most}
 use Rattle.descent.proofs.Cuts.{group-place}
 use Rattle.descent.proofs.Reach.{reach-child, reach-leaf, reach-none, reach-root, reach-short}
 use Rattle.descent.proofs.Rows.{Kid, root-sits, row-end, row-kid, several, sits-told}
-use Rattle.descent.proofs.Vocabulary.{Cut, Descended, Found, Halts, Highest, In, Path, Sits, Sought, Step, Taken, from, node, reachIn, upto}
+use Rattle.descent.proofs.Vocabulary.{Cut, Descended, Found, Halts, Highest, In, Passed, Sits, Sought, Step, Taken, from, node, reachIn, upto}
 
 module _ (ws : Words) where
   in-or-out : (v i : ℕ) → In ws v i ⊎ ((i < from ws v) ⊎ (upto ws v ≤ i))
@@ -197,8 +197,8 @@ module _ (ws : Words) where
 
     -- ---- the path
 
-    pub path-start : (q p : List ℕ) → 0 < length ws → length p ≡ 202 → getD p 0 0 ≡ 0 → Path ws q p 1 0
-    path-start q p h l e =
+    pub passed-start : (q p : List ℕ) → 0 < length ws → length p ≡ 202 → getD p 0 0 ≡ 0 → Passed ws q p 1 0
+    passed-start q p h l e =
         let s = root-sits ws r h in
         record {
           long = l;
@@ -216,19 +216,19 @@ module _ (ws : Words) where
         at-root : (j : ℕ) → j < 1 → getD p j 0 ≡ 0
         at-root j k = let z : j ≡ 0 = omega arith in ap (λ (m : ℕ). getD p m 0) z ∙ e
 
-    module _ {q p : List ℕ} {n v : ℕ} (t : Path ws q p n v) (short : (i : ℕ) → length (nth ws i) ≤ 200) where
-      pub path-sits : Sits ws v
-      path-sits = subst (Sits ws) (t .last) (t .sits (pred n) (omega (arith, t .some)))
+    module _ {q p : List ℕ} {n v : ℕ} (t : Passed ws q p n v) (short : (i : ℕ) → length (nth ws i) ≤ 200) where
+      pub passed-sits : Sits ws v
+      passed-sits = subst (Sits ws) (t .last) (t .sits (pred n) (omega (arith, t .some)))
 
-      pub path-few : n ≤ 202
-      path-few = omega (arith, t .count, depth-few path-sits short)
+      pub passed-few : n ≤ 202
+      passed-few = omega (arith, t .count, depth-few passed-sits short)
 
       module _ {c : ℕ} (k : Taken ws q v c) where
-        pub path-room : n < 202
-        path-room = omega (arith, t .count, k .step .deeper, depth-few (k .sits) short)
+        pub passed-room : n < 202
+        passed-room = omega (arith, t .count, k .step .deeper, depth-few (k .sits) short)
 
-        pub path-on : Path ws q (set p n c) (n + 1) c
-        path-on = record {
+        pub passed-on : Passed ws q (set p n c) (n + 1) c
+        passed-on = record {
           long = length-set p n c ∙ t .long;
           some = omega arith;
           count = omega (arith, t .count, k .step .deeper);
@@ -246,7 +246,7 @@ module _ (ws : Words) where
             old j h = getD-set-other p n j c 0 (λ e. lt-irrefl n (omega arith))
 
             new : getD (set p n c) n 0 ≡ c
-            new = getD-set-same p n c 0 (omega (arith, t .long, path-room))
+            new = getD-set-same p n c 0 (omega (arith, t .long, passed-room))
 
             go : (j : ℕ) (P : ℕ → Type 0) → (j < n → P (getD p j 0)) → P c → (j < n) ⊎ (n ≤ j) → j < n + 1 → P (getD (set p n c) j 0)
             go j P a b (inl m) h = subst P (sym (old j m)) (a m)

@@ -5,20 +5,16 @@
 --     RowFrom, Seeking, Sought    a place in a node's row of children; the first child whose symbol is not below s
 --     Cut                  names parted at r by their symbols at d
 --     Step, Taken, Halts   from a node to the child with q's symbol; q goes no further
---     Path, Descended      the nodes passed so far, the last one v; the whole descent
+--     Passed, Descended      the nodes passed so far, the last one v; the whole descent
 --     Highest, Found       the highest node of a path that is deep enough; it holds the names that share reached-most with q
 --     Group                the names from lo up to hi are those that share the reached-most, n symbols, with q
 --     wordsIn, asked       the words of a book's names, the word of a question; shut, so that they can be inferred
 --     NodesAt, Searchable  bytes hold the fields of a table; what every step of a search asks of its book
 -- Laws: Cuts, Reach, Rows, Paths, Bytes. Assumes nothing: these are definitions.
-use Prim.Native.Nat.{ℕ, _+_, _-_, _*_, _≤_, _<_}
-use mathlib.Core.Path.{_≡_}
-use mathlib.Core.List.{List, [], _++_, map}
-use lib.ListN.{length, getD, drop}
-use Prim.Native.Nat.{ℕ, suc, pred, _+_, _≤_, _<_}
+use Prim.Native.Nat.{ℕ, _+_, _-_, _*_, _≤_, _<_, suc, pred}
 use mathlib.Core.Path.{_≡_}
 use mathlib.Core.Logic.{_⊎_}
-use mathlib.Core.List.{List, _++_}
+use mathlib.Core.List.{List, [], _++_, map}
 use lib.ListN.{length, getD, drop}
 use Rattle.words.specs.Words.{Bytes, Rises, Rule, Words, at, nth, shared, span, word}
 use Rattle.format.specs.Book.{Book, NoBook, Opened, fields, nodeSize, number, opened, trailerSize}
@@ -111,7 +107,7 @@ pub record Halts (ws : Words) (q : List ℕ) (v : ℕ) : Type 0 where
   pub alone : (i : ℕ) → In ws v i → nth ws i ≡ q → i ≡ from ws v
 
 -- the first n numbers of p are the nodes from the root down to v that q passes
-pub record Path (ws : Words) (q : List ℕ) (p : List ℕ) (n v : ℕ) : Type 0 where
+pub record Passed (ws : Words) (q : List ℕ) (p : List ℕ) (n v : ℕ) : Type 0 where
   pub long : length p ≡ 202
   pub some : 0 < n
   pub count : n ≤ suc (node ws v .depth)
@@ -126,7 +122,7 @@ pub record Path (ws : Words) (q : List ℕ) (p : List ℕ) (n v : ℕ) : Type 0 
 -- the whole descent, which ends at v
 pub record Descended (ws : Words) (q : List ℕ) (p : List ℕ) (n v : ℕ) : Type 0 where
   pub few : n ≤ 202
-  pub path : Path ws q p n v
+  pub path : Passed ws q p n v
   pub halts : Halts ws q v
 
 -- r is the highest of the first n nodes of p whose depth is at least m, or the last of them

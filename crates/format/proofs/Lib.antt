@@ -6,3 +6,4 @@ pub mod Spans
 pub mod Numbers
 pub mod Book
 pub mod Small
+pub mod Example

@@ -1,31 +1,23 @@
 -- A list's bytes and its names: each sound list of names is read from one run of bytes, and no other is read.
 --     read-skip                 what was skipped does not count
 --     read-encode, read-sound   the round trip, both ways
---     sound-few, sound-sizes, sound-rises    what a sound list's names are; their words rise
+--     sound-few, sound-rising, rising-sizes, sound-rises    what a sound list's names are; their words rise
+--     from-rising, from-sound                and back
 -- Assumes nothing.
-use Prim.Native.Nat.{ℕ, zero, suc, _-_, _≤_, _<_, zero-le}
+use Prim.Native.Nat.{ℕ, suc-le-suc, zero, suc, _-_, _≤_, _<_, zero-le}
 use native.Mathlib.Nat.{le-of-suc-le-suc, not-suc-le-zero}
 use native.Mathlib.Omega.{arith}
 use mathlib.Core.Path.{_≡_, refl, ap, ap₂, _∙_}
 use mathlib.Core.Bool.{Bool, true, false}
-use mathlib.Core.List.{List, [], _∷_, _++_}
-use lib.Dec.{leb, ltb}
-use lib.ListN.{length, take, drop, length-append, take-append-drop}
-use lib.Seq.{take-append-seam, drop-append-seam, length-take-le}
-use borrow.Author.Tests.{lt-ltb, ltb-true, leb-true, le-leb}
-use Prim.Native.Nat.{ℕ, zero, suc, _≤_, _<_, zero-le}
-use native.Mathlib.Nat.{le-of-suc-le-suc, not-suc-le-zero}
-use native.Mathlib.Omega.{arith}
-use mathlib.Core.Path.{_≡_, refl, ap, _∙_}
-use mathlib.Core.Bool.{Bool, true, false}
 use mathlib.Core.List.{List, [], _∷_, _++_, map}
 use lib.Dec.{leb, ltb}
-use lib.ListN.{length}
-use borrow.Author.Tests.{lt-ltb, ltb-true, le-leb}
+use lib.ListN.{length, getD, take, drop, length-append, take-append-drop}
+use lib.Seq.{take-append-seam, drop-append-seam, length-take-le}
+use borrow.Author.Tests.{lt-ltb, ltb-true, leb-true, le-leb}
 use Rattle.words.specs.Words.{All, Bytes, Lawful, Rises, Rule, both, cons, less, nil, pick, rise, start, word}
 use Rattle.words.proofs.Lists.{all-map}
 use Rattle.words.proofs.Rising.{Above}
-use Rattle.words.proofs.Words.{both-true, less-trans, word-positive}
+use Rattle.words.proofs.Words.{both-true, less-start, less-trans, word-positive}
 use Rattle.format.specs.Records.{Names, Reading, Refused, after, encode, goodLength, longest, mostNames, readFrom, readList, rising, sound}
 
 -- what was skipped does not count
@@ -148,3 +140,26 @@ rising-rises ρ ok prev (x ∷ xs) h =
 
 pub sound-rises : (ρ : Rule) → Lawful ρ → (xs : List Bytes) → sound ρ xs ≡ true → Rises (map (word ρ) xs)
 sound-rises ρ ok xs h = rising-rises ρ ok [] xs (sound-rising ρ xs h) .1
+
+-- ---- and back
+
+-- names that rise one by one rise from any name that is below the first
+pub from-rising : (ρ : Rule) (prev : Bytes) (xs : List Bytes) → All (λ x. (1 ≤ length x) × (length x ≤ longest)) xs
+    → (0 < length xs → less (word ρ prev) (word ρ (getD xs 0 [])) ≡ true)
+    → ((i : ℕ) → suc i < length xs → less (word ρ (getD xs i [])) (word ρ (getD xs (suc i) [])) ≡ true)
+    → rising ρ prev xs ≡ true
+unfolding rising
+from-rising ρ prev [] a l m = refl
+from-rising ρ prev (x ∷ xs) (cons h a) l m =
+    rw (lt-ltb 0 (length x) (h .0), le-leb (length x) longest (h .1), l (suc-le-suc zero-le))
+    (from-rising ρ x xs a (λ k. m 0 (suc-le-suc k)) (λ i k. m (suc i) (suc-le-suc k)))
+
+pub from-sound : (ρ : Rule) → Lawful ρ → (xs : List Bytes) → length xs ≤ mostNames → All (λ x. (1 ≤ length x) × (length x ≤ longest)) xs
+    → ((i : ℕ) → suc i < length xs → less (word ρ (getD xs i [])) (word ρ (getD xs (suc i) [])) ≡ true) → sound ρ xs ≡ true
+unfolding sound
+from-sound ρ ok xs few a m = rw (le-leb (length xs) mostNames few) (from-rising ρ [] xs a (λ h. first-above xs a h) m)
+  where
+    first-above : (ys : List Bytes) → All (λ x. (1 ≤ length x) × (length x ≤ longest)) ys → 0 < length ys → less [] (word ρ (getD ys 0 [])) ≡ true
+    first-above [] b h = absurd (not-suc-le-zero h)
+    first-above ([] ∷ ys) (cons k b) h = absurd (not-suc-le-zero (k .0))
+    first-above ((c ∷ y) ∷ ys) (cons k b) h = less-start (ρ c) (word ρ y) ∙ lt-ltb 0 (ρ c) (ok .low c)

@@ -14,14 +14,6 @@ use mathlib.Core.Logic.{_⊎_, inl, inr}
 use mathlib.Core.List.{List, [], _∷_, _++_, append-assoc}
 use lib.ListN.{length}
 use lib.Seq.{slice-empty, length-slice}
-use Prim.Native.Nat.{ℕ, suc, pred, _+_, _-_, _≤_, _<_}
-use native.Mathlib.Nat.{eq-or-lt-of-le}
-use native.Mathlib.Omega.{arith}
-use mathlib.Core.Path.{_≡_, sym, ap, _∙_, subst}
-use mathlib.Core.Logic.{_⊎_, inl, inr}
-use mathlib.Core.List.{List, [], _∷_}
-use lib.ListN.{length}
-use lib.Seq.{slice-empty}
 use Rattle.words.specs.Words.{All, Rises, Words, at, cons, nil, nth, shared, span}
 use Rattle.words.proofs.Lists.{all-append}
 use Rattle.words.proofs.Rising.{nth-less, nth-positive, span-cons, span-length, span-one, span-rises, span-split, span-two}

@@ -1,18 +1,18 @@
 -- Rising lists of words, as a whole, by position and by span.
 --     Above, rises-left, rises-right
---     nth-positive, nth-less    what a rising list says of its words by position
+--     nth-word, nth-positive, nth-less    what a rising list says of its words by position
 --     span-split, -cons, -one, -two, -length, -rises
 --     span-all                  what holds at every position of a span holds of all its words
 -- Assumes nothing.
 use Prim.Native.Nat.{ℕ, zero, suc, _+_, _-_, _≤_, _<_}
 use native.Mathlib.Nat.{le-of-suc-le-suc, not-suc-le-zero}
 use native.Mathlib.Omega.{arith}
-use mathlib.Core.Path.{_≡_, sym, ap, _∙_, subst}
+use mathlib.Core.Path.{_≡_, refl, sym, ap, _∙_, subst}
 use mathlib.Core.Bool.{true}
-use mathlib.Core.List.{List, [], _∷_, _++_}
+use mathlib.Core.List.{map, List, [], _∷_, _++_}
 use lib.ListN.{length, getD, take, drop, take-append-drop}
 use lib.Seq.{slice-empty, slice-cons, length-slice, take-take, drop-append-le, length-take-le}
-use Rattle.words.specs.Words.{All, Positive, Rises, Words, cons, less, nil, nth, rise, span, start}
+use Rattle.words.specs.Words.{All, Bytes, Positive, Rises, Rule, Words, cons, less, nil, nth, rise, span, start, word}
 use Rattle.words.proofs.Lists.{all-at, all-left}
 
 abbrev pub Above : List ℕ → Words → Type 0
@@ -25,6 +25,12 @@ rises-left (x ∷ xs) ys (rise p a r) = rise p (all-left xs ys a) (rises-left xs
 pub rises-right : (xs ys : Words) → Rises (xs ++ ys) → Rises ys
 rises-right [] ys r = r
 rises-right (x ∷ xs) ys (rise p a r) = rises-right xs ys r
+
+-- the word of a name by position
+pub nth-word : (ρ : Rule) (xs : List Bytes) (i : ℕ) → nth (map (word ρ) xs) i ≡ word ρ (getD xs i [])
+nth-word ρ [] i = refl
+nth-word ρ (x ∷ xs) zero = refl
+nth-word ρ (x ∷ xs) (suc i) = nth-word ρ xs i
 
 module _ (ws : Words) where
   pub nth-positive : (i : ℕ) → Rises ws → Positive (nth ws i)

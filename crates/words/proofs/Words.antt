@@ -1,7 +1,7 @@
 -- Laws of words: what two words share, and their order. They hold of any lists of numbers, and where `Positive` is asked, of those
 -- without the end symbol in them, as every rule's words are.
 --     sides, apart              how two numbers stand to each other
---     word-positive, word-injective, plain-lawful
+--     word-positive, word-injective, shared-word; plain-lawful, plain-injective
 --     shared-self, -comm, -le, -at, -trans, -more, -parts; take-shared
 --     at-past, at-end           past the last symbol stands the end symbol, and nowhere else
 --     less-irrefl, -trans, -asym, -at, -parts, -extends; ordered
@@ -257,6 +257,19 @@ word-injective ρ inj (a ∷ s) (b ∷ t) e =
     let h : ρ a ≡ ρ b = cc in
     let k : word ρ s ≡ word ρ t = cc in
     ap₂ (λ (c : ℕ) (z : List ℕ). c ∷ z) (inj a b h) (word-injective ρ inj s t k)
+
+-- and then two names share as many bytes as their words do symbols
+pub shared-word : (ρ : Rule) → ((a b : ℕ) → ρ a ≡ ρ b → a ≡ b) → (s t : Bytes) → shared (word ρ s) (word ρ t) ≡ shared s t
+unfolding shared
+shared-word ρ inj [] t = refl
+shared-word ρ inj (a ∷ s) [] = refl
+shared-word ρ inj (a ∷ s) (b ∷ t) = elim (ℕ-discrete a b) [
+  | yes e ↦ shared-same (ρ a) (ρ b) (word ρ s) (word ρ t) (ap ρ e) ∙ ap suc (shared-word ρ inj s t) ∙ sym (shared-same a b s t e)
+  | no n ↦ shared-other (ρ a) (ρ b) (word ρ s) (word ρ t) (λ e. n (inj a b e)) ∙ sym (shared-other a b s t n)
+]
+
+pub plain-injective : (a b : ℕ) → plain a ≡ plain b → a ≡ b
+plain-injective a b e = omega arith
 
 -- ---- beginnings
 

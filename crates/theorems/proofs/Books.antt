@@ -1,0 +1,106 @@
+-- Demand 3: what bytes are a book, over any lawful rule.
+--     accepted-iff      bytes open as k and xs just where the layout yields them for k and xs
+--     check-iff         the check gives 0, n and k just where the bytes are the book of some n names with block size k
+--     check-no          and 2 just where they are the book of none
+--     one-book          same names and block size, same bytes
+--     one-list          one book, one list of names and one block size
+--     book-of-bytes     all bytes of a book are below 256
+--     told-length       the trailer's length is the book's length
+-- Assumes nothing.
+use Prim.Native.Nat.{ℕ, suc, _+_, _-_, _≤_, _<_}
+use native.Mathlib.Omega.{arith}
+use mathlib.Core.Path.{_≡_, refl, sym, ap, _∙_, subst}
+use mathlib.Core.Logic.{_↔_}
+use mathlib.Core.Bool.{true}
+use mathlib.Core.List.{List, [], map}
+use lib.ListN.{length, getD, length-map}
+use Rattle.words.specs.Words.{All, Bytes, InBytes, Lawful, Rises, Rule, less, word}
+use Rattle.words.proofs.Lists.{all-at, all-from, all-map₂}
+use Rattle.words.proofs.Rising.{nth-less, nth-word}
+use Rattle.format.specs.Book.{Book, NoBook, Opened, book, fits, number, opened, trailerSize}
+use Rattle.format.specs.Records.{longest, sound}
+use Rattle.format.proofs.Book.{book-length, book-opened, fits-parts, opened-book, parts-fits, read-field}
+use Rattle.format.proofs.Numbers.{all-bytes, bytes-all}
+use Rattle.format.proofs.Records.{from-sound, rising-sizes, sound-few, sound-rises, sound-rising}
+use Rattle.format.proofs.Small.{book-bytes, names-bytes}
+use Rattle.answers.specs.Calls.{Answer, check, checkOf, given, refused}
+use Rattle.theorems.specs.Demands.{BookOf}
+
+module _ (ρ : Rule) (ok : Lawful ρ) where
+  accepted : (s : Bytes) (k : ℕ) (xs : List Bytes) → InBytes s → opened ρ s ≡ Book k xs → BookOf ρ s k xs
+  accepted s k xs h e =
+      let b = book-opened ρ s k xs e in
+      let f = fits-parts ρ k xs (b .0) in
+      let letters : All (λ x. All (λ c. c < 256) x) xs = names-bytes ρ k xs f (subst InBytes (sym (b .1)) h) in
+      let up : Rises (map (word ρ) xs) = sound-rises ρ ok xs (f .sound) in
+      record {
+        block = (f .low, f .high);
+        few = sound-few ρ xs (f .sound);
+        sizes = all-at [] xs (rising-sizes ρ [] xs (sound-rising ρ xs (f .sound)));
+        letters = λ i l. all-bytes (getD xs i []) (all-at [] xs letters i l);
+        rises = λ i j l m. subst2 (nth-word ρ xs i) (nth-word ρ xs j) (nth-less (map (word ρ) xs) i j up l (omega (arith, length-map xs (word ρ))));
+        layout = b .1;
+        short = omega (arith, ap length (b .1), f .short);
+      }
+    where
+      subst2 : {v w x y : List ℕ} → v ≡ x → w ≡ y → less v w ≡ true → less x y ≡ true
+      subst2 e f g = rw (← e, ← f) g
+
+  module _ {s : Bytes} {k : ℕ} {xs : List Bytes} (b : BookOf ρ s k xs) where
+    all-sizes : All (λ x. (1 ≤ length x) × (length x ≤ longest)) xs
+    all-sizes = all-from [] xs (b .sizes)
+
+    fit : fits ρ k xs ≡ true
+    fit = parts-fits ρ k xs (record {
+      low = b .block .0;
+      high = b .block .1;
+      sound = from-sound ρ ok xs (b .few) all-sizes (λ i h. b .rises i (suc i) (omega arith) h);
+      short = omega (arith, ap length (b .layout), b .short);
+    })
+
+    -- all bytes of a book are below 256
+    pub book-of-bytes : InBytes s
+    book-of-bytes =
+        subst InBytes (b .layout)
+        (all-bytes (book ρ k xs) (book-bytes ρ k xs (b .block .0)
+        (all-map₂ (λ x m l. (m .1, l)) all-sizes (all-from [] xs (λ i h. bytes-all (getD xs i []) (b .letters i h))))))
+
+    opens : opened ρ s ≡ Book k xs
+    opens = subst (λ (t : Bytes). opened ρ t ≡ Book k xs) (b .layout) (opened-book ρ k xs fit)
+
+    -- the trailer's length is the book's
+    pub told-length : number s (length s - trailerSize + 10) ≡ length s
+    told-length =
+        subst (λ (t : Bytes). number t (length t - trailerSize + 10) ≡ length t) (b .layout)
+        (read-field ρ k xs (fits-parts ρ k xs fit) 5 (omega arith) ∙ sym (book-length ρ k xs))
+
+  pub accepted-iff : (s : Bytes) (k : ℕ) (xs : List Bytes) → (InBytes s × (opened ρ s ≡ Book k xs)) ↔ BookOf ρ s k xs
+  accepted-iff s k xs = (λ h. accepted s k xs (h .0) (h .1), λ b. (book-of-bytes b, opens b))
+
+  pub check-iff : (s : Bytes) (n k : ℕ) → InBytes s → (check ρ s ≡ given n k) ↔ ((xs : List Bytes) × (length xs ≡ n) × BookOf ρ s k xs)
+  unfolding check checkOf
+  check-iff s n k h = (λ e. yes-book (opened ρ s) refl e, λ w. ap checkOf (opens (w .2)) ∙ ap (λ (m : ℕ). given m k) (w .1))
+    where
+      yes-book : (o : Opened) → opened ρ s ≡ o → checkOf o ≡ given n k → (xs : List Bytes) × (length xs ≡ n) × BookOf ρ s k xs
+      yes-book NoBook f e = absurd (let z : _≡_ {A = ℕ} 2 0 = ap (λ (a : Answer). a .code) e in omega arith)
+      yes-book (Book j xs) f e =
+          let m : length xs ≡ n = ap (λ (a : Answer). a .first) e in
+          let l : j ≡ k = ap (λ (a : Answer). a .second) e in
+          (xs, m, subst (λ (i : ℕ). BookOf ρ s i xs) l (accepted s j xs h f))
+
+  pub check-no : (s : Bytes) → InBytes s → (check ρ s ≡ refused 2) ↔ ((k : ℕ) (xs : List Bytes) → BookOf ρ s k xs → ⊥)
+  unfolding check checkOf
+  check-no s h = (λ e k xs b. never (sym (ap checkOf (opens b)) ∙ e), λ n. no-book (opened ρ s) refl n)
+    where
+      never : {n k : ℕ} → given n k ≡ refused 2 → ⊥
+      never e = let z : _≡_ {A = ℕ} 0 2 = ap (λ (a : Answer). a .code) e in omega arith
+
+      no-book : (o : Opened) → opened ρ s ≡ o → ((k : ℕ) (xs : List Bytes) → BookOf ρ s k xs → ⊥) → checkOf o ≡ refused 2
+      no-book NoBook f n = refl
+      no-book (Book k xs) f n = absurd (n k xs (accepted s k xs h f))
+
+  pub one-book : {s t : Bytes} {k : ℕ} {xs : List Bytes} → BookOf ρ s k xs → BookOf ρ t k xs → s ≡ t
+  one-book a b = sym (a .layout) ∙ b .layout
+
+  pub one-list : {s : Bytes} {k j : ℕ} {xs ys : List Bytes} → BookOf ρ s k xs → BookOf ρ s j ys → (k ≡ j) × (xs ≡ ys)
+  one-list {s} {k} {j} {xs} {ys} a b = let e : Book k xs ≡ Book j ys = sym (opens a) ∙ opens b in (cc, cc)

@@ -1,0 +1,7 @@
+-- The theorems, by what they are about.
+pub mod Books
+pub mod Lists
+pub mod Orders
+pub mod Questions
+pub mod Calls
+pub mod Examples

@@ -1,0 +1,1 @@
+// Theory without code: what was demanded, as theorems under names to look up.
