@@ -18,7 +18,7 @@ use Rattle.format.proofs.Book.{Fits, book-length, book-opened, book-parts, fiel
 use Rattle.format.proofs.Numbers.{number-past, numbers-at, numbers-length, word-high}
 use Rattle.format.proofs.Records.{rising-sizes, sound-few, sound-rises, sound-rising}
 use Rattle.format.proofs.Small.{Modest, fields-at, names-bytes, table-small}
-use Rattle.descent.proofs.Rows.{table-few}
+use Rattle.format.proofs.Spans.{table-few}
 use Rattle.descent.proofs.Vocabulary.{NodesAt, Searchable, asked, namesOf, noNode, node, startIn, wordsIn}
 
 -- names of bytes give words of small symbols

@@ -41,8 +41,8 @@ module _ (ws : Words) where
     -- ---- a node's depth
 
     -- names of a node that is no leaf share its depth
-    pub depth-share : {v : ℕ} → Sits ws v → suc (from ws v) < upto ws v → (i k : ℕ) → In ws v i → In ws v k → node ws v .depth ≤ shared (nth ws i) (nth ws k)
-    depth-share {v} z a i k m n =
+    pub node-share : {v : ℕ} → Sits ws v → suc (from ws v) < upto ws v → (i k : ℕ) → In ws v i → In ws v k → node ws v .depth ≤ shared (nth ws i) (nth ws k)
+    node-share {v} z a i k m n =
         omega (arith, sits-told ws r z .fork a, span-share ws r (from ws v) (upto ws v) i k (z .within) (m .low) (m .high) (n .low) (n .high))
 
     -- one name or several
@@ -55,7 +55,7 @@ module _ (ws : Words) where
       where
         go : (suc (from ws v) ≡ upto ws v) ⊎ (suc (from ws v) < upto ws v) → at (nth ws i) m ≡ at (nth ws k) m
         go (inl e) = let j : i ≡ k = omega (arith, x .low, x .high, y .low, y .high) in ap (λ (n : ℕ). at (nth ws n) m) j
-        go (inr a) = shared-at (nth ws i) (nth ws k) m (omega (arith, depth-share z a i k x y))
+        go (inr a) = shared-at (nth ws i) (nth ws k) m (omega (arith, node-share z a i k x y))
 
     -- what q shares with one name of a node, up to its depth, it shares with all
     pub all-share : {v m : ℕ} (q : List ℕ) → Sits ws v → m ≤ node ws v .depth → (i k : ℕ) → In ws v i → In ws v k → m ≤ shared q (nth ws k) → m ≤ shared q (nth ws i)
@@ -63,7 +63,7 @@ module _ (ws : Words) where
       where
         go : (suc (from ws v) ≡ upto ws v) ⊎ (suc (from ws v) < upto ws v) → m ≤ shared q (nth ws i)
         go (inl e) = let j : k ≡ i = omega (arith, x .low, x .high, y .low, y .high) in subst (λ (n : ℕ). m ≤ shared q (nth ws n)) j s
-        go (inr a) = shared-trans q (nth ws k) (nth ws i) m s (omega (arith, depth-share z a k i y x))
+        go (inr a) = shared-trans q (nth ws k) (nth ws i) m s (omega (arith, node-share z a k i y x))
 
     pub depth-few : {v : ℕ} → Sits ws v → ((i : ℕ) → length (nth ws i) ≤ 200) → node ws v .depth ≤ 201
     depth-few {v} z short = go (lone z)
@@ -72,7 +72,7 @@ module _ (ws : Words) where
         go (inl e) = omega (arith, sits-told ws r z .leaf e, short (from ws v))
         go (inr a) =
             let x : In ws v (from ws v) = record { low = omega arith; high = z .some } in
-            omega (arith, depth-share z a (from ws v) (from ws v) x x, shared-le (nth ws (from ws v)) (nth ws (from ws v)), short (from ws v))
+            omega (arith, node-share z a (from ws v) (from ws v) x x, shared-le (nth ws (from ws v)) (nth ws (from ws v)), short (from ws v))
 
     -- ---- the ways at a node
 
@@ -103,7 +103,7 @@ module _ (ws : Words) where
         halt-short h = record {
           here = reach-short q ws (from ws v) (upto ws v) d r wide (z .within) deep-is h;
           shallow = omega (arith, shared-le q (nth ws (from ws v)));
-          alone = λ i m e. absurd (lt-irrefl d (omega (arith, depth-share z wide i i m m, shared-le (nth ws i) (nth ws i), ap length e)));
+          alone = λ i m e. absurd (lt-irrefl d (omega (arith, node-share z wide i i m m, shared-le (nth ws i) (nth ws i), ap length e)));
         }
 
         module _ (h : node ws v .depth ≤ length q) where
@@ -150,7 +150,7 @@ module _ (ws : Words) where
                     go : (suc (from ws c) ≡ upto ws c) ⊎ (suc (from ws c) < upto ws c) → d < node ws c .depth
                     go (inl u) =
                         let x : In ws v (from ws c) = within-v (from ws c) f in
-                        omega (arith, sits-told ws r (kid .sits) .leaf u, depth-share z wide (from ws c) (from ws c) x x, shared-le (nth ws (from ws c)) (nth ws (from ws c)))
+                        omega (arith, sits-told ws r (kid .sits) .leaf u, node-share z wide (from ws c) (from ws c) x x, shared-le (nth ws (from ws c)) (nth ws (from ws c)))
                     go (inr u) =
                         let lo : ℕ = from ws c in
                         let hi : ℕ = pred (upto ws c) in
@@ -160,7 +160,7 @@ module _ (ws : Words) where
                           sits-told ws r (kid .sits) .fork u,
                           further (nth ws lo) (nth ws hi) d (nth-positive ws lo r) (nth-positive ws hi r)
                               (nth-less ws lo hi r (omega arith) (omega (arith, kid .sits .within)))
-                              (depth-share z wide lo hi (within-v lo f) (within-v hi end))
+                              (node-share z wide lo hi (within-v lo f) (within-v hi end))
                               (kid .run hi (omega (arith, kid .low)) (omega arith) ∙ sym (kid .run lo (omega (arith, kid .low)) (omega arith))),
                         )
 

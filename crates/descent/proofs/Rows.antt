@@ -7,7 +7,7 @@
 --     Kid, row-kid     the next child of a row, by its record; row-end: there is none
 --     seek-..          the walk along a row to the first symbol that is not below s
 -- Assumes nothing.
-use Prim.Native.Nat.{ℕ, zero, suc, pred, _+_, _-_, _*_, _≤_, _<_}
+use Prim.Native.Nat.{ℕ, zero, suc, pred, _+_, _-_, _≤_, _<_}
 use native.Mathlib.Nat.{lt-irrefl, eq-or-lt-of-le}
 use native.Mathlib.Decide.{ℕ-discrete}
 use native.Mathlib.Numerals.{add-one}
@@ -22,7 +22,7 @@ use Rattle.words.proofs.Rising.{span-length}
 use Rattle.words.proofs.Words.{apart}
 use Rattle.format.specs.Nodes.{Node, deep, fork, leaf, nodeTable, rowTable, table}
 use Rattle.format.proofs.Groups.{table-root}
-use Rattle.format.proofs.Spans.{at-rises, ranked-rest, ranked-span, span-few, span-share, table-more, table-none, table-one, table-run}
+use Rattle.format.proofs.Spans.{at-rises, ranked-rest, ranked-span, span-share, table-more, table-none, table-one, table-run}
 use Rattle.descent.proofs.Vocabulary.{RowFrom, Seeking, Sits, Sought, from, noNode, node, upto}
 
 -- ---- the record at the front of what stands from v on
@@ -140,9 +140,6 @@ module _ (ws : Words) where
         go : (suc (from ws v) ≡ upto ws v) ⊎ (suc (from ws v) < upto ws v) → suc (from ws v) < upto ws v
         go (inl e) = absurd (n (omega arith))
         go (inr h) = h
-
-    pub table-few : 0 < length ws → length (table ws) < 2 * length ws
-    table-few h = omega (arith, ap length (table-root ws ∙ ap (nodeTable 0 0) (sym (take-length ws))), span-few ws 0 0 (length ws) r h (omega arith))
 
     -- ---- rows
 

@@ -13,13 +13,13 @@ use mathlib.Core.Path.{_≡_, sym, ap, ap₂, _∙_, subst}
 use mathlib.Core.Logic.{_⊎_, inl, inr}
 use mathlib.Core.List.{List, [], _∷_, _++_, append-assoc}
 use lib.ListN.{length}
-use lib.Seq.{slice-empty, length-slice}
+use lib.Seq.{take-length, slice-empty, length-slice}
 use Rattle.words.specs.Words.{All, Rises, Words, at, cons, nil, nth, shared, span}
 use Rattle.words.proofs.Lists.{all-append}
 use Rattle.words.proofs.Rising.{nth-less, nth-positive, span-cons, span-length, span-one, span-rises, span-split, span-two}
 use Rattle.words.proofs.Words.{apart, between, less-at, less-parts, shared-comm, shared-le, shared-self, shared-trans}
-use Rattle.format.specs.Nodes.{deep, depth, fork, leaf, nodeTable, rowTable}
-use Rattle.format.proofs.Groups.{Climbs, Ranked, Same, depth-last, last, node-few, node-more, node-one, ranked-group, ranked-right, row-none, row-run, run-end, run-same}
+use Rattle.format.specs.Nodes.{deep, depth, fork, leaf, nodeTable, rowTable, table}
+use Rattle.format.proofs.Groups.{Climbs, Ranked, Same, depth-last, last, node-few, node-more, node-one, ranked-group, ranked-right, row-none, row-run, run-end, run-same, table-root}
 
 module _ (ws : Words) where
   last-snoc : (v : List ℕ) (vs us : Words) (z : List ℕ) → v ∷ vs ≡ us ++ (z ∷ []) → last v vs ≡ z
@@ -114,6 +114,9 @@ module _ (ws : Words) where
   span-few s lo hi r a b =
       let t : span ws lo hi ≡ nth ws lo ∷ span ws (suc lo) hi = span-cons ws lo hi a b in
       omega (arith, ap (λ (g : Words). length (nodeTable lo s g)) t, node-few lo s (nth ws lo) (span ws (suc lo) hi) (subst Rises t (span-rises ws lo hi r)), ap length t, span-length ws lo hi b)
+
+  pub table-few : Rises ws → 0 < length ws → length (table ws) < 2 * length ws
+  table-few r h = omega (arith, ap length (table-root ws ∙ ap (nodeTable 0 0) (sym (take-length ws))), span-few 0 0 (length ws) r h (omega arith))
 
   -- ---- symbols at a span's depth
 

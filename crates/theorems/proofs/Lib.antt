@@ -1,6 +1,8 @@
 -- The theorems, by what they are about.
 pub mod Books
 pub mod Lists
+pub mod Trees
+pub mod Tower
 pub mod Orders
 pub mod Questions
 pub mod Calls
