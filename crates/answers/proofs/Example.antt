@@ -9,7 +9,7 @@ use mathlib.Core.List.{List, [], _∷_, map}
 use Rattle.words.specs.Words.{begins, less, plain, same, shared}
 use Rattle.format.specs.Nodes.{depth, glue, groups}
 use Rattle.format.proofs.Example.{example, text}
-use Rattle.answers.specs.Questions.{Pair, answer, ask, childOf, count, exact, exactFrom, nearest, place, range, reachNode, reachWithin, reached}
+use Rattle.answers.specs.Questions.{Pair, answer, ask, childOf, count, exact, exactFrom, nearest, place, range, reachWithin, reached}
 
 abbrev pub Marked : Type 0
 Marked = ℕ × String × Pair
@@ -34,5 +34,5 @@ abbrev pub got : Marked → Pair
 got a = answer plain (a .0) (text (a .1)) example
 
 pub all-marked : map got marked ≡ map (λ (a : Marked). a .2) marked
-unfolding shared less begins same depth glue groups childOf reachWithin reachNode reached count exactFrom exact place range nearest ask answer
+unfolding shared less begins same depth glue groups childOf reachWithin reached count exactFrom exact place range nearest ask answer
 all-marked = refl

@@ -19,7 +19,7 @@ use Rattle.words.proofs.Rising.{rises-left, rises-right}
 use Rattle.words.proofs.Words.{blind, leaves, shared-le}
 use Rattle.format.specs.Nodes.{depth, groups}
 use Rattle.format.proofs.Groups.{Parted, Short, children, depth-share, joinedGroups, part, shorter, whole}
-use Rattle.answers.specs.Questions.{childOf, nearest, reachNode, reachWithin, reached}
+use Rattle.answers.specs.Questions.{childOf, nearest, reachWithin, reached}
 
 -- the word at j, counted from the first of ws, shares with q as much as any word of ws does
 pub record Best (q : List ℕ) (ws : Words) (j : ℕ) : Type 0 where
@@ -119,7 +119,7 @@ reaches (suc f) q i w (v ∷ vs) r l =
     (child-out f q (reaches f q) d (at q d) i i (groups d (w ∷ v ∷ vs)) (c .parted) (c .rises) (shorter _ (le-of-suc-le-suc l) (c .small))))
 
 pub reached-best : (q w : List ℕ) (ws : Words) → Rises (w ∷ ws) → Best q (w ∷ ws) (reached q (w ∷ ws))
-unfolding reached reachNode
+unfolding reached
 reached-best q w ws r =
     let b = reaches (length (w ∷ ws)) q 0 w ws r (omega arith) in
     subst (Best q (w ∷ ws)) (sym (b .1 ∙ omega arith)) (b .2)

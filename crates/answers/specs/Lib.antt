@@ -1,3 +1,2 @@
--- Definitions of the questions and of what each public call gives.
 pub mod Questions
 pub mod Calls

@@ -5,7 +5,7 @@
 --     answer            the same for names and a question in bytes, under a rule
 -- The laws are in proofs/Places.antt and proofs/Nearest.antt. Assumes nothing: these are definitions.
 use Prim.Native.Nat.{ℕ, zero, suc, _+_}
-use mathlib.Core.Bool.{Bool, true, false}
+use mathlib.Core.Bool.{Bool}
 use mathlib.Core.List.{List, [], _∷_, map}
 use lib.Dec.{ltb, eqb}
 use lib.ListN.{length}
@@ -55,11 +55,8 @@ reachWithin (suc n) q i (w ∷ v ∷ vs) =
     let down = childOf (λ j g. reachWithin n q j g) d (at q d) i i (groups d (w ∷ v ∷ vs)) in
     pick (ltb (length q) d) i down
 
-unfoldable pub reachNode : List ℕ → ℕ → Words → ℕ
-reachNode q i ws = reachWithin (length ws) q i ws
-
 unfoldable pub reached : List ℕ → Words → ℕ
-reached q ws = reachNode q 0 ws
+reached q ws = reachWithin (length ws) q 0 ws
 
 unfoldable pub nearest : List ℕ → Words → Pair
 nearest q ws = (reached q ws, shared q (nth ws (reached q ws)))

@@ -20,8 +20,8 @@ use Rattle.words.proofs.Rising.{rises-left, rises-right, span-all, span-length,
 use Rattle.format.specs.Nodes.{deep, depth, first, glue, groups}
 use Rattle.format.proofs.Groups.{Same, Short, children, groups-run, joinedGroups, shorter}
 use Rattle.format.proofs.Spans.{deep-is}
-use Rattle.answers.specs.Questions.{childOf, reachNode, reachWithin, reached}
-use Rattle.descent.proofs.Vocabulary.{reachIn}
+use Rattle.answers.specs.Questions.{childOf, reachWithin, reached}
+use Rattle.descent.proofs.Vocabulary.{reachIn, reachNode}
 
 -- ---- any count that is large enough will do
 
@@ -89,7 +89,7 @@ child-hit down d s stay i w g rest e m u =
 
 module _ (q : List ℕ) (ws : Words) where
   pub reach-root : reached q ws ≡ reachIn q ws 0 (length ws)
-  unfolding reached reachIn
+  unfolding reached reachIn reachNode
   reach-root = ap (reachNode q 0) (sym (take-length ws))
 
   pub reach-leaf : (lo : ℕ) → lo < length ws → reachIn q ws lo (suc lo) ≡ lo

@@ -21,7 +21,7 @@ use Rattle.format.specs.Book.{Book, NoBook, Opened, fields, nodeSize, number, o
 use Rattle.format.specs.Nodes.{Node, nodeTable, rowTable, table}
 use Rattle.format.specs.Records.{longest, mostNames}
 use Rattle.format.proofs.Groups.{Ranked}
-use Rattle.answers.specs.Questions.{reachNode, reached}
+use Rattle.answers.specs.Questions.{reachWithin, reached}
 
 -- past the table's end
 abbrev pub noNode : Node
@@ -49,6 +49,9 @@ pub record Sits (ws : Words) (v : ℕ) : Type 0 where
   pub ends : v + node ws v .nodes ≤ length (table ws)
   pub behind : List Node
   pub stands : drop v (table ws) ≡ nodeTable (from ws v) (node ws v .symbol) (span ws (from ws v) (upto ws v)) ++ behind
+
+unfoldable pub reachNode : List ℕ → ℕ → Words → ℕ
+reachNode q i ws = reachWithin (length ws) q i ws
 
 unfoldable pub reachIn : List ℕ → Words → ℕ → ℕ → ℕ
 reachIn q ws lo hi = reachNode q lo (span ws lo hi)

@@ -3,7 +3,6 @@
 --     read-field                 what the trailer says: names, block size, starts, nodes, length
 --     read-names                 the names, out of a book's bytes
 --     opened-book, book-opened   `opened` gives k and xs just where those fit and the bytes are their book
---     book-injective             one book, one list of names and one block size
 -- Assumes nothing.
 use Prim.Native.Nat.{ℕ, _+_, _-_, _*_, _≤_, _<_}
 use native.Mathlib.Omega.{arith}
@@ -142,10 +141,3 @@ book-opened ρ s k xs e = go (both (fits ρ j ys) (same (book ρ j ys) s)) refl 
           sym (ap₂ (λ (a : ℕ) (zs : List Bytes). book ρ a zs) jk yx) ∙ same-true (book ρ j ys) s (b .1),
         )
     go false p q = let z : _≡_ {A = ℕ} 0 1 = cc in absurd (omega arith)
-
--- one book has one block size and one list of names
-pub book-injective : (ρ : Rule) (k j : ℕ) (xs ys : List Bytes) → fits ρ k xs ≡ true → fits ρ j ys ≡ true → book ρ k xs ≡ book ρ j ys
-    → (k ≡ j) × (xs ≡ ys)
-book-injective ρ k j xs ys f g e =
-    let both-open : Book k xs ≡ Book j ys = sym (opened-book ρ k xs f) ∙ ap (opened ρ) e ∙ opened-book ρ j ys g in
-    (cc, cc)

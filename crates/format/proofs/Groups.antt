@@ -1,12 +1,12 @@
 -- Groups of a rising list of words, and the equations of the node table. Nothing after them looks at what counts down.
---     depth-share, depth-last, depth-step    the depth of a group, in three ways
+--     depth-share, depth-last                the depth of a group, in two ways
 --     Ranked, ranked-group, ranked-right                 the words of a row: they rise, and their symbols at the depth never fall
 --     children                               a node's groups: not empty, in rising order, smaller than the node
 --     node-one, node-more, row-none, row-run the table's equations
 --     deeper                                 a node's depth exceeds its parent's
 --     node-few, row-few                      at most 2 n - 1 nodes
 -- Assumes nothing.
-use Prim.Native.Nat.{ℕ, zero, suc, _+_, _*_, _≤_, _<_, min}
+use Prim.Native.Nat.{ℕ, zero, suc, _+_, _*_, _≤_, _<_}
 use native.Mathlib.Nat.{le-of-suc-le-suc, not-suc-le-zero, lt-irrefl, eq-or-lt-of-le}
 use native.Mathlib.Decide.{decLe}
 use native.Mathlib.Omega.{arith}
@@ -74,27 +74,6 @@ unfolding depth
 depth-last w v [] r = omega (arith, shared-le w v)
 depth-last w v (u ∷ us) (rise p (cons h a) (rise q b r)) =
     omega (arith, depth-last w u us (rise p a r), between w v (last u us) h (above-last v u us b))
-
--- what neighbours share, at least
-abbrev pub leastStep : List ℕ → List ℕ → Words → ℕ
-leastStep w v [] = shared w v
-leastStep w v (u ∷ us) = min (shared w v) (leastStep v u us)
-
--- the depth of a group is the least that two-groups neighbours in it share
-pub depth-step : (w v : List ℕ) (vs : Words) → Rises (w ∷ v ∷ vs) → depth w (v ∷ vs) ≡ leastStep w v vs
-depth-step w v [] r = depth-last w v [] r
-depth-step w v (u ∷ us) (rise p (cons h a) r) = go r (depth-step v u us r)
-  where
-    z : List ℕ
-    z = last u us
-
-    go : Rises (v ∷ u ∷ us) → depth v (u ∷ us) ≡ leastStep v u us → depth w (v ∷ u ∷ us) ≡ leastStep w v (u ∷ us)
-    go (rise q b s) e =
-        let d : ℕ = shared w z in
-        let l : d ≤ shared w v = between w v z h (above-last v u us b) in
-        let m : d ≤ shared v z = shared-trans v w z d (omega (arith, shared-comm v w)) (omega arith) in
-        let k : min (shared w v) (shared v z) ≤ d = shared-trans w v z (min (shared w v) (shared v z)) (omega arith) (omega arith) in
-        omega (arith, depth-last w v (u ∷ us) (rise p (cons h a) (rise q b s)), depth-last v u us (rise q b s))
 
 -- ---- symbols number d never fall from word to word
 

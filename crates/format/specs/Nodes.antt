@@ -10,7 +10,6 @@
 -- The equations, with nothing that counts down in them, and the laws are in proofs/Groups.antt and proofs/Spans.antt.
 -- Assumes nothing: these are definitions.
 use Prim.Native.Nat.{ℕ, zero, suc, _+_, min, pred}
-use mathlib.Core.Bool.{Bool, true, false}
 use mathlib.Core.List.{List, [], _∷_, _++_}
 use lib.Dec.{eqb}
 use lib.ListN.{length}

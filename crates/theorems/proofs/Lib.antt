@@ -5,5 +5,6 @@ pub mod Trees
 pub mod Tower
 pub mod Orders
 pub mod Questions
+pub mod Search
 pub mod Calls
 pub mod Examples

@@ -67,7 +67,7 @@ tower-path c d (suc n) h =
     let e : groups d (tower c d (suc (suc n))) ≡ (replicate d c ∷ []) ∷ tower c (suc d) (suc n) ∷ [] = tower-groups c d n h in (
       d ∷ t .0,
       down {ws = tower c d (suc (suc n))} (sym (tower-depth c d (suc d) (suc n) (omega arith))) (omega arith) 1 (omega (arith, ap length e))
-      (subst (λ (gs : List Words). Path (getD gs 1 []) (t .0)) (sym e) (t .1)),
+          (subst (λ (gs : List Words). Path (getD gs 1 []) (t .0)) (sym e) (t .1)),
       ap suc (t .2),
     )
 
@@ -98,7 +98,7 @@ path-reached =
     let t = tower-path 98 1 199 (omega arith) in (
       0 ∷ t .0,
       subst (λ (ws : Words). Path ws (0 ∷ t .0)) (sym tower-words)
-      (down {ws = towerWords} (sym tower-root) (omega arith) 0 (omega (arith, ap length tower-first))
-      (subst (λ (gs : List Words). Path (getD gs 0 []) (t .0)) (sym tower-first) (t .1))),
+          (down {ws = towerWords} (sym tower-root) (omega arith) 0 (omega (arith, ap length tower-first))
+          (subst (λ (gs : List Words). Path (getD gs 0 []) (t .0)) (sym tower-first) (t .1))),
       ap suc (t .2),
     )

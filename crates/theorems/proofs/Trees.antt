@@ -30,7 +30,7 @@ table-leaf i s w = node-one i s w
 
 pub table-fork : (i s : ℕ) (w v : List ℕ) (vs : Words) → Rises (w ∷ v ∷ vs)
     → let d = depth w (v ∷ vs) in
-      nodeTable i s (w ∷ v ∷ vs) ≡ fork i s d (w ∷ v ∷ vs) (rowTable i d (w ∷ v ∷ vs)) ∷ rowTable i d (w ∷ v ∷ vs)
+    nodeTable i s (w ∷ v ∷ vs) ≡ fork i s d (w ∷ v ∷ vs) (rowTable i d (w ∷ v ∷ vs)) ∷ rowTable i d (w ∷ v ∷ vs)
 table-fork i s w v vs r = node-more i s w v vs r
 
 -- the words w and g have one symbol at d, and those of rest greater ones

@@ -1,2 +1,1 @@
--- Definitions of names, symbols and order.
 pub mod Words

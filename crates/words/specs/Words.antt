@@ -1,14 +1,12 @@
 -- Document 01, 'Names, symbols and order': a name is a run of bytes, each byte has a symbol, after the last one stands the end
 -- symbol 0, and order is by the first differing symbol. A rule gives the bytes their symbols. It enters once, in `word`; all
 -- that follows is about lists of numbers.
---     Rule, Lawful      a symbol for each byte; from 1 to 256
---     plain             document 01's rule
---     word              a name's symbols, without the end symbol
---     at                symbol number d
---     shared            how many leading elements are the same
---     less, begins, same
---     nth, span         one word of a list, and the words from one position up to another
---     Rises             words without the end symbol in them, each below all that follow
+--     Rule, Lawful, plain        a symbol for each byte; from 1 to 256; document 01's own
+--     word, at                   a name's symbols, without the end symbol; symbol number d
+--     shared                     how many leading elements are the same
+--     less, begins, same         order, beginning and equality
+--     nth, span                  one word of a list; the words from one position up to another
+--     Rises                      words without the end symbol in them, each below all that follow
 -- The laws are in proofs/Words.antt and proofs/Rising.antt. Assumes nothing: these are definitions.
 use Prim.Native.Nat.{ℕ, zero, suc, _≤_, _<_}
 use mathlib.Core.Path.{_≡_}
@@ -36,8 +34,6 @@ abbrev pub both : Bool → Bool → Bool
 both true b = b
 both false b = false
 
--- ---- symbols
-
 abbrev pub Rule : Type 0
 Rule = ℕ → ℕ
 
@@ -55,8 +51,6 @@ word ρ s = map ρ s
 -- counted from 0; past the last symbol stands the end symbol 0
 abbrev pub at : List ℕ → ℕ → ℕ
 at w d = getD w d 0
-
--- ---- two words
 
 unfoldable pub shared : List ℕ → List ℕ → ℕ
 shared [] y = 0

@@ -1,0 +1,75 @@
+-- What a blind search over the flat node table may conclude, for any rising words and any question q. The words of it are in the
+-- crate descent, proofs/Vocabulary.antt: node numbers, their spans from `from` up to `upto`, the path of a descent.
+--     search-descends   every question has a descent of at most 202 nodes, from the root to where it halts
+--     search-reaches    its last node's first name is the one that the definition reaches
+--     search-finds      the highest node on it whose depth is at least what the reached name shares holds just the names that share most
+--     search-before, search-after    inside an edge: that whole group lies before q, or after it
+--     search-child, search-end       at a fork: the place is before the first child with a greater symbol, or after the group
+--     search-range, search-no-range  the range is that node's names, or none
+--     search-exact, search-not-exact the reached name is q, or no name is
+--     search-book       every accepted book with names gives a search what it asks
+-- Assumes nothing.
+use Prim.Native.Nat.{ℕ, _+_, _≤_, _<_}
+use native.Mathlib.Omega.{arith}
+use mathlib.Core.Path.{_≡_, refl, sym, ap, ap₂, _∙_}
+use mathlib.Core.List.{List}
+use lib.ListN.{length}
+use Rattle.words.specs.Words.{Bytes, InBytes, Lawful, Positive, Rises, Rule, Words, at, begins, nth, shared}
+use Rattle.format.specs.Book.{Book, opened}
+use Rattle.answers.specs.Questions.{Pair, count, exact, place, range, reached}
+use Rattle.answers.proofs.Nearest.{reached-most, reached-within}
+use Rattle.descent.proofs.Bytes.{opened-searchable}
+use Rattle.descent.proofs.Cuts.{exact-here, exact-nowhere, range-none, whole-place, whole-range}
+use Rattle.descent.proofs.Exists.{Descent, descent-exists}
+use Rattle.descent.proofs.Paths.{edge-after, edge-before, fork-child, fork-end, found, only-reached, reached-is}
+use Rattle.descent.proofs.Vocabulary.{Descended, Found, Highest, Searchable, Sought, from, node, startIn, upto}
+
+module _ (ws : Words) (r : Rises ws) (q : List ℕ) where
+  pub search-descends : (short : (i : ℕ) → length (nth ws i) ≤ 200) → 0 < length ws → Descent ws r q short
+  search-descends short h = descent-exists ws r q short h
+
+  module _ {p : List ℕ} {n v : ℕ} (t : Descended ws q p n v) where
+    pub search-reaches : reached q ws ≡ from ws v
+    search-reaches = reached-is ws r t
+
+    -- u is the highest node on the path that is as deep as the reached name shares symbols with q
+    pub search-finds : {u : ℕ} → Highest ws p n (shared q (nth ws (reached q ws))) u → Found ws q (shared q (nth ws (reached q ws))) u
+    search-finds h = found ws r t refl h
+
+    pub search-not-exact : Positive q → (nth ws (reached q ws) ≡ q → ⊥) → exact q ws ≡ (0, 0)
+    search-not-exact pos n =
+        exact-nowhere ws q r pos (λ i h e. n (ap (nth ws) (sym (only-reached ws r t i h e)) ∙ e))
+
+  pub search-exact : Positive q → 0 < length ws → nth ws (reached q ws) ≡ q → exact q ws ≡ (reached q ws, 1)
+  search-exact pos h e = exact-here ws q r pos (reached q ws) (reached-within q ws r h) e
+
+  module _ {m u : ℕ} (f : Found ws q m u) where
+    pub search-before : m < node ws u .depth → at (nth ws (reached q ws)) m < at q m → upto ws u ≡ place q ws
+    search-before h l = edge-before ws r f h l
+
+    pub search-after : m < node ws u .depth → at q m ≤ at (nth ws (reached q ws)) m → from ws u ≡ place q ws
+    search-after h l = edge-after ws r f h l
+
+    -- c is the first child of u whose symbol is not below q's, or the end of u's row
+    pub search-child : {c : ℕ} → node ws u .depth ≤ m → Sought ws u (at q m) c → c < u + node ws u .nodes → from ws c ≡ place q ws
+    search-child h k l = fork-child ws r f h k l
+
+    pub search-end : {c : ℕ} → node ws u .depth ≤ m → Sought ws u (at q m) c → u + node ws u .nodes ≤ c → upto ws u ≡ place q ws
+    search-end h k l = fork-end ws r f h k l
+
+    pub search-range : m ≡ length q → range q ws ≡ (from ws u, node ws u .names)
+    unfolding range
+    search-range e =
+        let lo : ℕ = from ws u in
+        let hi : ℕ = upto ws u in
+        let size : count (begins q) ws ≡ node ws u .names = sym (whole-range ws q r m lo hi (f .group) e) ∙ omega arith in
+        ap₂ {C = Pair} (λ (a b : ℕ). (a, b)) (sym (whole-place ws q r m lo hi (f .group) e)) size
+
+  pub search-no-range : shared q (nth ws (reached q ws)) < length q → range q ws ≡ (place q ws, 0)
+  unfolding range
+  search-no-range h =
+      let none : count (begins q) ws ≡ 0 = sym (range-none ws q r (shared q (nth ws (reached q ws))) (λ i l. reached-most q ws r i l) h) in
+      ap (λ (c : ℕ). (place q ws, c)) none
+
+pub search-book : (ρ : Rule) → Lawful ρ → (s : Bytes) (k : ℕ) (xs : List Bytes) → InBytes s → opened ρ s ≡ Book k xs → 0 < length xs → Searchable ρ s (startIn s)
+search-book ρ ok s k xs h e some = opened-searchable ρ ok s k xs e h some
