@@ -1,0 +1,190 @@
+//! The public calls.
+//!
+//! Renders what document 01 says below the table of refusals: in which order
+//! each call looks for a refusal, what stands beside the code, and what is
+//! then in the lent room or rows. Every call takes any bytes and any numbers.
+
+use crate::layout::{book_of, LARGEST_BLOCK, LONGEST_BOOK};
+use crate::names::{read_list, LONGEST_NAME};
+use crate::open::open;
+use crate::questions::{exact, nearest, place, range, Kind};
+use crate::refusals::{
+    BAD_BLOCK_SIZE, BAD_ROW, BAD_ROW_COUNT, BOOK_TOO_LONG, NEAREST_OF_NONE, NO_BOOK,
+    NO_SUCH_POSITION, QUESTION_TOO_LONG, ROOM_TOO_SHORT,
+};
+
+/// A question has 0 to 200 bytes: as many as the longest name.
+pub const LONGEST_QUESTION: usize = LONGEST_NAME;
+/// A batch has 0 to 64 rows.
+pub const MOST_ROWS: usize = 64;
+
+/// What every call gives back, and what an answer row of a batch holds.
+#[derive(Clone, Copy, Debug, PartialEq, Eq, Default)]
+pub struct Answer {
+    /// 0 where the call is accepted, else the number of the refusal.
+    pub code: usize,
+    /// The first number of the answer.
+    pub first: usize,
+    /// The second number of the answer.
+    pub second: usize,
+}
+
+/// A question row of a batch: its kind and its span of the question buffer.
+#[derive(Clone, Copy, Debug, PartialEq, Eq, Default)]
+pub struct Row {
+    /// 1 exact, 2 place, 3 range, 4 nearest.
+    pub kind: usize,
+    /// Where the question begins in the buffer.
+    pub start: usize,
+    /// How many bytes the question has.
+    pub length: usize,
+}
+
+/// Code 0 and the two numbers of the answer.
+fn accepted(first: usize, second: usize) -> Answer {
+    Answer {
+        code: 0,
+        first,
+        second,
+    }
+}
+
+/// A refusal; the numbers beside it are 0.
+fn refused(code: usize) -> Answer {
+    refused_record(code, 0)
+}
+
+/// A refusal of one list record, which brings the record's number.
+fn refused_record(code: usize, record: usize) -> Answer {
+    Answer {
+        code,
+        first: record,
+        second: 0,
+    }
+}
+
+/// Writes the output to the front of the room and gives its length, or
+/// refuses with 4 and writes nothing.
+fn write_out(output: &[u8], room: &mut [u8]) -> Answer {
+    match room.get_mut(..output.len()) {
+        None => refused(ROOM_TOO_SHORT),
+        Some(front) => {
+            front.copy_from_slice(output);
+            accepted(output.len(), 0)
+        }
+    }
+}
+
+/// Builds a book. Refusals, in this order: 8; of each record in turn 5, 6 and 7;
+/// 9; 4.
+pub fn book_build(list: &[u8], block: usize, room: &mut [u8]) -> Answer {
+    if !(1..=LARGEST_BLOCK).contains(&block) {
+        return refused(BAD_BLOCK_SIZE);
+    }
+    let names = match read_list(list) {
+        Err((code, record)) => return refused_record(code, record),
+        Ok(names) => names,
+    };
+    let book = book_of(block, &names);
+    if book.len() > LONGEST_BOOK {
+        return refused(BOOK_TOO_LONG);
+    }
+    write_out(&book, room)
+}
+
+/// Checks a book: n and k. Refusal: 2.
+pub fn book_check(book: &[u8]) -> Answer {
+    match open(book) {
+        None => refused(NO_BOOK),
+        Some((block, names)) => accepted(names.len(), block),
+    }
+}
+
+/// Reads a name back by its position. Refusals: 2, 3, 4.
+pub fn book_read(book: &[u8], position: usize, room: &mut [u8]) -> Answer {
+    let Some((_, names)) = open(book) else {
+        return refused(NO_BOOK);
+    };
+    let Some(name) = names.get(position) else {
+        return refused(NO_SUCH_POSITION);
+    };
+    write_out(name, room)
+}
+
+/// Exact: (position, 1) where a name equals the question. Refusals: 2, 1.
+pub fn book_exact(book: &[u8], question: &[u8]) -> Answer {
+    ask_book(book, Kind::Exact, question)
+}
+
+/// Place: how many names are less than the question. Refusals: 2, 1.
+pub fn book_place(book: &[u8], question: &[u8]) -> Answer {
+    ask_book(book, Kind::Place, question)
+}
+
+/// Range: the question's place and how many names begin with it. Refusals:
+/// 2, 1.
+pub fn book_range(book: &[u8], question: &[u8]) -> Answer {
+    ask_book(book, Kind::Range, question)
+}
+
+/// Nearest: a position and how many leading bytes are shared there.
+/// Refusals: 2, 1, 10.
+pub fn book_nearest(book: &[u8], question: &[u8]) -> Answer {
+    ask_book(book, Kind::Nearest, question)
+}
+
+/// A single question. Refusals: 2, then those of `ask_names`.
+fn ask_book(book: &[u8], kind: Kind, question: &[u8]) -> Answer {
+    match open(book) {
+        None => refused(NO_BOOK),
+        Some((_, names)) => ask_names(&names, kind, question),
+    }
+}
+
+/// A question to the names of a book that was checked. Refusals: 1, 10.
+fn ask_names(names: &[Vec<u8>], kind: Kind, question: &[u8]) -> Answer {
+    if question.len() > LONGEST_QUESTION {
+        return refused(QUESTION_TOO_LONG);
+    }
+    let numbers = match kind {
+        Kind::Exact => Some(exact(names, question)),
+        Kind::Place => Some(place(names, question)),
+        Kind::Range => Some(range(names, question)),
+        Kind::Nearest => nearest(names, question),
+    };
+    match numbers {
+        // Only nearest can be without an answer, and only without names.
+        None => refused(NEAREST_OF_NONE),
+        Some((first, second)) => accepted(first, second),
+    }
+}
+
+/// A batch of questions. Refusals: 12, 2. Those of a row (11, 1, 10) go into the
+/// row's own answer and do not stop the others.
+pub fn book_batch(book: &[u8], questions: &[u8], rows: &[Row], answers: &mut [Answer]) -> Answer {
+    if rows.len() > MOST_ROWS || rows.len() != answers.len() {
+        return refused(BAD_ROW_COUNT);
+    }
+    let Some((_, names)) = open(book) else {
+        return refused(NO_BOOK);
+    };
+    for (row, answer) in rows.iter().zip(answers) {
+        *answer = ask_row(&names, questions, *row);
+    }
+    accepted(rows.len(), 0)
+}
+
+/// The answer of one batch row. Refusals: 11, then those of `ask_names`.
+fn ask_row(names: &[Vec<u8>], questions: &[u8], row: Row) -> Answer {
+    match (Kind::of_number(row.kind), span(questions, row)) {
+        (Some(kind), Some(question)) => ask_names(names, kind, question),
+        _ => refused(BAD_ROW),
+    }
+}
+
+/// The row's part of the question buffer, unless start plus length lies past
+/// the buffer. A sum too large for the machine's word lies past it as well.
+fn span(questions: &[u8], row: Row) -> Option<&[u8]> {
+    let end = row.start.checked_add(row.length)?;
+    questions.get(row.start..end)
+}

@@ -1,0 +1,131 @@
+//! The bytes of a book.
+//!
+//! Renders document 01, "Layout of a book": entries, block table, node table,
+//! trailer, one behind the other without gaps.
+//!
+//! No limit is applied here. A number that does not fit its one or two bytes
+//! is cut to the low ones; for a list and block size that a build accepts, and
+//! a book of at most 65,535 bytes, that never happens.
+
+use crate::names::{leading_equal, low_byte};
+use crate::tree::{tree, Node};
+
+/// The longest book.
+pub const LONGEST_BOOK: usize = 65_535;
+/// The largest block size; the smallest is 1.
+pub const LARGEST_BLOCK: usize = 64;
+/// The length of the trailer, and so of the shortest book.
+pub const TRAILER_LENGTH: usize = 16;
+/// The last four bytes of every book.
+pub const MARK: [u8; 4] = [0x4E, 0x42, 0x4B, 0x31];
+
+/// The book of these names with this block size.
+pub fn book_of(block: usize, names: &[Vec<u8>]) -> Vec<u8> {
+    let entries = entries(block, names);
+    let block_table = block_table(block, names);
+    let node_table = node_table(names);
+    let trailer = trailer(block, names, entries.len(), block_table.len());
+    [entries, block_table, node_table, trailer].concat()
+}
+
+/// Part 1: the entry of each name.
+pub fn entries(block: usize, names: &[Vec<u8>]) -> Vec<u8> {
+    let mut bytes = Vec::new();
+    for position in 0..names.len() {
+        bytes.extend(entry(block, names, position));
+    }
+    bytes
+}
+
+/// One entry: the shared count, the length of the rest, the rest.
+///
+/// After Mar, inside a block, Marina is 03 03 ina.
+fn entry(block: usize, names: &[Vec<u8>], position: usize) -> Vec<u8> {
+    let shared = stored_count(block, names, position);
+    let rest = &names[position][shared..];
+    let mut bytes = vec![low_byte(shared), low_byte(rest.len())];
+    bytes.extend_from_slice(rest);
+    bytes
+}
+
+/// The shared count as stored: all leading bytes that the name has in common
+/// with the one before, but 0 for the first name of a block.
+pub fn stored_count(block: usize, names: &[Vec<u8>], position: usize) -> usize {
+    if starts_block(block, position) {
+        0
+    } else {
+        leading_equal(&names[position - 1], &names[position])
+    }
+}
+
+/// Whether this position is the first of its block. Position 0 always is.
+fn starts_block(block: usize, position: usize) -> bool {
+    position.is_multiple_of(block)
+}
+
+/// Part 2: for every block, at which byte of the book its entries begin.
+pub fn block_table(block: usize, names: &[Vec<u8>]) -> Vec<u8> {
+    let mut bytes = Vec::new();
+    let mut offset = 0;
+    for position in 0..names.len() {
+        if starts_block(block, position) {
+            bytes.extend(two_bytes(offset));
+        }
+        offset += entry(block, names, position).len();
+    }
+    bytes
+}
+
+/// Part 3: every node of the tree, ten bytes each; none without names.
+pub fn node_table(names: &[Vec<u8>]) -> Vec<u8> {
+    let mut bytes = Vec::new();
+    if let Some(root) = tree(names) {
+        write_node(&root, &mut bytes);
+    }
+    bytes
+}
+
+/// A node, then its row of children, each of them with its own row.
+fn write_node(node: &Node, bytes: &mut Vec<u8>) {
+    bytes.extend(two_bytes(node.symbol));
+    bytes.extend(two_bytes(node.depth));
+    bytes.extend(two_bytes(node.first));
+    bytes.extend(two_bytes(node.names));
+    bytes.extend(two_bytes(node.nodes));
+    for child in &node.children {
+        write_node(child, bytes);
+    }
+}
+
+/// How many nodes the book of these names has: the trailer's number m.
+pub fn node_count(names: &[Vec<u8>]) -> usize {
+    tree(names).map_or(0, |root| root.nodes)
+}
+
+/// Part 4: six numbers and the mark.
+fn trailer(
+    block: usize,
+    names: &[Vec<u8>],
+    entries_length: usize,
+    block_table_length: usize,
+) -> Vec<u8> {
+    let nodes = node_count(names);
+    let block_table_start = entries_length;
+    let node_table_start = block_table_start + block_table_length;
+    let book_length = node_table_start + 10 * nodes + TRAILER_LENGTH;
+
+    let mut bytes = Vec::new();
+    bytes.extend(two_bytes(names.len()));
+    bytes.extend(two_bytes(block));
+    bytes.extend(two_bytes(block_table_start));
+    bytes.extend(two_bytes(node_table_start));
+    bytes.extend(two_bytes(nodes));
+    bytes.extend(two_bytes(book_length));
+    bytes.extend(MARK);
+    bytes
+}
+
+/// A number in two bytes, low byte first.
+fn two_bytes(number: usize) -> [u8; 2] {
+    [low_byte(number), low_byte(number / 256)]
+}

@@ -1,0 +1,43 @@
+//! The second program of Mistrogu.
+//!
+//! Everything that document 01 asks for, done over a plain sorted list of byte
+//! strings. Nothing here is fast and nothing is meant to be. A reader with
+//! document 01 in the other hand should be able to believe each function at
+//! sight, because test vectors for the proved library come from this crate. It
+//! shares no line with that library.
+//!
+//! Where to look:
+//!
+//! | Module | Part of document 01 |
+//! |---|---|
+//! | [`names`] | names, symbols, order, list records |
+//! | [`tree`] | which nodes a list of names has |
+//! | [`layout`] | the bytes of a book |
+//! | [`open`](mod@open) | which runs of bytes are a book |
+//! | [`questions`] | exact, place, range, nearest |
+//! | [`refusals`] | the numbers given back when a call says no |
+//! | [`calls`] | the public calls, each with its refusals in their order |
+//! | [`programs`] | what the building and the listing program write |
+//!
+//! The running example is the list Mar, Marina, Market Square.
+
+#![forbid(unsafe_code)]
+#![warn(missing_docs)]
+
+pub mod calls;
+pub mod layout;
+pub mod names;
+pub mod open;
+pub mod programs;
+pub mod questions;
+pub mod refusals;
+pub mod tree;
+
+pub use calls::{
+    book_batch, book_build, book_check, book_exact, book_nearest, book_place, book_range,
+    book_read, Answer, Row,
+};
+pub use layout::book_of;
+pub use names::{read_list, write_list};
+pub use open::open;
+pub use programs::{listing, make_book};

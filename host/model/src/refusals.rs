@@ -1,0 +1,29 @@
+//! The twelve refusals, by number.
+//!
+//! Renders the table of document 01, "Numbers given back when a call says no".
+//! The order in which a call looks for them stands with the call, in `calls`.
+
+/// The question has more than 200 bytes.
+pub const QUESTION_TOO_LONG: usize = 1;
+/// The bytes are not a book.
+pub const NO_BOOK: usize = 2;
+/// The book has no name at this position.
+pub const NO_SUCH_POSITION: usize = 3;
+/// The output does not fit the lent room.
+pub const ROOM_TOO_SHORT: usize = 4;
+/// A list record has length 0, a length above 200, or not all of its bytes.
+pub const BAD_RECORD: usize = 5;
+/// A name is not above the one before it.
+pub const NOT_RISING: usize = 6;
+/// A list has a name more than the 2,000 allowed.
+pub const TOO_MANY_NAMES: usize = 7;
+/// The block size is not 1 to 64.
+pub const BAD_BLOCK_SIZE: usize = 8;
+/// The book would have more than 65,535 bytes.
+pub const BOOK_TOO_LONG: usize = 9;
+/// The nearest name was asked of a book that has none.
+pub const NEAREST_OF_NONE: usize = 10;
+/// A batch row has an unknown kind, or its span leaves the question buffer.
+pub const BAD_ROW: usize = 11;
+/// A batch has more than 64 rows, or not as many answer rows as questions.
+pub const BAD_ROW_COUNT: usize = 12;

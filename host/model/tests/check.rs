@@ -1,0 +1,335 @@
+//! Demand 3 and refusal 2: which runs of bytes are a book.
+
+mod common;
+
+use common::{
+    built, many_names, mar_names, names, names_for_book_length, no, yes, Random, BOOK_80, BOOK_85,
+    EMPTY_BOOK,
+};
+use model::{book_build, book_check, book_of, open, write_list};
+
+/// Asserts that the bytes are either refused with 2, or are the book of the
+/// names and the block size that are read from them. Tells which.
+fn is_accepted(bytes: &[u8]) -> bool {
+    let answer = book_check(bytes);
+    let Some((block, names)) = open(bytes) else {
+        assert_eq!(answer, no(2));
+        return false;
+    };
+    assert_eq!(answer, yes(names.len(), block));
+    let mut room = vec![0; bytes.len()];
+    let list = write_list(&names);
+    assert_eq!(book_build(&list, block, &mut room), yes(bytes.len(), 0));
+    assert_eq!(room, bytes);
+    true
+}
+
+/// Changes every byte to every other value, one at a time, and gives for each
+/// offset how many of the 255 changes are accepted.
+fn accepted_changes(book: &[u8]) -> Vec<usize> {
+    let mut accepted = vec![0; book.len()];
+    let mut bytes = book.to_vec();
+    for offset in 0..book.len() {
+        for change in 1..=255 {
+            bytes[offset] = book[offset] ^ change;
+            if is_accepted(&bytes) {
+                accepted[offset] += 1;
+            }
+        }
+        bytes[offset] = book[offset];
+    }
+    accepted
+}
+
+// Single bytes changed
+
+#[test]
+fn every_changed_byte_of_the_85_is_refused_or_makes_another_sound_book() {
+    // Free are the letters behind those that the nodes show: na of Marina and
+    // et Square. Mar itself stands in two blocks, so one change parts them.
+    let mut expected = vec![0; 85];
+    expected[8..10].fill(255);
+    expected[16..25].fill(255);
+    assert_eq!(accepted_changes(&BOOK_85), expected);
+}
+
+#[test]
+fn every_changed_byte_of_the_80_is_refused_or_makes_another_sound_book() {
+    // Here Mar is stored once and may become any three bytes. k may be any
+    // other size that holds three names in one block: 3 and 5 to 64.
+    let mut expected = vec![0; 80];
+    expected[2..5].fill(255);
+    expected[8..10].fill(255);
+    expected[13..22].fill(255);
+    expected[80 - 14] = 61;
+    assert_eq!(accepted_changes(&BOOK_80), expected);
+}
+
+#[test]
+fn every_changed_byte_of_the_empty_book_is_refused_but_for_its_k() {
+    let mut expected = vec![0; 16];
+    expected[2] = 63;
+    assert_eq!(accepted_changes(&EMPTY_BOOK), expected);
+}
+
+// Bytes missing or added
+
+#[test]
+fn every_cut_book_is_refused() {
+    for length in 0..85 {
+        assert_eq!(book_check(&BOOK_85[..length]), no(2), "front {length}");
+    }
+    for start in 1..=85 {
+        assert_eq!(book_check(&BOOK_85[start..]), no(2), "from {start}");
+    }
+}
+
+#[test]
+fn bytes_before_or_after_a_book_make_it_no_book() {
+    for book in [&BOOK_85[..], &BOOK_80, &EMPTY_BOOK] {
+        for byte in 0..=255u8 {
+            assert_eq!(book_check(&[book, &[byte]].concat()), no(2));
+            assert_eq!(book_check(&[&[byte], book].concat()), no(2));
+        }
+        assert_eq!(book_check(&[book, book].concat()), no(2));
+    }
+}
+
+#[test]
+fn every_byte_left_out_or_doubled_is_refused() {
+    for offset in 0..85 {
+        let left_out = [&BOOK_85[..offset], &BOOK_85[offset + 1..]].concat();
+        let doubled = [&BOOK_85[..=offset], &BOOK_85[offset..]].concat();
+        assert_eq!(book_check(&left_out), no(2), "left out {offset}");
+        assert_eq!(book_check(&doubled), no(2), "doubled {offset}");
+    }
+}
+
+// Names that read well from a book that is none
+
+#[test]
+fn a_shared_count_smaller_than_possible_is_refused() {
+    // The 80 bytes, but Market Square stored as 02 0B rket Square or as
+    // 00 0D Market Square inside its block; tables and trailer moved along.
+    for shared in 0..3usize {
+        let rest = &b"Market Square"[shared..];
+        let mut bytes = BOOK_80[..10].to_vec();
+        bytes.extend([shared as u8, rest.len() as u8]);
+        bytes.extend(rest);
+        bytes.extend(&BOOK_80[22..]);
+        let longer = (3 - shared) as u8;
+        let trailer = bytes.len() - 16;
+        bytes[trailer + 4] += longer;
+        bytes[trailer + 6] += longer;
+        bytes[trailer + 10] += longer;
+        assert_eq!(book_check(&bytes), no(2), "shared {shared}");
+    }
+}
+
+#[test]
+fn a_nonzero_count_at_a_block_s_first_name_is_refused() {
+    // The 85 bytes, but Market Square stored as 03 0A ket Square although it
+    // begins the second block; tables and trailer moved along.
+    let mut bytes = BOOK_80[..22].to_vec();
+    bytes.extend([0x00, 0x00, 0x0A, 0x00]);
+    bytes.extend(&BOOK_85[29..69]);
+    bytes.extend([3, 0, 2, 0, 22, 0, 26, 0, 4, 0, 82, 0]);
+    bytes.extend(b"NBK1");
+    assert_eq!(bytes.len(), 82);
+    assert_eq!(book_check(&bytes), no(2));
+}
+
+#[test]
+fn an_unused_gap_between_the_parts_is_refused() {
+    // One byte more before the block table, the node table or the trailer,
+    // with every number of the trailer moved along.
+    for (offset, moves_block_table, moves_node_table) in [(25, 1, 1), (29, 0, 1), (69, 0, 0)] {
+        let mut bytes = [&BOOK_85[..offset], &[0], &BOOK_85[offset..]].concat();
+        let trailer = bytes.len() - 16;
+        bytes[trailer + 4] += moves_block_table;
+        bytes[trailer + 6] += moves_node_table;
+        bytes[trailer + 10] += 1;
+        assert_eq!(book_check(&bytes), no(2), "gap at {offset}");
+    }
+}
+
+#[test]
+fn nodes_in_another_order_are_refused() {
+    // The leaves of Mar and Marina have swapped places.
+    let mut bytes = BOOK_85;
+    bytes[39..49].copy_from_slice(&BOOK_85[49..59]);
+    bytes[49..59].copy_from_slice(&BOOK_85[39..49]);
+    assert_eq!(book_check(&bytes), no(2));
+}
+
+#[test]
+fn another_block_size_with_the_same_blocks_is_another_book() {
+    let mut accepted = Vec::new();
+    for block in 0..=255u8 {
+        let mut bytes = BOOK_80;
+        bytes[80 - 14] = block;
+        if is_accepted(&bytes) {
+            accepted.push(block);
+        }
+    }
+    let expected: Vec<u8> = (3..=64).collect();
+    assert_eq!(accepted, expected);
+}
+
+// Laid out well, but for a list or block size that demand 3 does not allow
+
+#[test]
+fn a_block_size_outside_1_to_64_is_refused() {
+    for block in [0, 65, 128, 256, 65_535] {
+        assert_eq!(book_check(&book_of(block, &mar_names())), no(2));
+        assert_eq!(book_check(&book_of(block, &[])), no(2));
+    }
+    for block in 1..=64 {
+        assert_eq!(book_check(&book_of(block, &mar_names())), yes(3, block));
+    }
+}
+
+#[test]
+fn a_book_of_2001_names_is_refused() {
+    let book = book_of(64, &many_names(2001));
+    assert!(book.len() < 65_536);
+    assert_eq!(book_check(&book), no(2));
+    let book = book_of(64, &many_names(2000));
+    assert_eq!(book_check(&book), yes(2000, 64));
+}
+
+#[test]
+fn a_book_with_a_name_of_201_bytes_is_refused() {
+    assert_eq!(book_check(&book_of(1, &[vec![b'a'; 200]])), yes(1, 1));
+    assert_eq!(book_check(&book_of(1, &[vec![b'a'; 201]])), no(2));
+    // Here the rest has one byte, but the name has 201.
+    let list = [vec![b'a'; 200], vec![b'a'; 201]];
+    assert_eq!(book_check(&book_of(2, &list)), no(2));
+}
+
+#[test]
+fn a_book_with_an_empty_name_is_refused() {
+    assert_eq!(book_check(&book_of(1, &[vec![]])), no(2));
+    assert_eq!(book_check(&book_of(2, &names(&["", "Mar"]))), no(2));
+}
+
+#[test]
+fn a_book_with_equal_or_falling_names_is_refused() {
+    for list in [
+        names(&["Mar", "Mar"]),
+        names(&["Marina", "Mar"]),
+        names(&["Mar", "Market Square", "Marina"]),
+    ] {
+        for block in [1, 2, 64] {
+            assert_eq!(book_check(&book_of(block, &list)), no(2));
+        }
+    }
+}
+
+#[test]
+fn a_book_of_65536_bytes_is_refused() {
+    for block in [1, 16] {
+        let longest = book_of(block, &names_for_book_length(65_535, block));
+        assert_eq!(longest.len(), 65_535);
+        assert_eq!(book_check(&longest), yes(320, block));
+        let longer = book_of(block, &names_for_book_length(65_536, block));
+        assert_eq!(longer.len(), 65_536);
+        assert_eq!(book_check(&longer), no(2));
+    }
+}
+
+// Any bytes at all
+
+#[test]
+fn short_runs_of_equal_bytes_are_no_books() {
+    for length in 0..=200 {
+        for byte in [0, 1, 2, 16, 255] {
+            assert_eq!(book_check(&vec![byte; length]), no(2));
+        }
+    }
+}
+
+#[test]
+fn a_trailer_that_promises_65535_names_is_refused() {
+    for byte in [0u8, 1, 255] {
+        let mut bytes = vec![byte; 65_535];
+        let trailer = bytes.len() - 16;
+        bytes[trailer..].copy_from_slice(&BOOK_85[69..]);
+        bytes[trailer..trailer + 2].fill(255);
+        assert_eq!(book_check(&bytes), no(2));
+    }
+}
+
+#[test]
+fn a_very_long_run_of_bytes_is_refused() {
+    let mut bytes = vec![1; 300_000];
+    bytes.extend(BOOK_85);
+    assert_eq!(book_check(&bytes), no(2));
+}
+
+#[test]
+fn random_bytes_are_no_books_and_the_check_ends() {
+    for seed in 0..2000 {
+        let mut random = Random::from_seed(seed);
+        let length = random.below(120);
+        let bytes: Vec<u8> = (0..length).map(|_| random.byte()).collect();
+        assert_eq!(book_check(&bytes), no(2), "seed {seed}");
+    }
+}
+
+#[test]
+fn random_bytes_before_a_good_trailer_are_refused_or_a_book() {
+    for seed in 0..2000 {
+        let mut random = Random::from_seed(seed);
+        let mut bytes = BOOK_85;
+        for byte in &mut bytes[..69] {
+            *byte = random.one_of(&[0, 1, 2, 3, 4, 13, b'M', 255]);
+        }
+        is_accepted(&bytes);
+    }
+}
+
+#[test]
+fn several_changed_bytes_are_refused_or_make_another_sound_book() {
+    let list = names(&["Bar", "Bark", "Mar", "Marina", "Market Square", "Max"]);
+    for seed in 0..4000 {
+        let mut random = Random::from_seed(seed);
+        let block = 1 + random.below(7);
+        let mut bytes = built(&list, block);
+        for _ in 0..2 + random.below(4) {
+            let offset = random.below(bytes.len());
+            // Small numbers and near values do the most harm.
+            bytes[offset] = match random.below(3) {
+                0 => random.byte(),
+                1 => random.below(8) as u8,
+                _ => bytes[offset].wrapping_add(random.one_of(&[1, 255])),
+            };
+        }
+        is_accepted(&bytes);
+    }
+}
+
+// One list and one block size
+
+#[test]
+fn different_names_or_block_sizes_never_give_the_same_book() {
+    let lists = [
+        names(&[]),
+        names(&["Mar"]),
+        names(&["Mar", "Marina"]),
+        names(&["Mar", "Marina", "Market Square"]),
+        names(&["Mar", "Marine", "Market Square"]),
+        names(&["Mar", "Marina", "Market", "Market Square"]),
+        names(&["Marina", "Market Square"]),
+    ];
+    let mut books = Vec::new();
+    for list in &lists {
+        for block in 1..=64 {
+            books.push(built(list, block));
+        }
+    }
+    let count = books.len();
+    books.sort();
+    books.dedup();
+    assert_eq!(books.len(), count);
+}

@@ -1,0 +1,205 @@
+//! What several test files need: the worked example, written out from document
+//! 01 byte by byte, and small ways to say a list, a call or an answer.
+
+// Each test file is a program of its own and uses only some of these.
+#![allow(dead_code)]
+
+use model::{book_build, write_list, Answer};
+
+/// The book of Mar, Marina, Market Square with k = 2. Not produced by any
+/// code: each byte is copied from "A book in full".
+#[rustfmt::skip]
+pub const BOOK_85: [u8; 85] = [
+    // entries: 00 03 Mar, 03 03 ina, 00 0D Market Square
+    0x00, 0x03, 0x4D, 0x61, 0x72,
+    0x03, 0x03, 0x69, 0x6E, 0x61,
+    0x00, 0x0D, 0x4D, 0x61, 0x72, 0x6B, 0x65, 0x74, 0x20, 0x53, 0x71, 0x75, 0x61, 0x72, 0x65,
+    // block table
+    0x00, 0x00, 0x0A, 0x00,
+    // nodes: (0,3,0,3,4), (0,4,0,1,1), (106,7,1,1,1), (108,14,2,1,1)
+    0x00, 0x00, 0x03, 0x00, 0x00, 0x00, 0x03, 0x00, 0x04, 0x00,
+    0x00, 0x00, 0x04, 0x00, 0x00, 0x00, 0x01, 0x00, 0x01, 0x00,
+    0x6A, 0x00, 0x07, 0x00, 0x01, 0x00, 0x01, 0x00, 0x01, 0x00,
+    0x6C, 0x00, 0x0E, 0x00, 0x02, 0x00, 0x01, 0x00, 0x01, 0x00,
+    // trailer
+    0x03, 0x00, 0x02, 0x00, 0x19, 0x00, 0x1D, 0x00, 0x04, 0x00, 0x55, 0x00,
+    0x4E, 0x42, 0x4B, 0x31,
+];
+
+/// The same names with k = 4: one block, and so 03 0A ket Square.
+#[rustfmt::skip]
+pub const BOOK_80: [u8; 80] = [
+    // entries
+    0x00, 0x03, 0x4D, 0x61, 0x72,
+    0x03, 0x03, 0x69, 0x6E, 0x61,
+    0x03, 0x0A, 0x6B, 0x65, 0x74, 0x20, 0x53, 0x71, 0x75, 0x61, 0x72, 0x65,
+    // block table
+    0x00, 0x00,
+    // nodes, the same four
+    0x00, 0x00, 0x03, 0x00, 0x00, 0x00, 0x03, 0x00, 0x04, 0x00,
+    0x00, 0x00, 0x04, 0x00, 0x00, 0x00, 0x01, 0x00, 0x01, 0x00,
+    0x6A, 0x00, 0x07, 0x00, 0x01, 0x00, 0x01, 0x00, 0x01, 0x00,
+    0x6C, 0x00, 0x0E, 0x00, 0x02, 0x00, 0x01, 0x00, 0x01, 0x00,
+    // trailer
+    0x03, 0x00, 0x04, 0x00, 0x16, 0x00, 0x18, 0x00, 0x04, 0x00, 0x50, 0x00,
+    0x4E, 0x42, 0x4B, 0x31,
+];
+
+/// The book without names, k = 2: the trailer alone.
+pub const EMPTY_BOOK: [u8; 16] = [0, 0, 2, 0, 0, 0, 0, 0, 0, 0, 16, 0, 0x4E, 0x42, 0x4B, 0x31];
+
+/// The list of the worked example as records.
+pub const MAR_LIST: &[u8] = b"\x03Mar\x06Marina\x0DMarket Square";
+
+/// What a room holds before a call, so that every change shows.
+pub const FILLING: u8 = 0xAA;
+
+/// An answer row before a call, so that every change shows.
+pub const UNSET: Answer = Answer {
+    code: 901,
+    first: 902,
+    second: 903,
+};
+
+/// Names given as texts.
+pub fn names(texts: &[&str]) -> Vec<Vec<u8>> {
+    texts.iter().map(|text| text.as_bytes().to_vec()).collect()
+}
+
+/// Mar, Marina, Market Square.
+pub fn mar_names() -> Vec<Vec<u8>> {
+    names(&["Mar", "Marina", "Market Square"])
+}
+
+/// An accepted answer.
+pub fn yes(first: usize, second: usize) -> Answer {
+    answer(0, first, second)
+}
+
+/// A refusal with zeros beside it.
+pub fn no(code: usize) -> Answer {
+    answer(code, 0, 0)
+}
+
+/// A refusal of one list record.
+pub fn no_record(code: usize, record: usize) -> Answer {
+    answer(code, record, 0)
+}
+
+/// Any answer.
+pub fn answer(code: usize, first: usize, second: usize) -> Answer {
+    Answer {
+        code,
+        first,
+        second,
+    }
+}
+
+/// Builds into a room that is large enough for any book, asserts that the room
+/// past the book is untouched, and gives the book.
+pub fn built(names: &[Vec<u8>], block: usize) -> Vec<u8> {
+    let mut room = vec![FILLING; 65_536];
+    let answer = book_build(&write_list(names), block, &mut room);
+    assert_eq!((answer.code, answer.second), (0, 0), "{answer:?}");
+    assert!(room[answer.first..].iter().all(|&byte| byte == FILLING));
+    room.truncate(answer.first);
+    room
+}
+
+/// Asserts that a build is refused like this and leaves its room as it was.
+pub fn assert_build_refused(list: &[u8], block: usize, room_length: usize, expected: Answer) {
+    let mut room = vec![FILLING; room_length];
+    assert_eq!(book_build(list, block, &mut room), expected);
+    assert_eq!(room, vec![FILLING; room_length]);
+}
+
+/// So many rising names of two bytes: 250 with first byte 0, 250 with 1, ..
+pub fn many_names(wanted: usize) -> Vec<Vec<u8>> {
+    let mut names = Vec::new();
+    for first in 0..=255u8 {
+        for second in 0..250u8 {
+            names.push(vec![first, second]);
+        }
+    }
+    names.truncate(wanted);
+    names
+}
+
+/// A list whose book with block size 1 or 16 has exactly `wanted` bytes.
+///
+/// It starts from 320 heads of two bytes: 160 times (1, b), 160 times (2, b).
+/// The tree of the heads has a root, two inner nodes and 320 leaves, so 323
+/// nodes. Bytes put behind a head change nothing but the entry they stand in:
+/// no neighbour shares them, and no node begins at them. So each adds one byte
+/// to the book. Only the book of the bare heads has to be counted:
+///
+/// - k = 1: 16 + 323 * 10 + 320 block starts * 2 + 320 entries * 4 = 5,166;
+/// - k = 16: 20 blocks, and the 300 names that do not start one share their
+///   first byte with the name before, so 300 entries are a byte shorter:
+///   16 + 323 * 10 + 20 * 2 + 20 * 4 + 300 * 3 = 4,266.
+pub fn names_for_book_length(wanted: usize, block: usize) -> Vec<Vec<u8>> {
+    let bare_length = match block {
+        1 => 5_166,
+        16 => 4_266,
+        _ => panic!("counted for block sizes 1 and 16 only"),
+    };
+    let mut missing = wanted - bare_length;
+    let mut names = Vec::new();
+    for first in 1..=2u8 {
+        for second in 0..160u8 {
+            let tail = missing.min(198);
+            missing -= tail;
+            let mut name = vec![first, second];
+            name.extend(vec![b'x'; tail]);
+            names.push(name);
+        }
+    }
+    assert_eq!(missing, 0, "320 names of 200 bytes cannot hold so much");
+    names
+}
+
+/// A tiny generator of numbers that look random: xorshift, 64 bits.
+pub struct Random {
+    state: u64,
+}
+
+impl Random {
+    /// The same seed gives the same numbers; the state must not be 0.
+    pub fn from_seed(seed: u64) -> Random {
+        let mut random = Random {
+            state: seed.wrapping_mul(0x9E37_79B9_7F4A_7C15) | 1,
+        };
+        for _ in 0..8 {
+            random.next();
+        }
+        random
+    }
+
+    fn next(&mut self) -> u64 {
+        self.state ^= self.state << 13;
+        self.state ^= self.state >> 7;
+        self.state ^= self.state << 17;
+        self.state
+    }
+
+    /// A number from 0 up to, but without, `limit`.
+    pub fn below(&mut self, limit: usize) -> usize {
+        (self.next() >> 16) as usize % limit
+    }
+
+    /// Any byte.
+    pub fn byte(&mut self) -> u8 {
+        self.below(256) as u8
+    }
+
+    /// One byte of these.
+    pub fn one_of(&mut self, bytes: &[u8]) -> u8 {
+        bytes[self.below(bytes.len())]
+    }
+
+    /// A string over these bytes, of a length from `least` to `most`.
+    pub fn string(&mut self, bytes: &[u8], least: usize, most: usize) -> Vec<u8> {
+        let length = least + self.below(most - least + 1);
+        (0..length).map(|_| self.one_of(bytes)).collect()
+    }
+}

@@ -1,0 +1,230 @@
+//! Document 01, "Questions", asked one at a time.
+
+mod common;
+
+use common::{built, mar_names, names, no, yes, BOOK_85, EMPTY_BOOK};
+use model::questions::{node_reached, Kind};
+use model::tree::tree;
+use model::{book_exact, book_nearest, book_place, book_range, Answer};
+
+/// All four answers to one question, in the order of the kinds.
+fn all_four(book: &[u8], question: &[u8]) -> [Answer; 4] {
+    [
+        book_exact(book, question),
+        book_place(book, question),
+        book_range(book, question),
+        book_nearest(book, question),
+    ]
+}
+
+// Exact
+
+#[test]
+fn exact_finds_every_name_at_its_position() {
+    for (position, name) in mar_names().iter().enumerate() {
+        assert_eq!(book_exact(&BOOK_85, name), yes(position, 1));
+    }
+}
+
+#[test]
+fn exact_at_position_0_differs_from_not_found_by_its_second_number() {
+    assert_eq!(book_exact(&BOOK_85, b"Mar"), yes(0, 1));
+    assert_eq!(book_exact(&BOOK_85, b"Max"), yes(0, 0));
+}
+
+#[test]
+fn exact_does_not_take_beginnings_or_extensions() {
+    for question in ["", "M", "Ma", "Marin", "Marinas", "Market", "Mar "] {
+        let answer = book_exact(&BOOK_85, question.as_bytes());
+        assert_eq!(answer, yes(0, 0), "{question}");
+    }
+}
+
+#[test]
+fn exact_tells_a_name_from_itself_with_a_zero_byte_behind() {
+    let book = built(&[b"Mar".to_vec(), b"Mar\0".to_vec()], 2);
+    assert_eq!(book_exact(&book, b"Mar"), yes(0, 1));
+    assert_eq!(book_exact(&book, b"Mar\0"), yes(1, 1));
+    assert_eq!(book_exact(&book, b"Mar\0\0"), yes(0, 0));
+}
+
+// Place
+
+#[test]
+fn the_place_of_a_name_is_its_position() {
+    for (position, name) in mar_names().iter().enumerate() {
+        assert_eq!(book_place(&BOOK_85, name), yes(position, 0));
+    }
+}
+
+#[test]
+fn place_between_before_and_behind_the_names() {
+    let rows = [
+        ("A", 0),
+        ("Mango", 0),
+        ("Maq", 0),
+        ("Mara", 1),
+        ("Marinas", 2),
+        ("Marj", 2),
+        ("Market Squard", 2),
+        ("Market Squares", 3),
+        ("Maxim", 3),
+        ("Zoo", 3),
+    ];
+    for (question, less) in rows {
+        let answer = book_place(&BOOK_85, question.as_bytes());
+        assert_eq!(answer, yes(less, 0), "{question}");
+    }
+}
+
+#[test]
+fn place_above_names_of_255() {
+    let book = built(&[vec![255], vec![255, 255]], 2);
+    assert_eq!(book_place(&book, &[254]), yes(0, 0));
+    assert_eq!(book_place(&book, &[255]), yes(0, 0));
+    assert_eq!(book_place(&book, &[255, 0]), yes(1, 0));
+    assert_eq!(book_place(&book, &[255, 255]), yes(1, 0));
+    assert_eq!(book_place(&book, &[255, 255, 255]), yes(2, 0));
+}
+
+// Range
+
+#[test]
+fn an_empty_question_begins_every_name() {
+    assert_eq!(book_range(&BOOK_85, b""), yes(0, 3));
+}
+
+#[test]
+fn a_range_is_the_question_s_place_and_the_names_that_begin_with_it() {
+    let rows = [
+        ("M", 0, 3),
+        ("Mar", 0, 3),
+        ("Mari", 1, 1),
+        ("Marina", 1, 1),
+        ("Marinas", 2, 0),
+        ("Mark", 2, 1),
+        ("Market Square", 2, 1),
+        ("Market Squares", 3, 0),
+        ("A", 0, 0),
+        ("Z", 3, 0),
+    ];
+    for (question, less, beginning) in rows {
+        let answer = book_range(&BOOK_85, question.as_bytes());
+        assert_eq!(answer, yes(less, beginning), "{question}");
+    }
+}
+
+#[test]
+fn a_range_without_names_still_gives_the_place() {
+    assert_eq!(book_range(&BOOK_85, b"Mas"), yes(3, 0));
+    assert_eq!(book_range(&BOOK_85, b"Mara"), yes(1, 0));
+}
+
+// Nearest
+
+#[test]
+fn nearest_gives_every_name_for_itself() {
+    for (position, name) in mar_names().iter().enumerate() {
+        assert_eq!(book_nearest(&BOOK_85, name), yes(position, name.len()));
+    }
+}
+
+#[test]
+fn nearest_stops_where_no_child_fits() {
+    // d is 3; no name has x, q or another byte than i or k there.
+    assert_eq!(book_nearest(&BOOK_85, b"Marx"), yes(0, 3));
+    assert_eq!(book_nearest(&BOOK_85, b"Mango"), yes(0, 2));
+}
+
+#[test]
+fn nearest_stops_where_the_depth_exceeds_the_question_s_length() {
+    assert_eq!(book_nearest(&BOOK_85, b""), yes(0, 0));
+    assert_eq!(book_nearest(&BOOK_85, b"Ma"), yes(0, 2));
+}
+
+#[test]
+fn nearest_takes_the_end_symbol_where_the_depth_is_the_question_s_length() {
+    // The node of Mar and Marina has depth 3, and so many bytes has Mar. Its
+    // end symbol still leads to the leaf. Both nodes begin with the same name,
+    // so only the node itself tells, not the answer.
+    let list = names(&["Lar", "Mar", "Marina", "Nar"]);
+    let root = tree(&list).expect("there are names");
+    let leaf = node_reached(&root, b"Mar");
+    assert_eq!((leaf.symbol, leaf.depth, leaf.first), (0, 4, 1));
+    let inner = node_reached(&root, b"Ma");
+    assert_eq!((inner.symbol, inner.depth, inner.first), (78, 3, 1));
+    let book = built(&list, 4);
+    assert_eq!(book_nearest(&book, b"Mar"), yes(1, 3));
+    assert_eq!(book_nearest(&book, b"Ma"), yes(1, 2));
+}
+
+#[test]
+fn nearest_gives_the_first_name_of_the_node_reached() {
+    // At depth 2 no child of the node of Mar and Max fits y.
+    let book = built(&names(&["Lar", "Mar", "Max", "Nar"]), 4);
+    assert_eq!(book_nearest(&book, b"Mxy"), yes(1, 1));
+    // But x fits, though the byte before it was never looked at.
+    assert_eq!(book_nearest(&book, b"Mxx"), yes(2, 1));
+    // No child of the root fits; the root's first name is given.
+    assert_eq!(book_nearest(&book, b"Zoo"), yes(0, 0));
+}
+
+#[test]
+fn nearest_in_a_book_of_one_name_is_that_name() {
+    let book = built(&names(&["Mar"]), 1);
+    for (question, shared) in [("", 0), ("M", 1), ("Mar", 3), ("Marina", 3), ("Zoo", 0)] {
+        let answer = book_nearest(&book, question.as_bytes());
+        assert_eq!(answer, yes(0, shared), "{question}");
+    }
+}
+
+#[test]
+fn nearest_goes_down_the_longest_path() {
+    let mut list: Vec<Vec<u8>> = (1..=200).map(|length| vec![b'a'; length]).collect();
+    list.push(b"b".to_vec());
+    let book = built(&list, 64);
+    assert_eq!(book_nearest(&book, &[b'a'; 200]), yes(199, 200));
+    assert_eq!(book_nearest(&book, &[b'a'; 100]), yes(99, 100));
+    let mut question = vec![b'a'; 199];
+    question.push(b'c');
+    // 199 symbols fit; at depth 199 there is no child for c.
+    assert_eq!(book_nearest(&book, &question), yes(198, 199));
+}
+
+// The empty question
+
+#[test]
+fn the_empty_question_where_the_root_has_depth_0() {
+    let book = built(&names(&["Bar", "Mar"]), 1);
+    let expected = [yes(0, 0), yes(0, 0), yes(0, 2), yes(0, 0)];
+    assert_eq!(all_four(&book, b""), expected);
+}
+
+#[test]
+fn the_empty_question_where_the_root_is_deeper() {
+    let expected = [yes(0, 0), yes(0, 0), yes(0, 3), yes(0, 0)];
+    assert_eq!(all_four(&BOOK_85, b""), expected);
+}
+
+// The book without names
+
+#[test]
+fn only_nearest_is_refused_of_a_book_without_names() {
+    for question in [&b""[..], b"Mar"] {
+        let expected = [yes(0, 0), yes(0, 0), yes(0, 0), no(10)];
+        assert_eq!(all_four(&EMPTY_BOOK, question), expected);
+    }
+}
+
+// Kinds
+
+#[test]
+fn kinds_are_numbered_in_the_order_exact_place_range_nearest() {
+    assert_eq!(Kind::of_number(1), Some(Kind::Exact));
+    assert_eq!(Kind::of_number(2), Some(Kind::Place));
+    assert_eq!(Kind::of_number(3), Some(Kind::Range));
+    assert_eq!(Kind::of_number(4), Some(Kind::Nearest));
+    for number in [0, 5, 255, 257, usize::MAX] {
+        assert_eq!(Kind::of_number(number), None);
+    }
+}
