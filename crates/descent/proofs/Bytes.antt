@@ -2,7 +2,7 @@
 --     book-searchable, opened-searchable
 --     asked-name       the word of the name at a position
 -- Assumes nothing.
-use Prim.Native.Nat.{ℕ, zero, suc, _+_, _*_, _≤_, _<_, zero-le}
+use Prim.Native.Nat.{ℕ, _+_, _*_, _≤_, _<_}
 use native.Mathlib.Omega.{arith}
 use mathlib.Core.Path.{_≡_, sym, ap, ap₂, _∙_, subst}
 use mathlib.Core.Bool.{true}
@@ -16,7 +16,7 @@ use Rattle.format.specs.Nodes.{Node, table}
 use Rattle.format.specs.Records.{longest, mostNames, sound}
 use Rattle.format.proofs.Book.{Fits, book-length, book-opened, book-parts, fields-length, fits-parts, nodesAt, opened-book, read-field, trailerNumbers}
 use Rattle.format.proofs.Numbers.{number-past, numbers-at, numbers-length, word-high}
-use Rattle.format.proofs.Records.{rising-sizes, sound-few, sound-rises, sound-rising}
+use Rattle.format.proofs.Records.{rising-sizes, sound-few, sound-rises, sound-rising, word-short}
 use Rattle.format.proofs.Small.{Modest, fields-at, names-bytes, table-small}
 use Rattle.format.proofs.Spans.{table-few}
 use Rattle.descent.proofs.Vocabulary.{NodesAt, Searchable, asked, namesOf, noNode, node, startIn, wordsIn}
@@ -71,14 +71,9 @@ module _ (ρ : Rule) (ok : Lawful ρ) (k : ℕ) (xs : List Bytes) (fit : fits ρ
         some = omega arith;
         few = omega arith;
         small = omega (arith, ap (λ (vs : Words). length (table vs)) names, table-few (map (word ρ) xs) up (omega (arith, count)), count);
-        short = subst (λ (vs : Words). (i : ℕ) → length (nth vs i) ≤ longest) (sym names) (λ i. short-at (map (word ρ) xs) small i);
+        short = subst (λ (vs : Words). (i : ℕ) → length (nth vs i) ≤ longest) (sym names) (word-short ρ xs (f .sound));
         table = subst (λ (vs : Words). NodesAt (book ρ k xs) (startIn (book ρ k xs)) vs) (sym names) (rw (read-field ρ k xs f 3 (omega arith)) table-at);
       }
-    where
-      short-at : (vs : Words) → All Modest vs → (i : ℕ) → length (nth vs i) ≤ longest
-      short-at [] a i = zero-le
-      short-at (v ∷ vs) (cons h a) zero = h .short
-      short-at (v ∷ vs) (cons h a) (suc i) = short-at vs a i
 
 -- bytes that open as a book with names
 pub opened-searchable : (ρ : Rule) → Lawful ρ → (s : Bytes) (k : ℕ) (xs : List Bytes) → opened ρ s ≡ Book k xs → InBytes s → 0 < length xs → Searchable ρ s (startIn s)

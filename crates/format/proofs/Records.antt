@@ -1,7 +1,7 @@
 -- A list's bytes and its names: each sound list of names is read from one run of bytes, and no other is read.
 --     read-skip                 what was skipped does not count
 --     read-encode, read-sound   the round trip, both ways
---     sound-few, sound-rising, rising-sizes, sound-rises    what a sound list's names are; their words rise
+--     sound-few, sound-rising, rising-sizes, sound-rises, word-short    what a sound list's names are; their words rise
 --     from-rising, from-sound                and back
 -- Assumes nothing.
 use Prim.Native.Nat.{ℕ, suc-le-suc, zero, suc, _-_, _≤_, _<_, zero-le}
@@ -11,10 +11,10 @@ use mathlib.Core.Path.{_≡_, refl, ap, ap₂, _∙_}
 use mathlib.Core.Bool.{Bool, true, false}
 use mathlib.Core.List.{List, [], _∷_, _++_, map}
 use lib.Dec.{leb, ltb}
-use lib.ListN.{length, getD, take, drop, length-append, take-append-drop}
+use lib.ListN.{length, length-map, getD, take, drop, length-append, take-append-drop}
 use lib.Seq.{take-append-seam, drop-append-seam, length-take-le}
 use borrow.Author.Tests.{lt-ltb, ltb-true, leb-true, le-leb}
-use Rattle.words.specs.Words.{All, Bytes, Lawful, Rises, Rule, both, cons, less, nil, pick, rise, start, word}
+use Rattle.words.specs.Words.{All, Bytes, Lawful, Rises, Rule, both, cons, less, nil, nth, pick, rise, start, word}
 use Rattle.words.proofs.Lists.{all-map}
 use Rattle.words.proofs.Rising.{Above}
 use Rattle.words.proofs.Words.{both-true, less-start, less-trans, word-positive}
@@ -140,6 +140,14 @@ rising-rises ρ ok prev (x ∷ xs) h =
 
 pub sound-rises : (ρ : Rule) → Lawful ρ → (xs : List Bytes) → sound ρ xs ≡ true → Rises (map (word ρ) xs)
 sound-rises ρ ok xs h = rising-rises ρ ok [] xs (sound-rising ρ xs h) .1
+
+pub word-short : (ρ : Rule) (xs : List Bytes) → sound ρ xs ≡ true → (i : ℕ) → length (nth (map (word ρ) xs) i) ≤ longest
+word-short ρ xs is i = go xs i (rising-sizes ρ [] xs (sound-rising ρ xs is))
+  where
+    go : (ys : List Bytes) (j : ℕ) → All (λ x. (1 ≤ length x) × (length x ≤ longest)) ys → length (nth (map (word ρ) ys) j) ≤ longest
+    go [] j a = zero-le
+    go (y ∷ ys) zero (cons h a) = omega (arith, length-map y ρ, h .1)
+    go (y ∷ ys) (suc j) (cons h a) = go ys j a
 
 -- ---- and back
 

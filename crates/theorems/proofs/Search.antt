@@ -1,5 +1,6 @@
--- What a blind search over the flat node table may conclude, for any rising words and any question q. The words of it are in the
--- crate descent, proofs/Vocabulary.antt: node numbers, their spans from `from` up to `upto`, the path of a descent.
+-- What a blind search over the flat node table of a sound list may conclude, for any question and any lawful rule; ws are the names'
+-- words and q is the question's. The laws, for any rising words, and the words of the search are in the crate descent: node
+-- numbers, their spans from `from` up to `upto`, the path of a descent (proofs/Vocabulary.antt).
 --     search-descends   every question has a descent of at most 202 nodes, from the root to where it halts
 --     search-reaches    its last node's first name is the one that the definition reaches
 --     search-finds      the highest node on it whose depth is at least what the reached name shares holds just the names that share most
@@ -12,10 +13,14 @@
 use Prim.Native.Nat.{ℕ, _+_, _≤_, _<_}
 use native.Mathlib.Omega.{arith}
 use mathlib.Core.Path.{_≡_, refl, sym, ap, ap₂, _∙_}
-use mathlib.Core.List.{List}
-use lib.ListN.{length}
-use Rattle.words.specs.Words.{Bytes, InBytes, Lawful, Positive, Rises, Rule, Words, at, begins, nth, shared}
+use mathlib.Core.Bool.{true}
+use mathlib.Core.List.{List, map}
+use lib.ListN.{length, length-map}
+use Rattle.words.specs.Words.{Bytes, InBytes, Lawful, Rises, Rule, Words, at, begins, nth, shared, word}
+use Rattle.words.proofs.Words.{word-positive}
 use Rattle.format.specs.Book.{Book, opened}
+use Rattle.format.specs.Records.{sound}
+use Rattle.format.proofs.Records.{sound-rises, word-short}
 use Rattle.answers.specs.Questions.{Pair, count, exact, place, range, reached}
 use Rattle.answers.proofs.Nearest.{reached-most, reached-within}
 use Rattle.descent.proofs.Bytes.{opened-searchable}
@@ -24,9 +29,18 @@ use Rattle.descent.proofs.Exists.{Descent, descent-exists}
 use Rattle.descent.proofs.Paths.{edge-after, edge-before, fork-child, fork-end, found, only-reached, reached-is}
 use Rattle.descent.proofs.Vocabulary.{Descended, Found, Highest, Searchable, Sought, from, node, startIn, upto}
 
-module _ (ws : Words) (r : Rises ws) (q : List ℕ) where
-  pub search-descends : (short : (i : ℕ) → length (nth ws i) ≤ 200) → 0 < length ws → Descent ws r q short
-  search-descends short h = descent-exists ws r q short h
+module _ (ρ : Rule) (ok : Lawful ρ) (xs : List Bytes) (is : sound ρ xs ≡ true) (question : Bytes) where
+  abbrev pub ws : Words
+  ws = map (word ρ) xs
+
+  abbrev pub q : List ℕ
+  q = word ρ question
+
+  pub r : Rises (map (word ρ) xs)
+  r = sound-rises ρ ok xs is
+
+  pub search-descends : 0 < length xs → Descent ws r q (word-short ρ xs is)
+  search-descends h = descent-exists ws r q (word-short ρ xs is) (omega (arith, length-map xs (word ρ)))
 
   module _ {p : List ℕ} {n v : ℕ} (t : Descended ws q p n v) where
     pub search-reaches : reached q ws ≡ from ws v
@@ -36,12 +50,12 @@ module _ (ws : Words) (r : Rises ws) (q : List ℕ) where
     pub search-finds : {u : ℕ} → Highest ws p n (shared q (nth ws (reached q ws))) u → Found ws q (shared q (nth ws (reached q ws))) u
     search-finds h = found ws r t refl h
 
-    pub search-not-exact : Positive q → (nth ws (reached q ws) ≡ q → ⊥) → exact q ws ≡ (0, 0)
-    search-not-exact pos n =
-        exact-nowhere ws q r pos (λ i h e. n (ap (nth ws) (sym (only-reached ws r t i h e)) ∙ e))
+    pub search-not-exact : (nth ws (reached q ws) ≡ q → ⊥) → exact q ws ≡ (0, 0)
+    search-not-exact n =
+        exact-nowhere ws q r (word-positive ρ ok question) (λ i h e. n (ap (nth ws) (sym (only-reached ws r t i h e)) ∙ e))
 
-  pub search-exact : Positive q → 0 < length ws → nth ws (reached q ws) ≡ q → exact q ws ≡ (reached q ws, 1)
-  search-exact pos h e = exact-here ws q r pos (reached q ws) (reached-within q ws r h) e
+  pub search-exact : 0 < length xs → nth ws (reached q ws) ≡ q → exact q ws ≡ (reached q ws, 1)
+  search-exact h e = exact-here ws q r (word-positive ρ ok question) (reached q ws) (reached-within q ws r (omega (arith, length-map xs (word ρ)))) e
 
   module _ {m u : ℕ} (f : Found ws q m u) where
     pub search-before : m < node ws u .depth → at (nth ws (reached q ws)) m < at q m → upto ws u ≡ place q ws
