@@ -233,6 +233,11 @@ pub table-root : (ws : Words) → table ws ≡ nodeTable 0 0 ws
 unfolding table
 table-root ws = refl
 
+pub table-empty : (ws : Words) → length ws ≡ 0 → table ws ≡ []
+unfolding table nodeTable tableWithin
+table-empty [] e = refl
+table-empty (w ∷ ws) e = absurd (omega arith)
+
 pub node-one : (i s : ℕ) (w : List ℕ) → nodeTable i s (w ∷ []) ≡ leaf i s w ∷ []
 unfolding nodeTable tableWithin
 node-one i s w = refl

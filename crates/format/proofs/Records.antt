@@ -1,6 +1,7 @@
 -- A list's bytes and its names: each sound list of names is read from one run of bytes, and no other is read.
 --     read-skip                 what was skipped does not count
 --     read-encode, read-sound   the round trip, both ways
+--     read-refused              a list that is not read is refused with 5, 6 or 7
 --     sound-few, sound-rising, rising-sizes, sound-rises, word-short    what a sound list's names are; their words rise
 --     from-rising, from-sound                and back
 -- Assumes nothing.
@@ -92,6 +93,31 @@ unfolding readList sound
 read-sound ρ s xs e =
     let b = read-back ρ 0 [] 0 s xs zero-le e in
     (b .bytes, rw (le-leb (length xs) mostNames (omega (arith, b .few))) (b .rises))
+
+-- ---- a list that is not read
+
+from-refused : (ρ : Rule) (i : ℕ) (prev : Bytes) (n : ℕ) (s : Bytes) (code j : ℕ) → readFrom ρ i prev n s ≡ Refused code j → 5 ≤ code
+unfolding readFrom
+from-refused ρ i prev zero [] code j e = let z : _≡_ {A = ℕ} 0 1 = cc in absurd (omega arith)
+from-refused ρ i prev (suc n) [] code j e = let z : _≡_ {A = ℕ} 0 1 = cc in absurd (omega arith)
+from-refused ρ i prev (suc n) (b ∷ s) code j e = from-refused ρ i prev n s code j e
+from-refused ρ i prev zero (n ∷ rest) code j e =
+    go (both (goodLength n) (leb n (length rest))) (less (word ρ prev) (word ρ (take n rest))) (ltb i mostNames) (readFrom ρ (suc i) (take n rest) n rest) refl
+    (λ c k. from-refused ρ (suc i) (take n rest) n rest c k) e
+  where
+    go : (a b c : Bool) (r : Reading) → readFrom ρ (suc i) (take n rest) n rest ≡ r
+        → ((c′ k : ℕ) → readFrom ρ (suc i) (take n rest) n rest ≡ Refused c′ k → 5 ≤ c′)
+        → pick a (pick b (pick c (after (take n rest) r) (Refused 7 i)) (Refused 6 i)) (Refused 5 i) ≡ Refused code j
+        → 5 ≤ code
+    go true true true (Names xs) f ih e′ = let z : _≡_ {A = ℕ} 0 1 = cc in absurd (omega arith)
+    go true true true (Refused c k) f ih e′ = let same : c ≡ code = cc in omega (arith, ih c k f)
+    go true true false r f ih e′ = let same : 7 ≡ code = cc in omega arith
+    go true false c r f ih e′ = let same : 6 ≡ code = cc in omega arith
+    go false b c r f ih e′ = let same : 5 ≡ code = cc in omega arith
+
+pub read-refused : (ρ : Rule) (s : Bytes) (code i : ℕ) → readList ρ s ≡ Refused code i → 5 ≤ code
+unfolding readList
+read-refused ρ s code i e = from-refused ρ 0 [] 0 s code i e
 
 -- ---- what a sound list is
 

@@ -3,7 +3,7 @@
 --     deep-is, first-share, span-share, at-rises   the depth of a span, and symbols at it
 --     table-one, table-more                        a node
 --     table-none, table-run                        a row
---     ranked-span, ranked-rest, first-proper
+--     ranked-span, ranked-within, ranked-rest, first-proper
 --     span-few, table-few                          how many nodes
 -- Assumes nothing.
 use Prim.Native.Nat.{ℕ, suc, _+_, _-_, _*_, pred, _≤_, _<_}
@@ -16,10 +16,10 @@ use lib.ListN.{length}
 use lib.Seq.{take-length, slice-empty, length-slice}
 use Rattle.words.specs.Words.{All, Rises, Words, at, cons, nil, nth, shared, span}
 use Rattle.words.proofs.Lists.{all-append}
-use Rattle.words.proofs.Rising.{nth-less, nth-positive, span-cons, span-length, span-one, span-rises, span-split, span-two}
+use Rattle.words.proofs.Rising.{nth-less, nth-positive, span-all, span-cons, span-length, span-one, span-rises, span-split, span-two}
 use Rattle.words.proofs.Words.{apart, between, less-at, less-parts, shared-comm, shared-le, shared-self, shared-trans}
 use Rattle.format.specs.Nodes.{deep, depth, fork, leaf, nodeTable, rowTable, table}
-use Rattle.format.proofs.Groups.{Climbs, Ranked, Same, depth-last, last, node-few, node-more, node-one, ranked-group, ranked-right, row-none, row-run, run-end, run-same, table-root}
+use Rattle.format.proofs.Groups.{Climbs, Ranked, Same, Share, climbs, depth-last, last, node-few, node-more, node-one, ranked-group, ranked-right, row-none, row-run, run-end, run-same, table-root}
 
 module _ (ws : Words) where
   last-snoc : (v : List ℕ) (vs us : Words) (z : List ℕ) → v ∷ vs ≡ us ++ (z ∷ []) → last v vs ≡ z
@@ -147,3 +147,10 @@ module _ (ws : Words) where
         go : (i ≡ k) ⊎ (i < k) → at (nth ws i) d ≤ at (nth ws k) d
         go (inl e) = omega (arith, ap (λ (j : ℕ). at (nth ws j) d) e)
         go (inr h) = less-at (nth ws i) (nth ws k) d (nth-less ws i k r h m) s
+
+    -- a span whose names share d is a row at d
+    pub ranked-within : (d lo hi : ℕ) → lo < hi → hi ≤ length ws → d ≤ deep ws lo hi → Ranked d (span ws lo hi)
+    ranked-within d lo hi a b h =
+        let share : Share d (span ws lo hi) = span-all ws lo hi (omega arith) b (λ i l m.
+        span-all ws lo hi (omega arith) b (λ k x y. omega (arith, span-share lo hi i k b l m x y))) in
+        record { rises = span-rises ws lo hi r; climbs = climbs (span ws lo hi) d (span-rises ws lo hi r) share }

@@ -4,7 +4,7 @@
 --     word-positive, word-injective, shared-word; plain-lawful, plain-injective
 --     shared-self, -comm, -le, -at, -trans, -more, -parts; take-shared
 --     at-past, at-end           past the last symbol stands the end symbol, and nowhere else
---     less-irrefl, -trans, -asym, -at, -parts, -extends; ordered
+--     less-irrefl, -trans, -asym, -at, -parts, -short, -extends; ordered
 --     part-at, leaves, further  where two words part
 --     between, blind, same-side what words that stand near each other have in common
 --     begins-..., same-...
@@ -345,6 +345,15 @@ less-at w v d h k = go (eq-or-lt-of-le k)
     go : (d ≡ shared w v) ⊎ (d < shared w v) → at w d ≤ at v d
     go (inl e) = subst (λ (n : ℕ). at w n ≤ at v n) (sym e) (omega (arith, ltb-true (at w (shared w v)) (at v (shared w v)) h))
     go (inr l) = omega (arith, shared-at w v d l)
+
+-- what a word shares with a lesser one is less than its length
+pub less-short : (x y : List ℕ) → less x y ≡ true → shared x y < length y
+unfolding less
+less-short x y h = go (apart (shared x y) (length y))
+  where
+    go : (shared x y < length y) ⊎ (length y ≤ shared x y) → shared x y < length y
+    go (inl l) = l
+    go (inr l) = absurd (not-suc-le-zero (subst (λ (n : ℕ). at x (shared x y) < n) (at-past y (shared x y) l) (ltb-true (at x (shared x y)) (at y (shared x y)) h)))
 
 -- a word that lies below another differs from it where the two part
 pub less-parts : (w v : List ℕ) → Positive w → Positive v → less w v ≡ true → at v (shared w v) ≡ at w (shared w v) → ⊥

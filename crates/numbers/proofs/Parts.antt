@@ -1,0 +1,93 @@
+-- Laws of what writers leave: bytes at the front of a room, and parts of it that are lent and come back.
+--     part-length               a part of a run of bytes
+--     over-length, over-all     a room that is written over
+--     lent, lent-front          a part behind what is written comes back with more, whole or at its front
+--     two-stored                two bytes, one by one
+--     Numbered: numbered-none, numbered-more, numbered-all     numbers in a row
+-- Assumes nothing.
+use Prim.Native.Nat.{ℕ, _+_, _-_, _*_, _/_, _%_, _≤_, _<_, zero-le}
+use native.Mathlib.Numerals.{add-one}
+use native.Mathlib.Omega.{arith}
+use mathlib.Core.Path.{_≡_, refl, sym, ap, ap₂, _∙_}
+use mathlib.Core.List.{List, [], _∷_, _++_, append-assoc, append-nil}
+use lib.ListN.{length, getD, set, take, drop, length-append, length-take, length-drop}
+use lib.Seq.{take-at, drop-at, drop-drop, take-suc, take-all, drop-length, length-take-le}
+use Rattle.words.specs.Words.{Bytes}
+use Rattle.format.specs.Book.{numbers}
+use Rattle.format.proofs.Numbers.{numbers-append, numbers-length}
+use Rattle.answers.specs.Calls.{over}
+
+-- a part of a run of bytes
+pub part-length : (s : Bytes) (o n : ℕ) → o + n ≤ length s → length (take n (drop o s)) ≡ n
+part-length s o n h = simp (length-take, length-drop) (omega arith)
+
+pub over-length : (out xs : Bytes) → length out ≤ length xs → length (over out xs) ≡ length xs
+over-length out xs h = simp (length-append, length-drop) (omega arith)
+
+-- what fills a room is all of it
+pub over-all : (out xs : Bytes) → length out ≡ length xs → over out xs ≡ out
+over-all out xs e = ap (λ (n : ℕ). out ++ drop n xs) e ∙ ap (λ (r : Bytes). out ++ r) (drop-length xs) ∙ append-nil out
+
+-- p is written, and the part behind it, of k bytes, was lent and came back as ys
+pub lent : (p xs room ys : Bytes) (a k : ℕ) → room ≡ over p xs → length p ≡ a → a + k ≤ length xs → length ys ≡ k
+    → take a room ++ (ys ++ drop k (drop a room)) ≡ over (p ++ ys) xs
+lent p xs room ys a k r e h l =
+    let size : length p + k ≡ length (p ++ ys) = omega (arith, length-append p ys) in
+    let behind : drop k (drop a room) ≡ drop (length (p ++ ys)) xs =
+    ap (λ (z : Bytes). drop k (drop a z)) r ∙ ap (drop k) (drop-at p (drop (length p) xs) a e) ∙ drop-drop k (length p) xs ∙ ap (λ (n : ℕ). drop n xs) size in
+    ap₂ (λ (x z : Bytes). x ++ (ys ++ z)) (ap (take a) r ∙ take-at p (drop (length p) xs) a e) behind
+    ∙ sym (append-assoc p ys (drop (length (p ++ ys)) xs))
+
+-- the part is longer than what was written at its front
+pub lent-front : (p out xs room ys : Bytes) (a k : ℕ) → room ≡ over p xs → length p ≡ a → a + k ≡ length xs → ys ≡ over out (take k (drop a room)) → length out ≤ k
+    → take a room ++ (ys ++ drop k (drop a room)) ≡ over (p ++ out) xs
+lent-front p out xs room ys a k r e h y l =
+    let rest : Bytes = drop (length p) xs in
+    let size : length rest ≡ k = length-drop (length p) xs ∙ omega arith in
+    let behind : drop a room ≡ rest = ap (drop a) r ∙ drop-at p rest a e in
+    let front : ys ≡ out ++ drop (length out) rest = y ∙ ap (λ (z : Bytes). over out (take k z)) behind ∙ ap (over out) (take-all k rest (omega arith)) in
+    let none : drop k (drop a room) ≡ [] = ap (drop k) behind ∙ ap (λ (n : ℕ). drop n rest) (sym size) ∙ drop-length rest in
+    ap₂ (λ (x z : Bytes). x ++ z) (ap (take a) r ∙ take-at p rest a e) (ap₂ (λ (x z : Bytes). x ++ z) front none ∙ append-nil (out ++ drop (length out) rest))
+    ∙ sym (append-assoc p out (drop (length out) rest))
+    ∙ ap (λ (z : Bytes). (p ++ out) ++ z) (drop-drop (length out) (length p) xs ∙ ap (λ (n : ℕ). drop n xs) (sym (length-append p out)))
+
+-- ---- numbers
+
+pub two-stored : (xs : Bytes) (v : ℕ) → length xs ≡ 2 → set (set xs 0 (v % 256)) 1 (v / 256 % 256) ≡ numbers (v ∷ [])
+unfolding numbers
+two-stored [] v h = absurd (omega arith)
+two-stored (x ∷ []) v h = absurd (omega arith)
+two-stored (x ∷ y ∷ []) v h = refl
+two-stored (x ∷ y ∷ z ∷ xs) v h = absurd (omega arith)
+
+-- the first i numbers are written
+pub record Numbered (ns : List ℕ) (room₀ room : Bytes) (i : ℕ) : Type 0 where
+  pub within : i ≤ length ns
+  pub fits : length room₀ ≡ 2 * length ns
+  pub kept : length room ≡ length room₀
+  pub so-far : room ≡ over (numbers (take i ns)) room₀
+
+pub numbered-none : (ns : List ℕ) (room : Bytes) → length room ≡ 2 * length ns → Numbered ns room room 0
+unfolding numbers
+numbered-none ns room h = record { within = zero-le; fits = h; kept = refl; so-far = refl }
+
+module _ {ns : List ℕ} {room₀ room : Bytes} {i : ℕ} (n : Numbered ns room₀ room i) where
+  pub numbered-more : (ys : Bytes) → i < length ns → ys ≡ numbers (getD ns i 0 ∷ [])
+      → Numbered ns room₀ (take (2 * i) room ++ (ys ++ drop (2 * i + 2 - 2 * i) (drop (2 * i) room))) (i + 1)
+  numbered-more ys h y =
+      let size : length (numbers (take i ns)) ≡ 2 * i = numbers-length (take i ns) ∙ rw length-take (omega (arith, n .within)) in
+      let two : length ys ≡ 2 = ap length y ∙ numbers-length (getD ns i 0 ∷ []) in
+      let more : numbers (take i ns) ++ ys ≡ numbers (take (i + 1) ns) =
+      ap (λ (z : Bytes). numbers (take i ns) ++ z) y ∙ sym (numbers-append (take i ns) (getD ns i 0 ∷ [])) ∙ ap numbers (sym (rw (add-one i) (take-suc ns i 0 h))) in
+      let room-is : take (2 * i) room ++ (ys ++ drop (2 * i + 2 - 2 * i) (drop (2 * i) room)) ≡ over (numbers (take (i + 1) ns)) room₀ =
+      lent (numbers (take i ns)) room₀ room ys (2 * i) (2 * i + 2 - 2 * i) (n .so-far) size (omega (arith, n .fits)) (omega arith) ∙ ap (λ (z : Bytes). over z room₀) more in
+      record {
+        within = omega arith;
+        fits = n .fits;
+        kept = ap length room-is ∙ over-length (numbers (take (i + 1) ns)) room₀ (omega (arith, numbers-length (take (i + 1) ns), length-take-le (i + 1) ns (omega arith), n .fits));
+        so-far = room-is;
+      }
+
+  pub numbered-all : length ns ≤ i → room ≡ numbers ns
+  numbered-all h =
+      n .so-far ∙ ap (λ (z : List ℕ). over (numbers z) room₀) (take-all i ns h) ∙ over-all (numbers ns) room₀ (omega (arith, numbers-length ns, n .fits))

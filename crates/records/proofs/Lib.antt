@@ -1,0 +1,3 @@
+-- Laws of a list that is read. No contract cites them.
+pub mod Reading
+pub mod Starts

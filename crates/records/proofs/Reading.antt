@@ -1,0 +1,305 @@
+-- Laws of the reading of a list, one for each way that the code goes.
+--     part                       so many bytes of a list, from one place on
+--     word-at                    a byte's symbol
+--     AboveAt                    a name is above another, with which it shares so many bytes
+--     ReadUpTo                   so many names are read, and noted: reading-start
+--     StandsAt, Next             the next record begins here, with this length
+--     Comparing                  it is of good length, and its name agrees with the last so far: comparing-start, byte-same
+--     NewAbove                   its name is above the last: old-ends, byte-above; reading-more
+--     good-list                  how a list is judged that reads well
+--     no-name, long-name, cut-name, new-ends, byte-below, too-many     and one that is refused
+-- Assumes nothing.
+use Prim.Native.Nat.{ℕ, suc, zero, _+_, _-_, _≤_, _<_, zero-le}
+use native.Mathlib.Nat.{le-of-suc-le-suc, not-suc-le-zero}
+use native.Mathlib.Decide.{ℕ-discrete}
+use native.Mathlib.Numerals.{add-one}
+use native.Mathlib.Omega.{arith}
+use mathlib.Core.Path.{_≡_, refl, sym, ap, ap₂, _∙_, subst}
+use mathlib.Core.Bool.{Bool, true, false}
+use mathlib.Core.List.{List, [], _∷_, _++_, append-assoc, append-nil}
+use lib.Dec.{leb, ltb}
+use lib.ListN.{length, length-map, getD, set, take, drop, length-append, length-take, length-drop, length-set, drop-of-length-le, List·getD-append}
+use lib.Seq.{drop-cons, drop-drop, getD-at, getD-take, getD-drop, getD-set-same, getD-set-other}
+use borrow.Author.Tests.{lt-ltb, le-ltb, le-leb, lt-leb}
+use Rattle.words.specs.Words.{Bytes, Rule, at, both, less, pick, plain, shared, word}
+use Rattle.words.proofs.Words.{at-past, less-by, part-at, plain-injective, shared-comm, shared-le, shared-more, shared-word}
+use Rattle.format.specs.Records.{Names, Reading, Refused, after, goodLength, mostNames, readFrom, readList}
+use Rattle.format.proofs.Records.{read-skip}
+use Rattle.records.specs.declared.Verdict.the-variants.{Good, Bad}
+use Rattle.records.specs.Lists.{Judged, Noted, names, namesIn}
+
+-- ---- which of two names is less
+
+abbrev pub part : Bytes → ℕ → ℕ → Bytes
+part s from size = take size (drop from s)
+
+pub word-at : (ρ : Rule) (x : Bytes) (d : ℕ) → d < length x → at (word ρ x) d ≡ ρ (getD x d 0)
+word-at ρ [] d h = absurd (not-suc-le-zero h)
+word-at ρ (b ∷ x) zero h = refl
+word-at ρ (b ∷ x) (suc d) h = word-at ρ x d (le-of-suc-le-suc h)
+
+-- b is above a, with which it shares d bytes
+pub record AboveAt (a b : Bytes) (d : ℕ) : Type 0 where
+  pub shares : d ≡ shared a b
+  pub above : less (word plain a) (word plain b) ≡ true
+
+-- two names that agree in the first d bytes, by their symbols there
+module _ (a b : Bytes) (d : ℕ) (agree : d ≤ shared a b) where
+  parted : d ≡ shared a b → less (word plain a) (word plain b) ≡ ltb (at (word plain a) d) (at (word plain b) d)
+  parted e = less-by (word plain a) (word plain b) d (shared-word plain plain-injective a b ∙ sym e)
+
+  differ : (at (word plain a) d ≡ at (word plain b) d → ⊥) → d ≡ shared a b
+  differ n =
+      sym (part-at (word plain a) (word plain b) d (omega (arith, shared-word plain plain-injective a b)) n) ∙ shared-word plain plain-injective a b
+
+  symbol-above : at (word plain a) d < at (word plain b) d → AboveAt a b d
+  symbol-above l =
+      let e : d ≡ shared a b = differ (λ f. omega arith) in
+      record { shares = e; above = parted e ∙ lt-ltb (at (word plain a) d) (at (word plain b) d) l }
+
+  symbol-below : at (word plain b) d < at (word plain a) d → less (word plain a) (word plain b) ≡ false
+  symbol-below l = parted (differ (λ f. omega arith)) ∙ le-ltb (at (word plain a) d) (at (word plain b) d) (omega arith)
+
+  no-symbol : length b ≤ d → less (word plain a) (word plain b) ≡ false
+  no-symbol l =
+      parted (omega (arith, shared-le b a, shared-comm a b))
+      ∙ ap (ltb (at (word plain a) d)) (at-past (word plain b) d (omega (arith, length-map b plain)))
+      ∙ le-ltb (at (word plain a) d) 0 zero-le
+
+module _ (s : Bytes) (from size : ℕ) (inside : from + size ≤ length s) where
+  part-length : length (part s from size) ≡ size
+  part-length = simp (length-take, length-drop) (omega arith)
+
+  part-byte : (i : ℕ) → i < size → getD (part s from size) i 0 ≡ getD s (from + i) 0
+  part-byte i h = rw (getD-take, getD-drop)
+
+  symbol-in : (i : ℕ) → i < size → at (word plain (part s from size)) i ≡ suc (getD s (from + i) 0)
+  symbol-in i h = word-at plain (part s from size) i (omega (arith, part-length)) ∙ ap suc (part-byte i h)
+
+  symbol-past : at (word plain (part s from size)) size ≡ 0
+  symbol-past = at-past (word plain (part s from size)) size (omega (arith, part-length, length-map (part s from size) plain))
+
+-- ---- what is noted
+
+noted-none : (lens steps : List ℕ) → Noted [] lens steps
+noted-none lens steps = record {
+  lens-room = zero-le;
+  steps-room = zero-le;
+  sizes = λ i h. absurd (not-suc-le-zero h);
+  first = λ h. absurd (not-suc-le-zero h);
+  shares = λ i h. absurd (not-suc-le-zero h);
+}
+
+-- one name more, of m bytes, that shares k with the last
+module _ (xs : List Bytes) (x : Bytes) (lens steps : List ℕ) (n m k : ℕ) (noted : Noted xs lens steps) (counted : length xs ≡ n)
+    (in-lens : n < length lens) (in-steps : n < length steps) (size : length x ≡ m)
+    (alone : n ≡ 0 → k ≡ 0) (next : (i : ℕ) → suc i ≡ n → k ≡ shared (getD xs i []) x) where
+  longer : length (xs ++ (x ∷ [])) ≡ suc n
+  longer = length-append xs (x ∷ []) ∙ omega arith
+
+  new-at : (i : ℕ) → i ≡ n → getD (xs ++ (x ∷ [])) i [] ≡ x
+  new-at i e = getD-at xs x [] [] i (counted ∙ sym e)
+
+  old-at : (i : ℕ) → i < n → getD (xs ++ (x ∷ [])) i [] ≡ getD xs i []
+  old-at i h = List·getD-append xs (x ∷ []) [] i (omega arith)
+
+  noted-more : Noted (xs ++ (x ∷ [])) (set lens n m) (set steps n k)
+  noted-more = record {
+    lens-room = omega (arith, longer, length-set lens n m);
+    steps-room = omega (arith, longer, length-set steps n k);
+    sizes = λ i h. elim (ℕ-discrete i n) [
+      | yes e ↦ rw (e, getD-set-same lens n m 0 in-lens, new-at n refl) (sym size)
+      | no o ↦ getD-set-other lens n i m 0 o ∙ noted .sizes i (omega (arith, longer)) ∙ ap length (sym (old-at i (omega (arith, longer))))
+    ];
+    first = λ h. elim (ℕ-discrete 0 n) [
+      | yes e ↦ rw (← e, getD-set-same steps 0 k 0 (omega arith)) (alone (sym e))
+      | no o ↦ getD-set-other steps n 0 k 0 o ∙ noted .first (omega arith)
+    ];
+    shares = λ i h. elim (ℕ-discrete (suc i) n) [
+      | yes e ↦ rw (old-at i (omega arith), new-at (suc i) e, ← e, getD-set-same steps (suc i) k 0 (omega arith)) (next i e)
+      | no o ↦ getD-set-other steps n (suc i) k 0 o ∙ noted .shares i (omega (arith, longer))
+          ∙ ap₂ shared (sym (old-at i (omega (arith, longer)))) (sym (old-at (suc i) (omega (arith, longer))))
+    ];
+  }
+
+-- ---- the walk over the records
+
+-- names before those of a reading
+abbrev onto : List Bytes → Reading → Reading
+onto xs (Names ys) = Names (xs ++ ys)
+onto xs (Refused code record-number) = Refused code record-number
+
+onto-none : (r : Reading) → r ≡ onto [] r
+onto-none (Names xs) = refl
+onto-none (Refused code record-number) = refl
+
+onto-after : (xs : List Bytes) (x : Bytes) (r : Reading) → onto xs (after x r) ≡ onto (xs ++ (x ∷ [])) r
+onto-after xs x (Names ys) = ap Names (sym (append-assoc xs (x ∷ []) ys))
+onto-after xs x (Refused code record-number) = refl
+
+-- n names are read, which are noted; the next record begins at o, and the last name has m bytes at p
+pub record ReadUpTo (s : Bytes) (lens steps : List ℕ) (o p m n : ℕ) : Type 0 where
+  pub within : o ≤ length s
+  pub inside : p + m ≤ length s
+  pub few : n ≤ 2000
+  pub lens-size : length lens ≡ 2000
+  pub steps-size : length steps ≡ 2000
+  pub done : List Bytes
+  pub counted : length done ≡ n
+  pub alone : n ≡ 0 → m ≡ 0
+  pub last : (i : ℕ) → suc i ≡ n → getD done i [] ≡ part s p m
+  pub noted : Noted done lens steps
+  pub so-far : readList plain s ≡ onto done (readFrom plain n (part s p m) 0 (drop o s))
+
+-- a record begins at o, with the length len
+pub record StandsAt (s : Bytes) (lens steps : List ℕ) (o p m n len : ℕ) : Type 0 where
+  pub read : ReadUpTo s lens steps o p m n
+  pub here : o < length s
+  pub byte : len ≡ getD s o 0
+
+-- all of it is there, and its name agrees with the last in the first i bytes
+pub record Comparing (s : Bytes) (lens steps : List ℕ) (o p m n len i : ℕ) : Type 0 where
+  pub stands : StandsAt s lens steps o p m n len
+  pub some : 0 < len
+  pub short : len ≤ 200
+  pub whole : o + 1 + len ≤ length s
+  pub in-old : i ≤ m
+  pub in-new : i ≤ len
+  pub agree : i ≤ shared (part s p m) (part s (o + 1) len)
+
+module _ {s : Bytes} {lens steps : List ℕ} {o p m n : ℕ} where
+  abbrev pub Next : ReadUpTo s lens steps o p m n → ℕ → Type 0
+  Next r len = StandsAt s lens steps o p m n len
+
+  abbrev pub NewAbove : {len i : ℕ} → Comparing s lens steps o p m n len i → Type 0
+  NewAbove {len} {i} k = AboveAt (part s p m) (part s (o + 1) len) i
+
+pub reading-start : (s : Bytes) (lens steps : List ℕ) → length lens ≡ 2000 → length steps ≡ 2000 → ReadUpTo s lens steps 0 0 0 0
+unfolding readList
+reading-start s lens steps l k = record {
+  within = zero-le;
+  inside = zero-le;
+  few = zero-le;
+  lens-size = l;
+  steps-size = k;
+  done = [];
+  counted = refl;
+  alone = λ e. refl;
+  last = λ i e. refl;
+  noted = noted-none lens steps;
+  so-far = onto-none (readFrom plain 0 [] 0 s);
+}
+
+pub good-list : {s : Bytes} {lens steps : List ℕ} {o p m n : ℕ} → ReadUpTo s lens steps o p m n → o ≡ length s → Judged s lens steps (Good n)
+unfolding readFrom names
+good-list {s} {lens} {steps} {o} r h =
+    let e : readList plain s ≡ Names (r .done) = r .so-far ∙ rw (drop-of-length-le s {i = o} (omega arith)) (ap Names (append-nil (r .done))) in
+    record {
+      verdict = rw e (ap Good (sym (r .counted)));
+      noted = subst (λ (x : Reading). Noted (namesIn x) lens steps) (sym e) (r .noted);
+    }
+
+refused : (s : Bytes) (lens steps : List ℕ) (code n : ℕ) → readList plain s ≡ Refused code n → Judged s lens steps (Bad code n)
+unfolding names
+refused s lens steps code n e = record {
+  verdict = rw e;
+  noted = subst (λ (x : Reading). Noted (namesIn x) lens steps) (sym e) (noted-none lens steps);
+}
+
+-- question 5, as the reading asks it
+abbrev wellSized : Bytes → ℕ → ℕ → Bool
+wellSized s o len = both (goodLength len) (leb len (length (drop (o + 1) s)))
+
+module _ {s : Bytes} {lens steps : List ℕ} {o p m n len : ℕ} (r : StandsAt s lens steps o p m n len) where
+  -- a record is asked 5, then 6, then 7
+  asked : (a b c : Bool) → wellSized s o len ≡ a → less (word plain (part s p m)) (word plain (part s (o + 1) len)) ≡ b → ltb n mostNames ≡ c
+      → readList plain s ≡ onto (r .read .done) (pick a (pick b (pick c
+      (after (part s (o + 1) len) (readFrom plain (suc n) (part s (o + 1) len) len (drop (o + 1) s))) (Refused 7 n)) (Refused 6 n)) (Refused 5 n))
+  unfolding readFrom
+  asked a b c ea eb ec =
+      let opened : drop o s ≡ len ∷ drop (o + 1) s = drop-cons s o 0 (r .here) ∙ ap₂ (λ (l k : ℕ). l ∷ drop k s) (sym (r .byte)) (sym (add-one o)) in
+      r .read .so-far ∙ rw (opened, ea, eb, ec)
+
+  bad-length : wellSized s o len ≡ false → Judged s lens steps (Bad 5 n)
+  bad-length e = refused s lens steps 5 n (asked false _ _ e refl refl)
+
+  pub no-name : len ≡ 0 → Judged s lens steps (Bad 5 n)
+  no-name e = bad-length (rw (le-ltb 0 len (omega arith)))
+
+  pub long-name : 200 < len → Judged s lens steps (Bad 5 n)
+  long-name l = bad-length (rw (lt-ltb 0 len (omega arith), lt-leb len 200 l))
+
+  pub cut-name : 0 < len → len ≤ 200 → length s - (o + 1) < len → Judged s lens steps (Bad 5 n)
+  cut-name z l f = bad-length (rw (lt-ltb 0 len z, le-leb len 200 l, length-drop (o + 1) s, lt-leb len (length s - (o + 1)) f))
+
+  pub comparing-start : 0 < len → len ≤ 200 → o + 1 + len ≤ length s → Comparing s lens steps o p m n len 0
+  comparing-start z l f = record { stands = r; some = z; short = l; whole = f; in-old = zero-le; in-new = zero-le; agree = zero-le }
+
+module _ {s : Bytes} {lens steps : List ℕ} {o p m n len i : ℕ} (k : Comparing s lens steps o p m n len i) where
+  sized : wellSized s o len ≡ true
+  sized = rw (lt-ltb 0 len (k .some), le-leb len 200 (k .short), length-drop (o + 1) s, le-leb len (length s - (o + 1)) (omega (arith, k .whole)))
+
+  not-above : less (word plain (part s p m)) (word plain (part s (o + 1) len)) ≡ false → Judged s lens steps (Bad 6 n)
+  not-above e = refused s lens steps 6 n (asked (k .stands) true false _ sized e refl)
+
+  new-length : length (part s (o + 1) len) ≡ len
+  new-length = part-length s (o + 1) len (k .whole)
+
+  pub new-ends : i ≡ len → Judged s lens steps (Bad 6 n)
+  new-ends e = not-above (no-symbol (part s p m) (part s (o + 1) len) i (k .agree) (omega (arith, new-length)))
+
+  pub old-ends : i ≡ m → i < len → NewAbove k
+  old-ends e h =
+      symbol-above (part s p m) (part s (o + 1) len) i (k .agree)
+      (rw (symbol-in s (o + 1) len (k .whole) i h, e, symbol-past s p m (k .stands .read .inside)) (omega arith))
+
+  module _ (old : i < m) (new : i < len) where
+    old-symbol : at (word plain (part s p m)) i ≡ suc (getD s (p + i) 0)
+    old-symbol = symbol-in s p m (k .stands .read .inside) i old
+
+    new-symbol : at (word plain (part s (o + 1) len)) i ≡ suc (getD s (o + 1 + i) 0)
+    new-symbol = symbol-in s (o + 1) len (k .whole) i new
+
+    pub byte-above : getD s (p + i) 0 < getD s (o + 1 + i) 0 → NewAbove k
+    byte-above l = symbol-above (part s p m) (part s (o + 1) len) i (k .agree) (omega (arith, old-symbol, new-symbol))
+
+    pub byte-below : getD s (o + 1 + i) 0 < getD s (p + i) 0 → Judged s lens steps (Bad 6 n)
+    byte-below l = not-above (symbol-below (part s p m) (part s (o + 1) len) i (k .agree) (omega (arith, old-symbol, new-symbol)))
+
+    pub byte-same : getD s (p + i) 0 ≤ getD s (o + 1 + i) 0 → getD s (o + 1 + i) 0 ≤ getD s (p + i) 0 → Comparing s lens steps o p m n len (i + 1)
+    byte-same l g =
+        let inside : p + m ≤ length s = k .stands .read .inside in
+        let more : i < shared (part s p m) (part s (o + 1) len) =
+        shared-more (part s p m) (part s (o + 1) len) i (k .agree) (omega (arith, part-length s p m inside)) (omega (arith, new-length))
+        (omega (arith, part-byte s p m inside i old, part-byte s (o + 1) len (k .whole) i new)) in
+        record { stands = k .stands; some = k .some; short = k .short; whole = k .whole; in-old = omega arith; in-new = omega arith; agree = omega arith }
+
+  module _ (a : NewAbove k) where
+    pub too-many : 2000 ≤ n → Judged s lens steps (Bad 7 n)
+    too-many h = refused s lens steps 7 n (asked (k .stands) true true false sized (a .above) (le-ltb n mostNames h))
+
+    pub reading-more : n < 2000 → ReadUpTo s (set lens n len) (set steps n i) (o + 1 + len) (o + 1) len (n + 1)
+    reading-more h =
+        let r : ReadUpTo s lens steps o p m n = k .stands .read in
+        let x : Bytes = part s (o + 1) len in
+        let rest : Bytes = drop (o + 1 + len) s in
+        let skipped : readFrom plain (suc n) x len (drop (o + 1) s) ≡ readFrom plain (n + 1) x 0 rest =
+        read-skip plain (suc n) x len (drop (o + 1) s) ∙ rw (drop-drop len (o + 1) s, add-one n) in
+        record {
+          within = k .whole;
+          inside = k .whole;
+          few = omega arith;
+          lens-size = length-set lens n len ∙ r .lens-size;
+          steps-size = length-set steps n i ∙ r .steps-size;
+          done = r .done ++ (x ∷ []);
+          counted = length-append (r .done) (x ∷ []) ∙ ap (λ (c : ℕ). c + 1) (r .counted);
+          alone = λ e. absurd (omega arith);
+          last = λ j e. getD-at (r .done) x [] [] j (r .counted ∙ omega arith);
+          noted = noted-more (r .done) x lens steps n len i (r .noted) (r .counted) (omega (arith, r .lens-size)) (omega (arith, r .steps-size)) new-length
+              (λ e. omega (arith, k .in-old, r .alone e))
+              (λ j e. a .shares ∙ ap (λ (y : Bytes). shared y x) (sym (r .last j e)));
+          so-far =
+              asked (k .stands) true true true sized (a .above) (lt-ltb n mostNames h)
+              ∙ ap (λ (y : Reading). onto (r .done) (after x y)) skipped
+              ∙ onto-after (r .done) x (readFrom plain (n + 1) x 0 rest);
+        }

@@ -1,0 +1,97 @@
+-- Where the records of a judged list begin, and what stands there.
+--     start-none, start-next, start-all    record by record
+--     start-fits, start-name               the name behind the length byte
+--     start-byte                           the length byte
+--     ready-rises, ready-word, ready-size  the names' words
+-- Assumes nothing.
+use Prim.Native.Nat.{ℕ, suc, _+_, _≤_, _<_}
+use native.Mathlib.Omega.{arith}
+use mathlib.Core.Path.{_≡_, refl, sym, ap, _∙_}
+use mathlib.Core.List.{List, [], _∷_, _++_, append-assoc, append-nil}
+use lib.ListN.{length, getD, take, drop, length-append, length-map, take-append-drop}
+use lib.Seq.{getD-drop, take-suc, drop-drop, drop-cons, drop-at, take-at, take-all}
+use Rattle.words.specs.Words.{Bytes, Rises, nth, plain, word}
+use Rattle.words.proofs.Lists.{all-at}
+use Rattle.words.proofs.Rising.{nth-word}
+use Rattle.words.proofs.Words.{plain-lawful}
+use Rattle.format.specs.Records.{encode, sound}
+use Rattle.format.proofs.Records.{rising-sizes, sound-rises, sound-rising}
+use Rattle.records.specs.Lists.{names, words}
+use Rattle.records.specs.Lists.{Ready, startOf}
+
+encode-append : (xs ys : List Bytes) → encode (xs ++ ys) ≡ encode xs ++ encode ys
+unfolding encode
+encode-append [] ys = refl
+encode-append (x ∷ xs) ys = ap (λ (l : Bytes). length x ∷ x ++ l) (encode-append xs ys) ∙ ap (λ (l : Bytes). length x ∷ l) (sym (append-assoc x (encode xs) (encode ys)))
+
+encode-one : (x : Bytes) → encode (x ∷ []) ≡ length x ∷ x
+unfolding encode
+encode-one x = ap (λ (l : Bytes). length x ∷ l) (append-nil x)
+
+encode-cons : (x : Bytes) (xs : List Bytes) → encode (x ∷ xs) ≡ length x ∷ x ++ encode xs
+unfolding encode
+encode-cons x xs = refl
+
+pub words-length : (s : Bytes) → length (words s) ≡ length (names s)
+unfolding words
+words-length s = length-map (names s) (word plain)
+
+module _ {s : Bytes} {n : ℕ} {lens steps : List ℕ} (a : Ready s n lens steps) where
+  pub ready-rises : Rises (words s)
+  unfolding words
+  ready-rises = sound-rises plain plain-lawful (names s) (a .sound)
+
+  pub ready-word : (i : ℕ) → nth (words s) i ≡ word plain (getD (names s) i [])
+  unfolding words
+  ready-word i = nth-word plain (names s) i
+
+  pub ready-size : (i : ℕ) → i < n → (1 ≤ length (getD (names s) i [])) × (length (getD (names s) i []) ≤ 200)
+  ready-size i h = all-at [] (names s) (rising-sizes plain [] (names s) (sound-rising plain (names s) (a .sound))) i (omega (arith, a .total))
+
+  pub start-none : startOf s 0 ≡ 0
+  unfolding encode
+  start-none = refl
+
+  pub start-all : startOf s n ≡ length s
+  start-all = ap (λ (xs : List Bytes). length (encode xs)) (take-all n (names s) (omega (arith, a .total))) ∙ ap length (a .bytes)
+
+  module _ (i : ℕ) (h : i < n) where
+    x : Bytes
+    x = getD (names s) i []
+
+    inside : i < length (names s)
+    inside = omega (arith, a .total)
+
+    pub start-next : startOf s (suc i) ≡ startOf s i + 1 + length (getD (names s) i [])
+    start-next =
+        ap (λ (xs : List Bytes). length (encode xs)) (take-suc (names s) i [] inside) ∙ ap length (encode-append (take i (names s)) (getD (names s) i [] ∷ []))
+        ∙ length-append (encode (take i (names s))) (encode (getD (names s) i [] ∷ [])) ∙ omega (arith, ap length (encode-one (getD (names s) i [])))
+
+    -- the list from record i on
+    from-here : drop (startOf s i) s ≡ length (getD (names s) i []) ∷ getD (names s) i [] ++ encode (drop (suc i) (names s))
+    from-here =
+        let whole : s ≡ encode (take i (names s)) ++ encode (drop i (names s)) =
+        sym (a .bytes) ∙ ap encode (sym (take-append-drop i (names s))) ∙ encode-append (take i (names s)) (drop i (names s)) in
+        ap (drop (startOf s i)) whole ∙ drop-at (encode (take i (names s))) (encode (drop i (names s))) (startOf s i) refl
+        ∙ ap encode (drop-cons (names s) i [] inside) ∙ encode-cons (getD (names s) i []) (drop (suc i) (names s))
+
+    pub start-fits : startOf s i + 1 + length (getD (names s) i []) ≤ length s
+    start-fits =
+        omega (
+          arith,
+          ap length (sym (a .bytes)),
+          ap (λ (xs : List Bytes). length (encode xs)) (sym (take-append-drop (suc i) (names s))),
+          ap length (encode-append (take (suc i) (names s)) (drop (suc i) (names s))),
+          length-append (encode (take (suc i) (names s))) (encode (drop (suc i) (names s))),
+          start-next,
+        )
+
+    pub start-name : take (length (getD (names s) i [])) (drop (startOf s i + 1) s) ≡ getD (names s) i []
+    start-name =
+        let y : Bytes = getD (names s) i [] in
+        ap (take (length y)) (sym (drop-drop 1 (startOf s i) s) ∙ ap (drop 1) from-here) ∙ take-at y (encode (drop (suc i) (names s))) (length y) refl
+
+    pub start-byte : getD s (startOf s i) 0 ≡ length (getD (names s) i [])
+    start-byte =
+        let z : startOf s i + 0 ≡ startOf s i = omega arith in
+        ap (λ (k : ℕ). getD s k 0) (sym z) ∙ sym (getD-drop (startOf s i) s 0 0) ∙ ap (λ (l : Bytes). getD l 0 0) from-here

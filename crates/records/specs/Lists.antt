@@ -1,0 +1,53 @@
+-- A list that is read: its names, and what is noted of them on the way.
+--     verdictOf         the reading of a list, as the code answers it
+--     names, words      the names of a list that reads well, and their words
+--     Noted             each name's length, and what it shares with the name before
+--     Judged            what judging a list gives
+--     Ready, startOf    a list that reads well, with what was noted; where its records begin
+-- The laws are in proofs/. Assumes nothing: these are definitions.
+use Prim.Native.Nat.{ℕ, suc, _≤_, _<_}
+use mathlib.Core.Path.{_≡_}
+use mathlib.Core.List.{List, [], map}
+use mathlib.Core.Bool.{true}
+use lib.ListN.{length, getD, take}
+use Rattle.words.specs.Words.{Bytes, Words, plain, word, shared}
+use Rattle.format.specs.Records.{Reading, Names, Refused, readList, encode, sound}
+use Rattle.records.specs.declared.Verdict.{Verdict}
+use Rattle.records.specs.declared.Verdict.the-variants.{Good, Bad}
+
+abbrev pub verdictOf : Reading → Verdict
+verdictOf (Names xs) = Good (length xs)
+verdictOf (Refused code i) = Bad code i
+
+abbrev pub namesIn : Reading → List Bytes
+namesIn (Names xs) = xs
+namesIn (Refused code i) = []
+
+unfoldable pub names : Bytes → List Bytes
+names s = namesIn (readList plain s)
+
+unfoldable pub words : Bytes → Words
+words s = map (word plain) (names s)
+
+pub record Noted (xs : List Bytes) (lens steps : List ℕ) : Type 0 where
+  pub lens-room : length xs ≤ length lens
+  pub steps-room : length xs ≤ length steps
+  pub sizes : (i : ℕ) → i < length xs → getD lens i 0 ≡ length (getD xs i [])
+  pub first : 0 < length xs → getD steps 0 0 ≡ 0
+  pub shares : (i : ℕ) → suc i < length xs → getD steps (suc i) 0 ≡ shared (getD xs i []) (getD xs (suc i) [])
+
+pub record Judged (s : Bytes) (lens steps : List ℕ) (r : Verdict) : Type 0 where
+  pub verdict : r ≡ verdictOf (readList plain s)
+  pub noted : Noted (names s) lens steps
+
+-- a list of n names has been judged
+pub record Ready (s : Bytes) (n : ℕ) (lens steps : List ℕ) : Type 0 where
+  pub bytes : encode (names s) ≡ s
+  pub total : n ≡ length (names s)
+  pub few : n ≤ 2000
+  pub sound : sound plain (names s) ≡ true
+  pub noted : Noted (names s) lens steps
+
+-- where record number i begins
+abbrev pub startOf : Bytes → ℕ → ℕ
+startOf s i = length (encode (take i (names s)))

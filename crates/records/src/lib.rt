@@ -1,0 +1,68 @@
+// Judging a list: document 01, 'The first bad record ends the reading'. One loop over the records yields the verdict by `break`; the
+// comparison of a name with the one before is nested inside and left by its label. What it learns on the way, each name's length and
+// what it shares with the name before, is noted for those who write the book.
+ghost use mathlib.Core.Path.{_≡_};
+ghost use lib.ListN.{length};
+ghost use Rattle.records.specs.Lists.{Judged};
+
+// What the reading of a list gives.
+pub enum Verdict {
+    // So many names.
+    Good(usize),
+    // Refusal 5, 6 or 7, and the record's number.
+    Bad(usize, usize),
+}
+
+// Reads the list. The name before stands at `prev` and has `before` bytes: at first there is none.
+pub fn judge(list: &[u8], lens: &mut [u8], steps: &mut [u8]) -> Verdict
+    requires { ⌜ (length (now lens) ≡ 2000) × (length (now steps) ≡ 2000) ⌝ }
+    ensures { λ r. ⌜ Judged (now (list .entry)) (now (lens .exit)) (now (steps .exit)) r ⌝ }
+{
+    let mut at: usize = 0;
+    let mut prev: usize = 0;
+    let mut before: usize = 0;
+    let mut n: usize = 0;
+    'records: loop {
+        if at == list.len() {
+            break 'records Verdict::Good(n);
+        }
+        let len = numbers::wide(list[at]);
+        if len == 0 {
+            break 'records Verdict::Bad(5, n);
+        }
+        if 200 < len {
+            break 'records Verdict::Bad(5, n);
+        }
+        let start = at + 1;
+        if list.len() - start < len {
+            break 'records Verdict::Bad(5, n);
+        }
+        let mut i: usize = 0;
+        'bytes: loop {
+            if i == len {
+                break 'records Verdict::Bad(6, n);
+            }
+            if i == before {
+                break 'bytes;
+            }
+            let old = list[prev + i];
+            let new = list[start + i];
+            if new < old {
+                break 'records Verdict::Bad(6, n);
+            }
+            if old < new {
+                break 'bytes;
+            }
+            i += 1;
+        }
+        if 2000 <= n {
+            break 'records Verdict::Bad(7, n);
+        }
+        lens[n] = len as u8;
+        steps[n] = i as u8;
+        prev = start;
+        before = len;
+        at = start + len;
+        n += 1;
+    }
+}
