@@ -1,0 +1,3 @@
+-- Laws of the writers of entries and block table. No contract cites them.
+pub mod Writing
+pub mod Walk

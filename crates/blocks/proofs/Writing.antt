@@ -1,0 +1,276 @@
+-- Laws of the writers of entries.
+--     stored-same, stored-other     the count that a name stores
+--     Copying: copying-start, copying-more, copying-all     the bytes of one entry
+--     entry-here                    an entry, by bytes of the list
+--     Sizing: sizing-start, sizing-here, sizing-more, sizing-all     a block, name by name
+--     Filling: filling-start, filling-fits, filling-more, filling-all     the same, written
+-- Assumes nothing.
+use Prim.Native.Nat.{ℕ, zero, suc, pred, _+_, _-_, _≤_, _<_, zero-le, _*_}
+use native.Mathlib.Nat.{lt-irrefl}
+use native.Mathlib.Decide.{ℕ-discrete}
+use native.Mathlib.Numerals.{add-one}
+use native.Mathlib.Omega.{arith}
+use mathlib.Core.Path.{_≡_, refl, sym, ap, _∙_, ap₂, subst}
+use mathlib.Core.List.{List, [], _∷_, _++_, append-assoc, append-nil}
+use lib.Dec.{eqb}
+use lib.ListN.{length, getD, set, take, drop, length-append, length-take, length-drop, length-set}
+use lib.Seq.{slice, slice-empty, slice-cons, take-suc, drop-append-le, set-at, drop-cons, getD-drop, length-take-le, take-add, drop-at, drop-drop}
+use borrow.Author.Tests.{eq-eqb, ne-eqb}
+use Rattle.words.specs.Words.{Bytes, pick, shared}
+use Rattle.words.proofs.Words.{shared-comm, shared-le}
+use Rattle.format.specs.Entries.{entry, front}
+use Rattle.answers.specs.Calls.{over}
+use Rattle.numbers.proofs.Parts.{lent, over-all, over-length, part-length}
+use Rattle.records.specs.Lists.{names, startOf}
+use Rattle.records.proofs.Starts.{ready-size, start-byte, start-fits, start-name, start-next}
+use Rattle.blocks.specs.Writing.{BlockAsk, BlockPut, BlockSize, before, block, storedCount}
+
+-- ---- the count that a name stores
+
+pub stored-same : (lo i : ℕ) (steps : List ℕ) → i ≡ lo → 0 ≡ storedCount lo i steps
+stored-same lo i steps e = rw (eq-eqb i lo e) refl
+
+pub stored-other : (lo i : ℕ) (steps : List ℕ) → (i ≡ lo → ⊥) → getD steps i 0 ≡ storedCount lo i steps
+stored-other lo i steps n = rw (ne-eqb i lo n) refl
+
+-- ---- one entry
+
+-- the two counts and i bytes of the rest are written
+pub record Copying (s : Bytes) (from c rest : ℕ) (part₀ part : Bytes) (i : ℕ) : Type 0 where
+  pub within : i ≤ rest
+  pub kept : length part ≡ rest + 2
+  pub so-far : part ≡ over (c ∷ rest ∷ take i (drop from s)) part₀
+
+abbrev counted : Bytes → ℕ → ℕ → Bytes
+counted part c rest = set (set part 0 c) 1 rest
+
+counted-over : (part : Bytes) (a b : ℕ) → 2 ≤ length part → counted part a b ≡ over (a ∷ b ∷ []) (counted part a b)
+counted-over [] a b h = absurd (omega arith)
+counted-over (x ∷ []) a b h = absurd (omega arith)
+counted-over (x ∷ y ∷ part) a b h = refl
+
+pub copying-start : (s : Bytes) (from c rest : ℕ) (part : Bytes) → length part ≡ rest + 2 → Copying s from c rest (counted part c rest) (counted part c rest) 0
+copying-start s from c rest part h = record { within = zero-le; kept = simp length-set h; so-far = counted-over part c rest (omega arith) }
+
+over-set : (p xs : Bytes) (i v : ℕ) → length p ≡ i → i < length xs → set (over p xs) i v ≡ over (p ++ (v ∷ [])) xs
+over-set p xs i v e h =
+    rw (drop-cons xs (length p) 0 (rw e h)) (set-at p (getD xs (length p) 0) (drop (suc (length p)) xs) v i e ∙ rw (append-assoc, length-append p (v ∷ []), add-one))
+
+module _ {s : Bytes} {from c rest : ℕ} {part₀ part : Bytes} {i : ℕ} (r : Copying s from c rest part₀ part i) (size : length part₀ ≡ rest + 2) (room : from + rest ≤ length s) where
+  pub copying-more : i < rest → Copying s from c rest part₀ (set part (i + 2) (getD s (from + i) 0)) (i + 1)
+  copying-more h =
+      let l : length (take i (drop from s)) ≡ i = simp (length-take, length-drop) (omega arith) in
+      let d : i < length (drop from s) = rw length-drop (omega arith) in
+      let next : take i (drop from s) ++ (getD s (from + i) 0 ∷ []) ≡ take (i + 1) (drop from s) =
+      ap (λ (v : ℕ). take i (drop from s) ++ (v ∷ [])) (sym (getD-drop from s i 0)) ∙ sym (take-suc (drop from s) i 0 d) ∙ ap (λ (n : ℕ). take n (drop from s)) (sym (add-one i)) in
+      record {
+        within = omega arith;
+        kept = length-set part (i + 2) (getD s (from + i) 0) ∙ r .kept;
+        so-far =
+            ap (λ (x : Bytes). set x (i + 2) (getD s (from + i) 0)) (r .so-far)
+            ∙ over-set (c ∷ rest ∷ take i (drop from s)) part₀ (i + 2) (getD s (from + i) 0) (omega arith) (omega arith)
+            ∙ ap (λ (b : Bytes). over (c ∷ rest ∷ b) part₀) next;
+      }
+
+  pub copying-all : rest ≤ i → part ≡ c ∷ rest ∷ take rest (drop from s)
+  copying-all h =
+      let e : i ≡ rest = omega (arith, r .within) in
+      let l : length (take rest (drop from s)) ≡ rest = simp (length-take, length-drop) (omega arith) in
+      r .so-far ∙ ap (λ (n : ℕ). over (c ∷ rest ∷ take n (drop from s)) part₀) e
+      ∙ over-all (c ∷ rest ∷ take rest (drop from s)) part₀ (omega arith)
+
+-- ---- blocks of names
+
+abbrev lastOf : Bytes → List Bytes → Bytes
+lastOf p [] = p
+lastOf p (x ∷ xs) = lastOf x xs
+
+front-append : (p : Bytes) (xs ys : List Bytes) → front p (xs ++ ys) ≡ front p xs ++ front (lastOf p xs) ys
+unfolding front
+front-append p [] ys = refl
+front-append p (x ∷ xs) ys = ap (λ (r : Bytes). entry p x ++ r) (front-append x xs ys) ∙ sym (append-assoc (entry p x) (front x xs) (front (lastOf x xs) ys))
+
+front-one : (p x : Bytes) → front p (x ∷ []) ≡ entry p x
+unfolding front
+front-one p x = append-nil (entry p x)
+
+last-slice : (p : Bytes) (xs : List Bytes) (lo i : ℕ) → lo ≤ i → i ≤ length xs → lastOf p (slice lo i xs) ≡ pick (eqb i lo) p (getD xs (pred i) [])
+last-slice p xs lo i a b = go p (i - lo) lo (omega arith)
+  where
+    go : (q : Bytes) (m l : ℕ) → l + m ≡ i → lastOf q (slice l i xs) ≡ pick (eqb i l) q (getD xs (pred i) [])
+    go q zero l e =
+        let f : i ≡ l = omega arith in
+        rw (eq-eqb i l f) (ap (lastOf q) (ap (λ (k : ℕ). slice l k xs) f ∙ slice-empty l xs))
+    go q (suc m) l e =
+        let n : i ≡ l → ⊥ = λ f. lt-irrefl l (omega arith) in
+        ap (lastOf q) (slice-cons l i xs [] (omega arith) b) ∙ go (getD xs l []) m (suc l) (omega arith) ∙ rw (ne-eqb i l n) (rest m e)
+      where
+        rest : (k : ℕ) → l + suc k ≡ i → pick (eqb i (suc l)) (getD xs l []) (getD xs (pred i) []) ≡ getD xs (pred i) []
+        rest zero g = let h : i ≡ suc l = omega arith in rw (eq-eqb i (suc l) h) (ap (λ (k : ℕ). getD xs k []) {x = l} {y = pred i} (omega arith))
+        rest (suc k) g = rw (ne-eqb i (suc l) (λ f. lt-irrefl l (omega arith))) refl
+
+slice-more : (xs : List Bytes) (lo i : ℕ) → lo ≤ i → i < length xs → slice lo (suc i) xs ≡ slice lo i xs ++ (getD xs i [] ∷ [])
+slice-more xs lo i a b =
+    ap (drop lo) (take-suc xs i [] b) ∙ drop-append-le lo (take i xs) (getD xs i [] ∷ []) (omega (arith, length-take-le i xs (omega arith)))
+
+module _ (s : Bytes) (lo : ℕ) where
+  pub block-none : block s lo lo ≡ []
+  unfolding front
+  block-none = ap (front []) (slice-empty lo (names s))
+
+  pub block-more : (i : ℕ) → lo ≤ i → i < length (names s) → block s lo (suc i) ≡ block s lo i ++ entry (before lo i (names s)) (getD (names s) i [])
+  block-more i a b =
+      ap (front []) (slice-more (names s) lo i a b) ∙ front-append [] (slice lo i (names s)) (getD (names s) i [] ∷ [])
+      ∙ ap (λ (r : Bytes). block s lo i ++ r) (ap (λ (p : Bytes). front p (getD (names s) i [] ∷ [])) (last-slice [] (names s) lo i a (omega arith)) ∙ front-one (before lo i (names s)) (getD (names s) i []))
+
+  -- a block only grows
+  pub block-grows : (i hi : ℕ) → lo ≤ i → i ≤ hi → hi ≤ length (names s) → length (block s lo i) ≤ length (block s lo hi)
+  block-grows i hi a b c = go (hi - i) hi (omega arith) c
+    where
+      go : (m h : ℕ) → i + m ≡ h → h ≤ length (names s) → length (block s lo i) ≤ length (block s lo h)
+      go zero h e l = let f : i ≡ h = omega arith in omega (arith, ap (λ (k : ℕ). length (block s lo k)) f)
+      go (suc m) h e l =
+          let f : suc (i + m) ≡ h = omega arith in
+          omega (
+            arith,
+            go m (i + m) refl (omega arith),
+            ap (λ (k : ℕ). length (block s lo k)) f,
+            ap length (block-more (i + m) (omega arith) (omega arith)),
+            length-append (block s lo (i + m)) (entry (before lo (i + m) (names s)) (getD (names s) (i + m) [])),
+          )
+
+-- ---- a block, name by name
+
+pub record Sizing (s : Bytes) (lo hi i next size : ℕ) : Type 0 where
+  pub low : lo ≤ i
+  pub high : i ≤ hi
+  pub here : next ≡ startOf s i
+  pub is : size ≡ length (block s lo i)
+  pub small : size + 202 * lo ≤ 202 * i
+
+module _ {s : Bytes} {steps : List ℕ} {lo at hi : ℕ} (a : BlockAsk s steps lo at hi) where
+  pub sizing-start : Sizing s lo hi lo at 0
+  sizing-start = record { low = omega arith; high = a .order; here = a .here; is = sym (ap length (block-none s lo)); small = omega arith }
+
+  module _ {i next size : ℕ} (z : Sizing s lo hi i next size) where
+    pub sizing-all : hi ≤ i → BlockSize s lo hi size next
+    sizing-all h =
+        let e : i ≡ hi = omega (arith, z .high) in
+        record { is = z .is ∙ ap (λ (k : ℕ). length (block s lo k)) e; small = omega (arith, z .small); here = z .here ∙ ap (startOf s) e }
+
+    pub sizing-few : size ≤ 404000
+    sizing-few = omega (arith, z .small, z .high, a .within, a .ready .few)
+
+    module _ (h : i < hi) where
+      in-list : i < a .n
+      in-list = omega (arith, a .within)
+
+      in-names : i < length (names s)
+      in-names = omega (arith, a .within, a .ready .total)
+
+      pub sizing-steps : i < length steps
+      sizing-steps = omega (arith, a .within, a .ready .total, a .ready .noted .steps-room)
+
+      pub sizing-record : next < length s
+      sizing-record = omega (arith, z .here, start-fits (a .ready) i in-list)
+
+      module _ (len : ℕ) (e : len ≡ getD s next 0) where
+        len-is : len ≡ length (getD (names s) i [])
+        len-is = e ∙ ap (λ (k : ℕ). getD s k 0) (z .here) ∙ start-byte (a .ready) i in-list
+
+        pub sizing-low : len ≤ 200
+        sizing-low = omega (arith, len-is, ready-size (a .ready) i in-list .1)
+
+        pub sizing-fits : next + 1 + len ≤ length s
+        sizing-fits = omega (arith, z .here, len-is, start-fits (a .ready) i in-list)
+
+        module _ (c : ℕ) (f : c ≡ storedCount lo i steps) where
+          count-is : c ≡ shared (before lo i (names s)) (getD (names s) i [])
+          unfolding shared
+          count-is = f ∙ elim (ℕ-discrete i lo) [
+            | yes g ↦ rw (eq-eqb i lo g) refl
+            | no g ↦ rw (ne-eqb i lo g) (noted i (omega (arith, z .low)) in-names)
+          ]
+            where
+              noted : (k : ℕ) → 0 < k → k < length (names s) → getD steps k 0 ≡ shared (getD (names s) (pred k) []) (getD (names s) k [])
+              noted zero m l = absurd (lt-irrefl 0 m)
+              noted (suc k) m l = a .ready .noted .shares k l
+
+          pub sizing-count : c ≤ len
+          sizing-count =
+              omega (arith, count-is, len-is, shared-comm (before lo i (names s)) (getD (names s) i []), shared-le (getD (names s) i []) (before lo i (names s)))
+
+          pub entry-here : entry (before lo i (names s)) (getD (names s) i []) ≡ c ∷ (len - c) ∷ take (len - c) (drop (next + 1 + c) s)
+          unfolding entry
+          entry-here =
+              let x : Bytes = getD (names s) i [] in
+              let split : c + (len - c) ≡ length x = omega (arith, sizing-count, len-is) in
+              let whole : x ≡ take (c + (len - c)) (drop (next + 1) s) =
+              sym (start-name (a .ready) i in-list) ∙ ap₂ (λ (n o : ℕ). take n (drop (o + 1) s)) (sym split) (sym (z .here)) in
+              let front-part : length (take c (drop (next + 1) s)) ≡ c = part-length s (next + 1) c (omega (arith, sizing-fits, sizing-count)) in
+              let rest : drop c x ≡ take (len - c) (drop (next + 1 + c) s) =
+              ap (drop c) (whole ∙ take-add c (len - c) (drop (next + 1) s)) ∙ drop-at (take c (drop (next + 1) s)) (take (len - c) (drop c (drop (next + 1) s))) c front-part
+              ∙ ap (take (len - c)) (drop-drop c (next + 1) s) in
+              ap (λ (n : ℕ). n ∷ length (drop n x) ∷ drop n x) (sym count-is)
+              ∙ ap (λ (y : Bytes). c ∷ length y ∷ y) rest
+              ∙ ap (λ (n : ℕ). c ∷ n ∷ take (len - c) (drop (next + 1 + c) s)) (part-length s (next + 1 + c) (len - c) (omega (arith, sizing-fits, sizing-count)))
+
+          -- the block with one name more
+          grown : block s lo (i + 1) ≡ block s lo i ++ (c ∷ (len - c) ∷ take (len - c) (drop (next + 1 + c) s))
+          grown = ap (block s lo) (add-one i) ∙ block-more s lo i (z .low) in-names ∙ ap (λ (r : Bytes). block s lo i ++ r) entry-here
+
+          pub sizing-more : Sizing s lo hi (i + 1) (next + (1 + len)) (size + (2 + len - c))
+          sizing-more = record {
+            low = omega (arith, z .low);
+            high = omega arith;
+            here = omega (arith, z .here, len-is, start-next (a .ready) i in-list, ap (startOf s) (add-one i));
+            is =
+                sym (ap length grown ∙ length-append (block s lo i) (c ∷ (len - c) ∷ take (len - c) (drop (next + 1 + c) s))
+                ∙ omega (arith, z .is, sizing-count, part-length s (next + 1 + c) (len - c) (omega (arith, sizing-fits, sizing-count))));
+            small = omega (arith, z .small, sizing-low);
+          }
+
+-- the names before i are written at the front of the room
+pub record Filling (s : Bytes) (lo hi : ℕ) (room₀ room : Bytes) (i next size : ℕ) : Type 0 where
+  pub sizing : Sizing s lo hi i next size
+  pub kept : length room ≡ length room₀
+  pub written : room ≡ over (block s lo i) room₀
+
+module _ {s : Bytes} {steps : List ℕ} {lo at hi : ℕ} (a : BlockAsk s steps lo at hi) (room₀ : Bytes) (big : length (block s lo hi) ≤ length room₀) where
+  pub filling-start : Filling s lo hi room₀ room₀ lo at 0
+  filling-start = record { sizing = sizing-start a; kept = refl; written = ap (λ (b : Bytes). over b room₀) (sym (block-none s lo)) }
+
+  module _ {room : Bytes} {i next size : ℕ} (z : Filling s lo hi room₀ room i next size) where
+    pub filling-all : hi ≤ i → BlockPut s lo hi room₀ room size next
+    filling-all h =
+        let e : i ≡ hi = omega (arith, z .sizing .high) in
+        record { sized = sizing-all a (z .sizing) h; put = z .written ∙ ap (λ (k : ℕ). over (block s lo k) room₀) e }
+
+    module _ (h : i < hi) (len : ℕ) (e : len ≡ getD s next 0) (c : ℕ) (f : c ≡ storedCount lo i steps) where
+      next-size : size + (2 + len - c) ≡ length (block s lo (i + 1))
+      next-size = sizing-more a (z .sizing) h len e c f .is
+
+      pub filling-fits : size + 2 + (len - c) ≤ length room
+      filling-fits =
+          omega (
+            arith,
+            next-size,
+            z .kept,
+            sizing-count a (z .sizing) h len e c f,
+            block-grows s lo (i + 1) hi (omega (arith, z .sizing .low)) (omega arith) (omega (arith, a .within, a .ready .total)),
+          )
+
+      pub filling-more : (ys : Bytes) → ys ≡ c ∷ (len - c) ∷ take (len - c) (drop (next + 1 + c) s)
+          → Filling s lo hi room₀ (take size room ++ (ys ++ drop (size + 2 + (len - c) - size) (drop size room))) (i + 1) (next + (1 + len)) (size + 2 + (len - c))
+      filling-more ys y =
+          let end : size + (2 + len - c) ≡ size + 2 + (len - c) = omega (arith, sizing-count a (z .sizing) h len e c f) in
+          let long : length ys ≡ size + 2 + (len - c) - size =
+          ap length y ∙ omega (arith, part-length s (next + 1 + c) (len - c) (omega (arith, sizing-fits a (z .sizing) h len e, sizing-count a (z .sizing) h len e c f))) in
+          let now-is : take size room ++ (ys ++ drop (size + 2 + (len - c) - size) (drop size room)) ≡ over (block s lo (i + 1)) room₀ =
+          lent (block s lo i) room₀ room ys size (size + 2 + (len - c) - size) (z .written) (sym (z .sizing .is)) (omega (arith, filling-fits, z .kept)) long
+          ∙ ap (λ (b : Bytes). over b room₀) (ap (λ (b : Bytes). block s lo i ++ b) y ∙ sym (grown a (z .sizing) h len e c f)) in
+          record {
+            sizing = subst (Sizing s lo hi (i + 1) (next + (1 + len))) end (sizing-more a (z .sizing) h len e c f);
+            kept = ap length now-is ∙ over-length (block s lo (i + 1)) room₀ (omega (arith, sym next-size, filling-fits, z .kept, sizing-count a (z .sizing) h len e c f));
+            written = now-is;
+          }

@@ -1,0 +1,69 @@
+-- What the writers of entries and block table ask and give.
+--     before            the name before name i in a block that begins with name lo: none for the first
+--     block             the entries of names lo to hi as one block
+--     storedCount       the count that name i stores, by what was noted
+--     BlockAsk, BlockSize, BlockPut    one block, its size, and the block written
+--     EntriesAsk        all names, in blocks of k
+--     NumberPut         one number more of a row, where it fits
+--     Surveyed          how many blocks there are, how large their entries, and where each begins
+-- The laws are in proofs/. Assumes nothing: these are definitions.
+use Prim.Native.Nat.{ℕ, suc, pred, _+_, _*_, _≤_}
+use mathlib.Core.Path.{_≡_}
+use mathlib.Core.List.{List, [], _∷_, _++_}
+use lib.Dec.{eqb}
+use lib.ListN.{length, getD}
+use lib.Seq.{slice}
+use Rattle.words.specs.Words.{Bytes, pick}
+use Rattle.format.specs.Entries.{front}
+use Rattle.format.specs.Book.{numbers, blockPart, entryPart}
+use Rattle.answers.specs.Calls.{over}
+use Rattle.records.specs.Lists.{names}
+use Rattle.records.specs.Lists.{Ready, startOf}
+
+abbrev pub before : ℕ → ℕ → List Bytes → Bytes
+before lo i xs = pick (eqb i lo) [] (getD xs (pred i) [])
+
+abbrev pub block : Bytes → ℕ → ℕ → Bytes
+block s lo hi = front [] (slice lo hi (names s))
+
+abbrev pub storedCount : ℕ → ℕ → List ℕ → ℕ
+storedCount lo i steps = pick (eqb i lo) 0 (getD steps i 0)
+
+-- names lo to hi of a list that was judged; record lo begins at `at`
+pub record BlockAsk (s : Bytes) (steps : List ℕ) (lo at hi : ℕ) : Type 0 where
+  pub n : ℕ
+  pub lens : List ℕ
+  pub ready : Ready s n lens steps
+  pub order : lo ≤ hi
+  pub within : hi ≤ n
+  pub here : at ≡ startOf s lo
+
+-- the size of their entries as one block, and where the next record begins
+pub record BlockSize (s : Bytes) (lo hi size next : ℕ) : Type 0 where
+  pub is : size ≡ length (block s lo hi)
+  pub small : size + 202 * lo ≤ 202 * hi
+  pub here : next ≡ startOf s hi
+
+-- the same, with the block at the front of the room
+pub record BlockPut (s : Bytes) (lo hi : ℕ) (room₀ room : Bytes) (size next : ℕ) : Type 0 where
+  pub sized : BlockSize s lo hi size next
+  pub put : room ≡ over (block s lo hi) room₀
+
+-- the entries of n names in blocks of k
+pub record EntriesAsk (s : Bytes) (n : ℕ) (steps : List ℕ) (k : ℕ) : Type 0 where
+  pub lens : List ℕ
+  pub ready : Ready s n lens steps
+  pub low : 1 ≤ k
+  pub high : k ≤ 64
+
+-- number i of a row stands in the room behind those before it, where it fits
+pub record NumberPut (room₀ room : Bytes) (i v : ℕ) : Type 0 where
+  pub kept : length room ≡ length room₀
+  pub put : (ns : List ℕ) (start : Bytes) → length ns ≡ i → room₀ ≡ over (numbers ns) start → 2 * suc i ≤ length room₀ → room ≡ over (numbers (ns ++ (v ∷ []))) start
+
+pub record Surveyed (s : Bytes) (k : ℕ) (room₀ room : Bytes) (count size : ℕ) : Type 0 where
+  pub size-is : size ≡ length (entryPart k (names s))
+  pub small : size ≤ 404000
+  pub few : count ≤ 2000
+  pub count-is : 2 * count ≡ length (blockPart k (names s))
+  pub put : length room₀ ≡ 2 * count → room ≡ blockPart k (names s)

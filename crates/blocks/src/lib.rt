@@ -1,0 +1,137 @@
+// The entries, block by block, and the block table. What neighbours share was noted when the list was judged, so nothing is compared.
+ghost use mathlib.Core.Path.{_≡_};
+ghost use mathlib.Core.List.{_∷_};
+ghost use Prim.Native.Nat.{_+_, _≤_, _<_};
+ghost use lib.ListN.{length, getD, take, drop};
+ghost use Rattle.records.specs.Lists.{names};
+ghost use Rattle.format.specs.Book.{entryPart};
+ghost use Rattle.records.specs.Lists.{startOf};
+ghost use Rattle.blocks.specs.Writing.{block, storedCount, BlockAsk, BlockSize, BlockPut, EntriesAsk, NumberPut, Surveyed};
+
+// The count that name i stores in a block that begins with name lo.
+fn count_of(steps: &[u8], lo: usize, i: usize) -> usize
+    requires { ⌜ i < length (now steps) ⌝ }
+    ensures { λ r. ⌜ r ≡ storedCount lo i (now (steps .entry)) ⌝ }
+{
+    if i == lo {
+        return 0;
+    }
+    numbers::wide(steps[i])
+}
+
+// A block: the size of its entries, and where the record after its names begins.
+pub struct Block {
+    pub size: usize,
+    pub next: usize,
+}
+
+// Names lo to hi as one block, of which record lo begins at `at`.
+fn block_size(list: &[u8], steps: &[u8], lo: usize, at: usize, hi: usize) -> Block
+    requires { ⌜ BlockAsk (now list) (now steps) lo at hi ⌝ }
+    ensures { λ r. ⌜ BlockSize (now (list .entry)) lo hi (r .size) (r .next) ⌝ }
+{
+    let mut size: usize = 0;
+    let mut next = at;
+    let mut i = lo;
+    while i < hi {
+        let len = numbers::wide(list[next]);
+        size += 2 + len - count_of(steps, lo, i);
+        next += 1 + len;
+        i += 1;
+    }
+    Block { size, next }
+}
+
+// The entry of a name that shares c bytes with the one before: c, the length of the rest, and the rest, which begins at `from`.
+fn write_entry(list: &[u8], from: usize, c: usize, rest: usize, part: &mut [u8])
+    requires { ⌜ (c < 256) × (rest < 256) × (from + rest ≤ length (now list)) × (length (now part) ≡ rest + 2) ⌝ }
+    ensures { λ _. ⌜ now (part .exit) ≡ c ∷ rest ∷ take rest (drop from (now (list .entry))) ⌝ }
+{
+    part[0] = c as u8;
+    part[1] = rest as u8;
+    let mut i: usize = 0;
+    while i < rest {
+        part[i + 2] = list[from + i];
+        i += 1;
+    }
+}
+
+// The same, with the entries at the front of the room.
+fn write_block(list: &[u8], steps: &[u8], lo: usize, at: usize, hi: usize, room: &mut [u8]) -> Block
+    requires { ⌜ BlockAsk (now list) (now steps) lo at hi ⌝ }
+    requires { ⌜ length (block (now list) lo hi) ≤ length (now room) ⌝ }
+    ensures { λ r. ⌜ BlockPut (now (list .entry)) lo hi (now (room .entry)) (now (room .exit)) (r .size) (r .next) ⌝ }
+{
+    let mut size: usize = 0;
+    let mut next = at;
+    let mut i = lo;
+    while i < hi {
+        let len = numbers::wide(list[next]);
+        let c = count_of(steps, lo, i);
+        let rest = len - c;
+        let end = size + 2 + rest;
+        write_entry(list, next + 1 + c, c, rest, &mut room[size..end]);
+        size = end;
+        next += 1 + len;
+        i += 1;
+    }
+    Block { size, next }
+}
+
+// The entries of all names, in blocks of k.
+pub fn write_entries(list: &[u8], n: usize, steps: &[u8], k: usize, room: &mut [u8])
+    requires { ⌜ EntriesAsk (now list) n (now steps) k ⌝ }
+    requires { ⌜ length (now room) ≡ length (entryPart k (names (now list))) ⌝ }
+    ensures { λ _. ⌜ now (room .exit) ≡ entryPart k (names (now (list .entry))) ⌝ }
+{
+    let mut lo: usize = 0;
+    let mut at: usize = 0;
+    let mut size: usize = 0;
+    while lo < n {
+        let hi = numbers::lesser(lo + k, n);
+        let b = write_block(list, steps, lo, at, hi, &mut room[size..]);
+        size += b.size;
+        at = b.next;
+        lo = hi;
+    }
+}
+
+// Number i of a row of numbers, where the row so far fits.
+fn put_number(room: &mut [u8], i: usize, v: usize)
+    requires { ⌜ i < 2000 ⌝ }
+    ensures { λ _. ⌜ NumberPut (now (room .entry)) (now (room .exit)) i v ⌝ }
+{
+    let a = 2 * i;
+    let b = a + 2;
+    if room.len() < b {
+        return;
+    }
+    numbers::put16(&mut room[a..b], v);
+}
+
+// How many blocks there are, and the size of all entries.
+pub struct Survey {
+    pub count: usize,
+    pub size: usize,
+}
+
+// The block table, where it fits: where each block's entries begin.
+pub fn write_table(list: &[u8], n: usize, steps: &[u8], k: usize, room: &mut [u8]) -> Survey
+    requires { ⌜ EntriesAsk (now list) n (now steps) k ⌝ }
+    ensures { λ r. ⌜ Surveyed (now (list .entry)) k (now (room .entry)) (now (room .exit)) (r .count) (r .size) ⌝ }
+{
+    let mut lo: usize = 0;
+    let mut at: usize = 0;
+    let mut size: usize = 0;
+    let mut count: usize = 0;
+    while lo < n {
+        put_number(room, count, size);
+        let hi = numbers::lesser(lo + k, n);
+        let b = block_size(list, steps, lo, at, hi);
+        size += b.size;
+        at = b.next;
+        lo = hi;
+        count += 1;
+    }
+    Survey { count, size }
+}
