@@ -1,0 +1,86 @@
+-- How a build ends, by the ways that the call goes.
+--     answer-is         an answer by its three numbers
+--     build-low, build-high, build-bad, build-good     block size 0; above 64; a bad record; what building a judged list gives
+--     judged-asks       a judged list is ready to be built
+-- Assumes nothing.
+use Prim.Native.Nat.{ℕ, _≤_, _<_}
+use native.Mathlib.Omega.{arith}
+use mathlib.Core.Path.{_≡_, refl, sym, ap, _∙_}
+use mathlib.Core.Bool.{Bool, true, false}
+use mathlib.Core.List.{List}
+use lib.ListN.{length}
+use borrow.Author.Tests.{le-leb, lt-leb}
+use Rattle.words.specs.Words.{Bytes, pick, plain}
+use Rattle.format.specs.Book.{goodBlock}
+use Rattle.format.specs.Records.{Names, Reading, Refused, readList, sound}
+use Rattle.format.proofs.Records.{read-sound, sound-few}
+use Rattle.answers.specs.Calls.{Answer as Numbers, Written, refused, build, builtFrom}
+use Rattle.records.specs.Lists.{Judged, names, namesIn, verdictOf}
+use Rattle.build.specs.Whole.{BuildAsk}
+use Rattle.book.specs.Answers.{answered, written}
+use Rattle.records.specs.declared.Verdict.{Verdict}
+use Rattle.records.specs.declared.Verdict.the-variants.{Good, Bad}
+use Rattle.book.specs.declared.Answer.{Answer}
+
+abbrev pub numbered : ℕ → ℕ → Numbers
+numbered code first = record { code = code; first = first; second = 0 }
+
+pub answer-is : (r : Answer) (code first : ℕ) → (r .code ≡ code) × (r .first ≡ first) × (r .second ≡ 0) → answered r ≡ numbered code first
+answer-is r code first e = rw (e .0, e .1, e .2) refl
+
+module _ (s : Bytes) (k : ℕ) (room : Bytes) where
+  gate : (t : Bool) → goodBlock k ≡ t → build plain s k room ≡ pick t (builtFrom plain k room (readList plain s)) (record { answer = refused 8; room = room })
+  unfolding build
+  gate t p = rw p refl
+
+  -- an answer with these numbers, and the room as it was
+  abbrev pub Ends : Answer → ℕ → ℕ → Type 0
+  Ends r code first = answered r ≡ numbered code first
+
+  pub build-low : (r : Answer) → Ends r 8 0 → k ≡ 0 → written r room ≡ build plain s k room
+  build-low r e h = ap (λ (a : Numbers). record { answer = a; room = room }) e ∙ sym (gate false (rw (lt-leb 1 k (omega arith)) refl))
+
+  pub build-high : (r : Answer) → Ends r 8 0 → 64 < k → written r room ≡ build plain s k room
+  build-high r e h = ap (λ (a : Numbers). record { answer = a; room = room }) e ∙ sym (gate false (rw (le-leb 1 k (omega arith), lt-leb k 64 h) refl))
+
+  module _ (z : k ≡ 0 → ⊥) (h : k ≤ 64) where
+    pub build-good : (w : Written) → w ≡ builtFrom plain k room (readList plain s) → w ≡ build plain s k room
+    build-good w p = p ∙ sym (gate true (rw (le-leb 1 k (omega arith), le-leb k 64 h) refl))
+
+    pub build-bad : (r : Answer) (code i : ℕ) → Ends r code i → Bad code i ≡ verdictOf (readList plain s) → written r room ≡ build plain s k room
+    unfolding builtFrom
+    build-bad r code i e v =
+        build-good (written r room) (ap (λ (a : Numbers). record { answer = a; room = room }) e ∙ go (readList plain s) v)
+      where
+        bad : (c j : ℕ) → code ≡ c → i ≡ j → record { answer = numbered code i; room = room } ≡ builtFrom plain k room (Refused c j)
+        bad c j f g = rw (f, g) refl
+
+        go : (x : Reading) → Bad code i ≡ verdictOf x → record { answer = numbered code i; room = room } ≡ builtFrom plain k room x
+        go (Names xs) f = absurd (let y : _≡_ {A = ℕ} 0 1 = cc in omega arith)
+        go (Refused c j) f = bad c j (cc) (cc)
+
+    pub judged-asks : (n : ℕ) (lens steps : List ℕ) (v : Verdict) → Judged s lens steps v → v ≡ Good n → BuildAsk s n lens steps k
+    unfolding names
+    judged-asks n lens steps v j e = go (readList plain s) refl (sym e ∙ j .verdict)
+      where
+        names-are : (xs : List Bytes) → readList plain s ≡ Names xs → names s ≡ xs
+        names-are xs p = ap namesIn p
+
+        go : (x : Reading) → readList plain s ≡ x → Good n ≡ verdictOf x → BuildAsk s n lens steps k
+        go (Refused c i) p f = absurd (let y : _≡_ {A = ℕ} 0 1 = cc in omega arith)
+        go (Names xs) p f =
+            let all : names s ≡ xs = names-are xs p in
+            let b = read-sound plain s (names s) (p ∙ ap Names (sym all)) in
+            let count : n ≡ length xs = cc in
+            let size : n ≡ length (names s) = count ∙ ap length (sym all) in
+            record {
+              read = p ∙ ap Names (sym all);
+              ready = record { bytes = b .0; total = size; few = omega (arith, sound-few plain (names s) (b .1)); sound = b .1; noted = j .noted };
+              low = omega arith;
+              high = h;
+            }
+
+    -- what building a judged list gave, as the call's own answer
+    pub build-ends : (r : Answer) (code first : ℕ) (new : Bytes) → Ends r code first → record { answer = numbered code first; room = new } ≡ builtFrom plain k room (readList plain s)
+        → written r new ≡ build plain s k room
+    build-ends r code first new e p = build-good (written r new) (ap (λ (a : Numbers). record { answer = a; room = new }) e ∙ p)

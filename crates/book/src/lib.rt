@@ -1,0 +1,56 @@
+// The public calls. None asks anything of its caller: any bytes, any numbers and any lengths are taken, and every call ends. Each has
+// one statement: its answer and all that was lent, as they are when it ends, equal a function of what came in. They are exported for C
+// and Rust; a slice is a pointer and a length.
+ghost use mathlib.Core.Path.{_≡_};
+ghost use Rattle.words.specs.Words.{plain};
+ghost use Rattle.answers.specs.Calls.{build};
+ghost use Rattle.book.specs.Answers.{written};
+
+// 0 or the number of a refusal, and two numbers beside it.
+#[repr(C)]
+pub struct Answer {
+    pub code: usize,
+    pub first: usize,
+    pub second: usize,
+}
+
+// A refusal, and the number beside it.
+fn refuse(code: usize, first: usize) -> Answer
+    ensures { λ r. ⌜ (r .code ≡ code) × (r .first ≡ first) × (r .second ≡ 0) ⌝ }
+{
+    Answer {
+        code,
+        first,
+        second: 0,
+    }
+}
+
+// Builds the book of a list with blocks of so many names, at the front of the room. Refusals: 8; record by record 5, 6, 7; 9; 4.
+#[no_mangle]
+pub extern "C" fn book_build(list: &[u8], block: usize, room: &mut [u8]) -> Answer
+    ensures { λ r. ⌜ written r (now (room .exit)) ≡ build plain (now (list .entry)) block (now (room .entry)) ⌝ }
+{
+    if block == 0 {
+        return refuse(8, 0);
+    }
+    if 64 < block {
+        return refuse(8, 0);
+    }
+    let mut lens = [0u8; 2000];
+    let mut steps = [0u8; 2000];
+    let verdict = records::judge(list, &mut lens, &mut steps);
+    match verdict {
+        records::Verdict::Bad(code, record) => refuse(code, record),
+        records::Verdict::Good(n) => {
+            let built = build::build_judged(list, n, &lens, &steps, block, room);
+            match built {
+                build::Built::Refused(code) => refuse(code, 0),
+                build::Built::Written(total) => Answer {
+                    code: 0,
+                    first: total,
+                    second: 0,
+                },
+            }
+        }
+    }
+}

@@ -1,0 +1,35 @@
+-- What building a judged list asks and gives.
+--     BuildAsk          a judged list, and a block size 1 to 64
+--     Sized             where the tables begin, the number of nodes, the length
+--     shownBuilt        how it ended, with the room that it left, as document 01's numbers
+-- The laws are in proofs/. Assumes nothing: these are definitions.
+use Prim.Native.Nat.{ℕ, _+_, _*_, _≤_}
+use mathlib.Core.Path.{_≡_}
+use mathlib.Core.List.{List}
+use lib.ListN.{length}
+use Rattle.words.specs.Words.{Bytes, plain}
+use Rattle.format.specs.Nodes.{table}
+use Rattle.format.specs.Records.{Names, readList}
+use Rattle.format.specs.Book.{entryPart, blockPart}
+use Rattle.answers.specs.Calls.{Written, given, refused}
+use Rattle.records.specs.Lists.{names, words}
+use Rattle.records.specs.Lists.{Ready}
+use Rattle.build.specs.declared.Built.{Built}
+use Rattle.build.specs.declared.Built.the-variants.{Written as Wrote, Refused}
+
+pub record BuildAsk (s : Bytes) (n : ℕ) (lens steps : List ℕ) (k : ℕ) : Type 0 where
+  pub read : readList plain s ≡ Names (names s)
+  pub ready : Ready s n lens steps
+  pub low : 1 ≤ k
+  pub high : k ≤ 64
+
+pub record Sized (s : Bytes) (k blocks nodes count total : ℕ) : Type 0 where
+  pub blocks-start : blocks ≡ length (entryPart k (names s))
+  pub nodes-start : nodes ≡ blocks + length (blockPart k (names s))
+  pub number : count ≡ length (table (words s))
+  pub whole : total ≡ nodes + 10 * count + 16
+  pub few : total ≤ 1000000
+
+abbrev pub shownBuilt : Built → Bytes → Written
+shownBuilt (Wrote total) room = record { answer = given total 0; room = room }
+shownBuilt (Refused code) room = record { answer = refused code; room = room }
