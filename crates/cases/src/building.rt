@@ -1,0 +1,67 @@
+// The cases of `book_build`. A case is a head and then the list: of the head, 4 bytes have the list's length, 8 the block size and 4 the
+// room's length. Nothing is taken on trust: whatever the file holds, the program is safe and ends.
+ghost use Prim.Native.Nat.{_<_, _≤_};
+ghost use lib.ListN.{length};
+use crate::bytes;
+use crate::lines;
+
+const HEAD: usize = 16;
+
+const LONGEST_ROOM: usize = 70000;
+
+// Builds, and prints the case's number, the answer, the checksum of the book, of no bytes where there is none, and that of the whole room.
+fn print_build(number: usize, list: &[u8], block: usize, room: &mut [u8]) {
+    bytes::fill(room);
+    let answer = book::book_build(list, block, room);
+    let code = answer.code;
+    let first = answer.first;
+    lines::begin(number);
+    lines::add_answer(answer);
+    if code == 0 {
+        lines::add_checksum(&room[..first]);
+    } else {
+        lines::add_checksum(&room[..0]);
+    }
+    lines::add_checksum(room);
+    lines::end();
+}
+
+// Runs the case at a place, and gives the place of the next. A case that is cut off, or has too long a room, is the last.
+fn run_one(number: usize, file: &[u8], at: usize) -> usize
+    requires { ⌜ at < length (now file) ⌝ }
+    ensures { λ r. ⌜ (at < r) × (r ≤ length (now (file .entry))) ⌝ }
+{
+    if file.len() - at < HEAD {
+        return file.len();
+    }
+    let start = at + HEAD;
+    let size = bytes::four(file, at);
+    let block = bytes::eight(file, at + 4);
+    let room_size = bytes::four(file, at + 12);
+    if file.len() - start < size {
+        return file.len();
+    }
+    if LONGEST_ROOM < room_size {
+        return file.len();
+    }
+    let end = start + size;
+    let mut room = [0u8; LONGEST_ROOM];
+    print_build(number, &file[start..end], block, &mut room[0..room_size]);
+    end
+}
+
+// Runs the cases one after the other.
+fn run_all(file: &[u8]) {
+    let mut at: usize = 0;
+    let mut number: usize = 0;
+    while at < file.len() {
+        at = run_one(number, file, at);
+        number += 1;
+    }
+}
+
+// Prints the lines of all cases. The file is read into the space.
+pub fn run(space: &mut [u8]) {
+    let size = bytes::load(b"build.cases", space);
+    run_all(&space[..size]);
+}

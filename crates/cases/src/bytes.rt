@@ -1,0 +1,77 @@
+// Bytes of a case: a whole file of them, numbers that stand in it, what a room holds before a call, and a checksum.
+// Numbers are low byte first.
+ghost use Prim.Native.Nat.{_+_, _<_, _≤_};
+ghost use lib.ListN.{length};
+ghost use Rattle.io.specs.Counts.{Counts};
+
+// Reads a file as far as there is space, and gives the number of bytes read. Of a file that cannot be opened, says why and reads none.
+pub fn load(path: &[u8], space: &mut [u8]) -> usize
+    ensures { λ r. ⌜ Counts r (now (space .exit)) ⌝ }
+{
+    let fd = os::open_read(path);
+    if fd < 0 {
+        os::fail(path);
+        return 0;
+    }
+    let size = io::read_full(fd, space);
+    libc::close(fd);
+    size
+}
+
+// The number of two bytes at a place.
+fn two(s: &[u8], at: usize) -> usize
+    requires { ⌜ at + 2 ≤ length (now s) ⌝ }
+    ensures { λ r. ⌜ r < 65536 ⌝ }
+{
+    let low = numbers::wide(s[at]);
+    let high = numbers::wide(s[at + 1]);
+    low + 256 * high
+}
+
+// The number of four bytes at a place.
+pub fn four(s: &[u8], at: usize) -> usize
+    requires { ⌜ at + 4 ≤ length (now s) ⌝ }
+    ensures { λ r. ⌜ r < 4294967296 ⌝ }
+{
+    let low = two(s, at);
+    let high = two(s, at + 2);
+    low + 65536 * high
+}
+
+// The number of eight bytes at a place.
+pub fn eight(s: &[u8], at: usize) -> usize
+    requires { ⌜ at + 8 ≤ length (now s) ⌝ }
+{
+    let low = four(s, at);
+    let high = four(s, at + 4);
+    low + 4294967296 * high
+}
+
+// Fills a room so that a byte that a call should not have touched shows.
+pub fn fill(room: &mut [u8]) {
+    let mut i: usize = 0;
+    while i < room.len() {
+        room[i] = (i % 251) as u8;
+        i += 1;
+    }
+}
+
+// A checksum: two sums modulo 65,521.
+pub struct Sums {
+    // of 1 and the bytes
+    pub bytes: usize,
+    // of what that sum was after each byte
+    pub sums: usize,
+}
+
+pub fn checksum(s: &[u8]) -> Sums {
+    let mut bytes: usize = 1;
+    let mut sums: usize = 0;
+    let mut i: usize = 0;
+    while i < s.len() {
+        bytes = (bytes + numbers::wide(s[i])) % 65521;
+        sums = (sums + bytes) % 65521;
+        i += 1;
+    }
+    Sums { bytes, sums }
+}
