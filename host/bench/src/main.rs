@@ -1,0 +1,94 @@
+//! What the calls of the proved library cost.
+//!
+//! `bench CALL ..` makes the call once. It is made in a function of its own
+//! (for `build` that is `measured_build`), so that a profiler shows what it
+//! took: see measure.sh. `bench stack CALL ..` tells how deep the stack grew.
+//! Either way the answer is printed, and it has to be the second program's: a
+//! wrong answer is not worth measuring.
+//!
+//! Another call is a module with one function, and one more line in [`CALLS`].
+
+mod building;
+mod stack;
+
+use std::env;
+use std::process::ExitCode;
+
+/// A call that can be measured.
+struct Call {
+    /// The call's name on the command line.
+    name: &'static str,
+    /// What has to follow the name.
+    words: &'static str,
+    /// Makes the call ready from those words.
+    ready: fn(&[String]) -> Result<Ready, String>,
+}
+
+/// A call with all that goes into it.
+pub struct Ready {
+    /// Makes the call, in a function that is never inlined.
+    pub measured: Box<dyn FnMut() -> proved::Answer + Send>,
+    /// What the second program answers.
+    pub expected: model::Answer,
+}
+
+/// Every call that can be measured.
+const CALLS: [Call; 1] = [Call {
+    name: "build",
+    words: "LISTFILE K",
+    ready: building::ready,
+}];
+
+fn main() -> ExitCode {
+    let words: Vec<String> = env::args().skip(1).collect();
+    match run(&words) {
+        Ok(line) => {
+            println!("{line}");
+            ExitCode::SUCCESS
+        }
+        Err(message) => {
+            eprintln!("{message}");
+            ExitCode::FAILURE
+        }
+    }
+}
+
+/// Does what the words say and gives the line to print.
+fn run(words: &[String]) -> Result<String, String> {
+    if words.first().is_some_and(|word| word == "stack") {
+        let Ready { measured, expected } = ready(&words[1..])?;
+        let (answer, depth) = stack::deepest(measured)?;
+        return Ok(format!("{}, stack {depth}", shown(answer, expected)?));
+    }
+    let Ready {
+        mut measured,
+        expected,
+    } = ready(words)?;
+    shown(measured(), expected)
+}
+
+/// The call that the words name.
+fn ready(words: &[String]) -> Result<Ready, String> {
+    let (name, rest) = words.split_first().ok_or_else(usage)?;
+    let call = CALLS.iter().find(|call| call.name == name);
+    (call.ok_or_else(usage)?.ready)(rest)
+}
+
+/// The answer as it is printed, if it is the expected one.
+fn shown(answer: proved::Answer, expected: model::Answer) -> Result<String, String> {
+    let numbers = (answer.code, answer.first, answer.second);
+    if numbers == (expected.code, expected.first, expected.second) {
+        Ok(format!("answer {} {} {}", numbers.0, numbers.1, numbers.2))
+    } else {
+        Err(format!("WRONG: {answer:?}, expected {expected:?}"))
+    }
+}
+
+/// What can be asked of this program.
+fn usage() -> String {
+    let calls = CALLS.iter();
+    let lines: Vec<String> = calls
+        .map(|call| format!("bench [stack] {} {}", call.name, call.words))
+        .collect();
+    lines.join("\n")
+}

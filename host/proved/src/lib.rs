@@ -1,0 +1,42 @@
+//! Safe Rust over the proved library.
+//!
+//! The library is an archive of C functions that are proved to take any bytes
+//! and any numbers. Here each of them gets a function with slices, which asks
+//! nothing of its caller either. Nothing here needs a heap or the standard
+//! library. Which archive is linked says the variable `MISTROGU_ARCHIVE` while
+//! this crate is compiled.
+//!
+//! Another call is one line in [`raw`] and one function below.
+
+#![no_std]
+#![warn(missing_docs)]
+
+pub mod raw;
+
+/// What every call gives back, as the archive lays it out.
+#[repr(C)]
+#[derive(Clone, Copy, Debug, PartialEq, Eq, Default)]
+pub struct Answer {
+    /// 0 where the call is accepted, else the number of the refusal.
+    pub code: usize,
+    /// The first number of the answer.
+    pub first: usize,
+    /// The second number of the answer.
+    pub second: usize,
+}
+
+/// Builds a book from list records into the room: (0, its length, 0), or a
+/// refusal, and then the room is as it was.
+pub fn book_build(list: &[u8], block: usize, room: &mut [u8]) -> Answer {
+    // SAFETY: each pointer comes with the length of its own slice. The room is
+    // borrowed for this call alone, so it does not overlap the list.
+    unsafe {
+        raw::book_build(
+            list.as_ptr(),
+            list.len(),
+            block,
+            room.as_mut_ptr(),
+            room.len(),
+        )
+    }
+}

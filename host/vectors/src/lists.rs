@@ -1,0 +1,167 @@
+//! Lists of names by their shape.
+//!
+//! Every function here gives names that strictly rise and have 1 to 200 bytes,
+//! unless it says otherwise. Rust orders byte strings as document 01 orders
+//! names, a name before its own extensions, so sorting is enough.
+
+use crate::random::Random;
+use model::book_of;
+use model::names::LONGEST_NAME;
+
+/// Names in the order of the list.
+pub type Names = Vec<Vec<u8>>;
+
+/// Mar, Marina, Market Square.
+pub fn example() -> Names {
+    texts(&["Mar", "Marina", "Market Square"])
+}
+
+/// Names given as texts, in the order given, whatever it is.
+pub fn texts(texts: &[&str]) -> Names {
+    texts.iter().map(|text| text.as_bytes().to_vec()).collect()
+}
+
+/// Sorts the names and drops those that are there twice.
+pub fn sorted(mut names: Names) -> Names {
+    names.sort();
+    names.dedup();
+    names
+}
+
+/// Seventy stops as a town might have them: ten places with seven endings. Some
+/// names begin others, and neighbours share much or nothing.
+pub fn stops() -> Names {
+    let places = [
+        "Abbey", "Abbots", "Beech", "Bridge", "Castle", "Church", "Mar", "Market", "Station", "St",
+    ];
+    let endings = ["", " End", " Lane", " Lane East", " Road", "field", "gate"];
+    let mut names = Names::new();
+    for place in places {
+        for ending in endings {
+            names.push(format!("{place}{ending}").into_bytes());
+        }
+    }
+    sorted(names)
+}
+
+/// So many names of two bytes, up to 64,000: 250 with first byte 0, then 250
+/// with first byte 1, and so on. A tree of two wide levels.
+pub fn pairs(count: usize) -> Names {
+    (0..count)
+        .map(|number| vec![(number / 250) as u8, (number % 250) as u8])
+        .collect()
+}
+
+/// The 256 names of one byte.
+pub fn single_bytes() -> Names {
+    (0..=255).map(|byte| vec![byte]).collect()
+}
+
+/// A stem, and the stem followed by each of the 256 bytes: a node with 257
+/// children, the most there can be.
+pub fn fan(stem: &[u8]) -> Names {
+    let mut names = vec![stem.to_vec()];
+    for byte in 0..=255 {
+        names.push([stem, &[byte]].concat());
+    }
+    names
+}
+
+/// a, aa, aaa, and so on, up to this length: every name begins the next one.
+pub fn chain(byte: u8, length: usize) -> Names {
+    (1..=length).map(|length| vec![byte; length]).collect()
+}
+
+/// aab, ab, b, and so on, from this length down: the mirror of the chain. The
+/// second byte has to be above the first.
+pub fn mirror(byte: u8, above: u8, length: usize) -> Names {
+    let stems = (0..length).rev();
+    stems
+        .map(|stem| [vec![byte; stem], vec![above]].concat())
+        .collect()
+}
+
+/// So many names of eleven letters a and b, up to 2,048: the numbers from 0 on,
+/// written in binary. Every inner node has two children, so the tree has
+/// about as many nodes as it can.
+pub fn binary(count: usize) -> Names {
+    (0..count)
+        .map(|number| {
+            let digits = (0..11).rev();
+            digits
+                .map(|digit| b'a' + (number >> digit & 1) as u8)
+                .collect()
+        })
+        .collect()
+}
+
+/// So many names of 200 bytes, up to 65,536: two bytes that differ, then a tail.
+pub fn long(count: usize) -> Names {
+    (0..count)
+        .map(|number| {
+            let head = [(number / 256) as u8, (number % 256) as u8];
+            [&head[..], &tail(number, LONGEST_NAME - 2)].concat()
+        })
+        .collect()
+}
+
+/// Bytes to put behind a name. They differ from name to name, so that a byte
+/// in a wrong place shows.
+fn tail(number: usize, length: usize) -> Vec<u8> {
+    (0..length).map(|at| (7 * number + at) as u8).collect()
+}
+
+/// Makes the book of these names with this block size exactly `wanted` bytes
+/// long, by putting tails behind names.
+///
+/// A byte behind a name that does not begin the next one adds one byte to the
+/// book and changes nothing else: the two names still differ where they did, so
+/// shared counts, order and tree stay. The names have to leave space for it.
+pub fn with_book_length(names: &Names, block: usize, wanted: usize) -> Names {
+    let mut names = names.clone();
+    let mut missing = wanted - book_of(block, &names).len();
+    // What the last names have no space for goes to earlier ones in the next round.
+    while missing > 0 {
+        let left = missing;
+        for position in 0..names.len() {
+            let next = names.get(position + 1);
+            if next.is_some_and(|next| next.starts_with(&names[position])) {
+                continue;
+            }
+            let share = missing.div_ceil(names.len() - position);
+            let share = share.min(LONGEST_NAME - names[position].len());
+            names[position].extend(tail(position, share));
+            missing -= share;
+        }
+        assert!(missing < left, "too little space");
+    }
+    assert_eq!(book_of(block, &names).len(), wanted, "too little space");
+    names
+}
+
+/// At most so many random names over these bytes, of a length from `least` to
+/// `most`. Doubles are dropped.
+pub fn random(random: &mut Random, bytes: &[u8], count: usize, least: usize, most: usize) -> Names {
+    let names = (0..count).map(|_| random.string(bytes, least, most));
+    sorted(names.collect())
+}
+
+/// At most so many random names of which each goes on from some part of an
+/// earlier one, so that they share long beginnings.
+pub fn grown(random: &mut Random, bytes: &[u8], count: usize, longest_tail: usize) -> Names {
+    let mut names = vec![random.string(bytes, 1, longest_tail)];
+    while names.len() < count {
+        let from = random.one_of(&names);
+        let kept = random.below(from.len() + 1);
+        let mut name = from[..kept].to_vec();
+        name.extend(random.string(bytes, 1, longest_tail));
+        name.truncate(LONGEST_NAME);
+        names.push(name);
+    }
+    sorted(names)
+}
+
+/// All 256 bytes, from 0 up: the alphabet of names without any limit.
+pub fn all_bytes() -> Vec<u8> {
+    (0..=255).collect()
+}

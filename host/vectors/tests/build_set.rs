@@ -1,0 +1,142 @@
+//! The set of `book_build`: its file read back by a reader of its own, and what
+//! must be among its cases.
+
+use std::collections::BTreeMap;
+use vectors::building::{self, LONGEST_ROOM};
+use vectors::checksum::checksum;
+use vectors::Case;
+
+/// A case as it stands in the file.
+struct Read<'file> {
+    list: &'file [u8],
+    block: u64,
+    room: usize,
+}
+
+/// Reads the file as its description says, and asserts that it ends with a
+/// case.
+fn read_file(mut file: &[u8]) -> Vec<Read<'_>> {
+    let mut cases = Vec::new();
+    while !file.is_empty() {
+        let (length, block, room) = (number(file, 0, 4), number(file, 4, 8), number(file, 12, 4));
+        let end = 16 + length as usize;
+        cases.push(Read {
+            list: &file[16..end],
+            block,
+            room: room as usize,
+        });
+        file = &file[end..];
+    }
+    cases
+}
+
+/// The number in so many bytes from this one on, low byte first.
+fn number(file: &[u8], from: usize, bytes: usize) -> u64 {
+    let bytes = file[from..from + bytes].iter().rev();
+    bytes.fold(0, |number, &byte| 256 * number + u64::from(byte))
+}
+
+/// The line that a program prints for this case.
+fn line(number: usize, case: &Read) -> String {
+    let mut room: Vec<u8> = (0..case.room).map(|at| (at % 251) as u8).collect();
+    let answer = model::book_build(case.list, case.block as usize, &mut room);
+    let (mut a, mut b) = (1, 0);
+    if answer.code == 0 {
+        (a, b) = checksum(&room[..answer.first]);
+    }
+    let (whole_a, whole_b) = checksum(&room);
+    let (code, first, second) = (answer.code, answer.first, answer.second);
+    format!("{number} {code} {first} {second} {a} {b} {whole_a} {whole_b}\n")
+}
+
+/// The code, first and second that are expected for each case, with what the
+/// case is there for.
+fn outcomes() -> Vec<(String, [usize; 3])> {
+    let cases = building::cases().into_iter();
+    cases
+        .map(|case| {
+            let outcome = case.outcome();
+            let mut numbers = outcome.split(' ').map(|word| word.parse().unwrap());
+            let answer = std::array::from_fn(|_| numbers.next().unwrap());
+            (case.purpose(), answer)
+        })
+        .collect()
+}
+
+/// Asserts that there is a case with this in its purpose, and what its answer
+/// is.
+fn assert_among(outcomes: &[(String, [usize; 3])], purpose: &str, answer: [usize; 3]) {
+    let found = outcomes.iter().find(|(there, _)| there.contains(purpose));
+    let (_, there) = found.unwrap_or_else(|| panic!("no case for {purpose}"));
+    assert_eq!(there, &answer, "{purpose}");
+}
+
+#[test]
+fn a_program_that_follows_the_description_prints_the_text() {
+    let file = building::SET.case_file();
+    let cases = read_file(&file);
+    let lines = cases.iter().enumerate();
+    let text: String = lines.map(|(number, case)| line(number, case)).collect();
+    assert_eq!(text, building::SET.expected());
+}
+
+#[test]
+fn the_file_and_the_rooms_are_small_enough() {
+    let file = building::SET.case_file();
+    assert!(file.len() < 600_000, "{}", file.len());
+    let cases = read_file(&file);
+    assert!(cases.len() <= 160, "{}", cases.len());
+    assert!(cases.iter().all(|case| case.room <= LONGEST_ROOM));
+}
+
+#[test]
+fn every_refusal_of_a_build_is_among_the_cases() {
+    let mut counts = BTreeMap::new();
+    for (_, [code, _, _]) in outcomes() {
+        *counts.entry(code).or_insert(0) += 1;
+    }
+    let codes: Vec<usize> = counts.keys().copied().collect();
+    assert_eq!(codes, [0, 4, 5, 6, 7, 8, 9], "{counts:?}");
+}
+
+#[test]
+fn the_edges_of_document_01_are_among_the_cases() {
+    let outcomes = outcomes();
+    let among = |purpose, answer| assert_among(&outcomes, purpose, answer);
+    among("worked example: list 25, block 2, room 84", [4, 0, 0]);
+    among("worked example: list 25, block 2, room 85", [0, 85, 0]);
+    among("worked example: list 25, block 4, room 79", [4, 0, 0]);
+    among("worked example: list 25, block 4, room 80", [0, 80, 0]);
+    among("block 0, ", [8, 0, 0]);
+    among("block 1, ", [0, 90, 0]);
+    among("block 64, ", [0, 80, 0]);
+    among("block 65, ", [8, 0, 0]);
+    among("block 18446744073709551615, ", [8, 0, 0]);
+    among("empty list: list 0, block 64, room 15", [4, 0, 0]);
+    among("empty list: list 0, block 64, room 16", [0, 16, 0]);
+    among("one name of 200 bytes", [0, 230, 0]);
+    among("one name of 201 bytes", [5, 0, 0]);
+    among("equal neighbours", [6, 1, 0]);
+    among("2,000 names", [0, 26_209, 0]);
+    among("2,001 names", [7, 2000, 0]);
+    among("number 2,000 empty", [5, 2000, 0]);
+    among("number 2,000 equal", [6, 2000, 0]);
+    among("book of 65,535, many nodes", [0, 65_535, 0]);
+    among("book of 65,535, room short", [4, 0, 0]);
+    among("book of 65,536, no room", [9, 0, 0]);
+    among("book of 65,536, room to spare", [9, 0, 0]);
+    among("5 and not 9", [5, 1860, 0]);
+    among("6 and not 9", [6, 1860, 0]);
+    among("7 and not 9", [7, 2000, 0]);
+}
+
+#[test]
+fn the_list_with_every_block_size_gives_64_different_books() {
+    let cases = building::cases().into_iter();
+    let stops = cases.filter(|case| case.purpose().starts_with("seventy stops"));
+    let mut outcomes: Vec<String> = stops.map(|case| case.outcome()).collect();
+    outcomes.sort();
+    outcomes.dedup();
+    assert_eq!(outcomes.len(), 64);
+    assert_eq!(vectors::lists::stops().len(), 70);
+}

@@ -1,0 +1,79 @@
+//! What the lists promise: sound, and of the shape that their names say.
+
+use model::names::is_sound_list;
+use model::tree::tree;
+use model::{book_of, read_list, write_list};
+use vectors::damage::{spoil_bytes, spoil_names};
+use vectors::lists::{self, Names};
+use vectors::random::Random;
+
+#[test]
+fn the_fixed_lists_are_sound() {
+    let shapes: [(&str, Names); 9] = [
+        ("example", lists::example()),
+        ("stops", lists::stops()),
+        ("pairs", lists::pairs(2000)),
+        ("single bytes", lists::single_bytes()),
+        ("fan", lists::fan(b"x")),
+        ("chain", lists::chain(b'a', 200)),
+        ("mirror", lists::mirror(b'a', b'b', 200)),
+        ("binary", lists::binary(2000)),
+        ("long", lists::long(2000)),
+    ];
+    for (shape, names) in shapes {
+        assert!(is_sound_list(&names), "{shape}");
+    }
+}
+
+#[test]
+fn the_random_lists_are_sound_and_the_same_each_time() {
+    let all = lists::all_bytes();
+    for seed in 0..50 {
+        let make = |seed| {
+            let random = &mut Random::from_seed(seed);
+            let flat = lists::random(random, &all, 40, 1, 200);
+            (flat, lists::grown(random, b"ab", 60, 30))
+        };
+        let (flat, grown) = make(seed);
+        assert!(is_sound_list(&flat) && is_sound_list(&grown), "seed {seed}");
+        assert_eq!(make(seed), (flat, grown));
+    }
+}
+
+#[test]
+fn a_fan_has_the_widest_node_and_a_binary_list_the_most_nodes() {
+    assert_eq!(tree(&lists::fan(b"x")).unwrap().children.len(), 257);
+    assert_eq!(tree(&lists::binary(1860)).unwrap().nodes, 2 * 1860 - 1);
+}
+
+#[test]
+fn a_wanted_book_length_is_met_and_changes_no_node_but_leaves() {
+    for (names, block) in [(lists::stops(), 7), (lists::binary(100), 1)] {
+        let before = book_of(block, &names).len();
+        for more in [0, 1, 500] {
+            let padded = lists::with_book_length(&names, block, before + more);
+            assert!(is_sound_list(&padded));
+            assert_eq!(book_of(block, &padded).len(), before + more);
+            assert_eq!(tree(&padded).unwrap().nodes, tree(&names).unwrap().nodes);
+        }
+    }
+}
+
+#[test]
+fn spoiling_leads_to_refusals_5_and_6_and_sometimes_to_none() {
+    let mut seen = [0; 13];
+    for seed in 0..400 {
+        let random = &mut Random::from_seed(seed);
+        let mut names = lists::stops();
+        if seed % 2 == 0 {
+            spoil_names(random, &mut names);
+        }
+        let mut list = write_list(&names);
+        if seed % 2 == 1 {
+            spoil_bytes(random, &mut list);
+        }
+        let code = read_list(&list).err().map_or(0, |(code, _)| code);
+        seen[code] += 1;
+    }
+    assert!(seen[0] > 10 && seen[5] > 10 && seen[6] > 10, "{seen:?}");
+}
