@@ -1,7 +1,8 @@
--- Laws of what writers leave: bytes at the front of a room, and parts of it that are lent and come back.
+-- Laws of what writers leave: bytes at the front of a room, and parts of it that are lent and come back; and of a number that is read.
 --     part-length               a part of a run of bytes
 --     over-length, over-all     a room that is written over
 --     lent, lent-front          a part behind what is written comes back with more, whole or at its front
+--     number-is                 a number out of its two bytes
 --     two-stored                two bytes, one by one
 --     Numbered: numbered-none, numbered-more, numbered-all     numbers in a row
 -- Assumes nothing.
@@ -13,9 +14,13 @@ use mathlib.Core.List.{List, [], _∷_, _++_, append-assoc, append-nil}
 use lib.ListN.{length, getD, set, take, drop, length-append, length-take, length-drop}
 use lib.Seq.{take-at, drop-at, drop-drop, take-suc, take-all, drop-length, length-take-le}
 use Rattle.words.specs.Words.{Bytes}
-use Rattle.format.specs.Book.{numbers}
+use Rattle.format.specs.Book.{number, numbers}
 use Rattle.format.proofs.Numbers.{numbers-append, numbers-length}
 use Rattle.answers.specs.Calls.{over}
+
+pub number-is : (b : Bytes) (o x y : ℕ) → x ≡ getD b o 0 → y ≡ getD b (o + 1) 0 → x < 256 → y < 256 → (x + 256 * y ≡ number b o) × (x + 256 * y < 65536)
+unfolding number
+number-is b o x y p q h k = (ap₂ (λ (u v : ℕ). u + 256 * v) p q, omega arith)
 
 -- a part of a run of bytes
 pub part-length : (s : Bytes) (o n : ℕ) → o + n ≤ length s → length (take n (drop o s)) ≡ n

@@ -1,9 +1,9 @@
 // Numbers of one and two bytes, and the lesser and the greater of two numbers.
 ghost use mathlib.Core.Path.{_≡_};
 ghost use mathlib.Core.List.{[], _∷_};
-ghost use Prim.Native.Nat.{_*_, _<_, _≤_, min, max};
+ghost use Prim.Native.Nat.{_*_, _+_, _<_, _≤_, min, max};
 ghost use lib.ListN.{length};
-ghost use Rattle.format.specs.Book.{numbers};
+ghost use Rattle.format.specs.Book.{number, numbers};
 
 // A byte as a wider number.
 pub fn wide(x: u8) -> usize
@@ -29,6 +29,14 @@ pub fn greater(a: usize, b: usize) -> usize
     ensures { λ r. ⌜ r ≡ max a b ⌝ }
 {
     if a <= b { b } else { a }
+}
+
+// The number of two bytes that stands at an offset.
+pub fn number_at(book: &[u8], o: usize) -> usize
+    requires { ⌜ o + 2 ≤ length (now book) ⌝ }
+    ensures { λ r. ⌜ (r ≡ number (now (book .entry)) o) × (r < 65536) ⌝ }
+{
+    wide(book[o]) + 256 * wide(book[o + 1])
 }
 
 // A number as its two bytes, low byte first; of a larger one only those that two bytes hold.
