@@ -1,0 +1,157 @@
+-- The walk over a row, child by child, that judges whether the row of a whole group stands from o₀ on.
+--     Head, node-head      what a node's record says of its words
+--     Walk                 so far it may: the group's row stands just where the row from lo on stands from o on
+--     walk-start           at the group's first word
+--     walk-more            one child more, where the words that meet there share just d symbols
+--     walk-done            the last child, which is not the whole group: the group's row stands
+--     Ahead, walk-next      what has to stand at o if the group's row stands: each test of the code is one of its fields
+--     group-end            a row ends at one place
+-- Assumes nothing.
+use Prim.Native.Nat.{ℕ, suc, _+_, _-_, _*_, pred, _≤_, _<_}
+use native.Mathlib.Nat.{lt-irrefl, eq-or-lt-of-le}
+use native.Mathlib.Omega.{arith}
+use mathlib.Core.Path.{_≡_, refl, sym, ap, _∙_, subst}
+use mathlib.Core.Logic.{_⊎_, inl, inr}
+use lib.ListN.{length}
+use Rattle.words.specs.Words.{Bytes, Rises, Words, at, nth, shared, span}
+use Rattle.words.proofs.Words.{shared-comm, shared-le}
+use Rattle.format.specs.Book.{number}
+use Rattle.format.specs.Nodes.{Node, deep, nodeTable, rowTable}
+use Rattle.format.proofs.Spans.{span-share}
+use Rattle.standing.specs.Stands.{Child, GroupAt, NodeAt, RowAt}
+use Rattle.standing.proofs.Records.{stands-end}
+use Rattle.standing.proofs.Children as child
+
+-- what a node's record says of its words
+pub record Head (b : Bytes) (ws : Words) (lo hi o : ℕ) : Type 0 where
+  pub room : o + 10 ≤ length b
+  pub names : number b (o + 6) ≡ hi - lo
+  pub depth : suc lo < hi → number b (o + 2) ≡ deep ws lo hi
+
+-- the row of the group from lo₀ to hi, of depth d, stands from o₀ on just where the row of its words from lo on stands from o on
+pub record Walk (b : Bytes) (ws : Words) (lo₀ hi d o₀ lo o : ℕ) : Type 0 where
+  pub from : lo₀ ≤ lo
+  pub some : lo < hi
+  pub edge : lo₀ < lo → shared (nth ws (pred lo)) (nth ws lo) ≡ d
+  pub forth : (e : ℕ) → GroupAt b ws lo₀ hi d o₀ e → RowAt b ws lo hi d o e
+  pub back : (e : ℕ) → RowAt b ws lo hi d o e → RowAt b ws lo₀ hi d o₀ e
+
+-- what stands at o, if the group's row stands
+pub record Ahead (b : Bytes) (ws : Words) (lo₀ hi d lo o : ℕ) : Type 0 where
+  pub room : o + 10 ≤ length b
+  pub some : 0 < number b (o + 6)
+  pub upto : number b (o + 6) ≤ hi - lo
+  pub proper : number b (o + 6) < hi - lo₀
+  pub end : ℕ
+  pub node : NodeAt b ws lo (lo + number b (o + 6)) (at (nth ws lo) d) o end
+  pub below : 1 < number b (o + 6) → d < number b (o + 2)
+  pub edge : lo + number b (o + 6) < hi → shared (nth ws (pred (lo + number b (o + 6)))) (nth ws (lo + number b (o + 6))) ≡ d
+
+-- a row ends at one place
+pub group-end : (b : Bytes) (ws : Words) (lo hi d o e f : ℕ) → GroupAt b ws lo hi d o e → GroupAt b ws lo hi d o f → e ≡ f
+group-end b ws lo hi d o e f g h = stands-end b (rowTable lo d (span ws lo hi)) o e (g .stands) ∙ sym (stands-end b (rowTable lo d (span ws lo hi)) o f (h .stands))
+
+module _ (b : Bytes) (ws : Words) (r : Rises ws) where
+  pub node-head : (s lo hi o e : ℕ) → lo < hi → hi ≤ length ws → NodeAt b ws lo hi s o e → Head b ws lo hi o
+  node-head s lo hi o e a l n = go (eq-or-lt-of-le a)
+    where
+      go : (suc lo ≡ hi) ⊎ (suc lo < hi) → Head b ws lo hi o
+      go (inl k) =
+          let f = child.node-leaf ws r b s lo o e (omega arith) (subst (λ (x : ℕ). NodeAt b ws lo x s o e) (sym k) n) in
+          let m : number b (o + 6) ≡ 1 = ap (λ (x : Node). x .names) (f .told) in
+          record { room = f .room; names = omega arith; depth = λ q. absurd (lt-irrefl hi (omega arith)) }
+      go (inr k) =
+          let f = child.node-split ws r b s lo hi o e k l n in
+          record { room = f .room; names = f .names; depth = λ q. f .group .share }
+
+  module _ (lo₀ hi d o₀ : ℕ) (two : suc lo₀ < hi) (l : hi ≤ length ws) where
+    pub walk-start : Walk b ws lo₀ hi d o₀ lo₀ o₀
+    walk-start = record {
+      from = omega arith;
+      some = omega arith;
+      edge = λ n. absurd (lt-irrefl lo₀ n);
+      forth = λ e g. record { share = omega (arith, g .share); stands = g .stands };
+      back = λ e t. t;
+    }
+
+    -- ---- what has to stand next
+
+    module _ (lo o : ℕ) (w : Walk b ws lo₀ hi d o₀ lo o) where
+      first : (e : ℕ) → GroupAt b ws lo₀ hi d o₀ e → child.Lead ws r b d lo hi o e
+      first e g = child.row-child ws r b d lo hi o e (w .some) l (w .forth e g)
+
+      -- the first child's end is where its record says
+      mid-is : (e mid m : ℕ) (c : Child b ws d lo mid o m) → mid ≤ hi → mid ≡ lo + number b (o + 6)
+      mid-is e mid m c u = omega (arith, (node-head _ lo mid o m (c .some) (omega arith) (c .node)) .names, c .some)
+
+      pub walk-next : (e : ℕ) → GroupAt b ws lo₀ hi d o₀ e → Ahead b ws lo₀ hi d lo o
+      walk-next e g =
+          let f = first e g in
+          let c = f .child in
+          let h = node-head _ lo (f .mid) o (f .end) (c .some) (omega (arith, f .upto)) (c .node) in
+          let k : f .mid ≡ lo + number b (o + 6) = mid-is e (f .mid) (f .end) c (f .upto) in
+          record {
+            room = h .room;
+            some = omega (arith, c .some);
+            upto = omega (arith, f .upto);
+            proper = proper f k;
+            end = f .end;
+            node = subst (λ (x : ℕ). NodeAt b ws lo x (at (nth ws lo) d) o (f .end)) k (c .node);
+            below = λ q. omega (arith, c .below (omega arith), h .depth (omega arith));
+            edge = λ q. subst (λ (x : ℕ). shared (nth ws (pred x)) (nth ws x) ≡ d) k (meet (f .others) (omega arith));
+          }
+        where
+          meet : {mid m : ℕ} → child.Others ws r b d mid hi m e → mid < hi → shared (nth ws (pred mid)) (nth ws mid) ≡ d
+          meet (child.ended p q) h = absurd (lt-irrefl hi (omega arith))
+          meet (child.going p q t) h = q
+
+          proper : (f : child.Lead ws r b d lo hi o e) → f .mid ≡ lo + number b (o + 6) → number b (o + 6) < hi - lo₀
+          proper f k = elim (eq-or-lt-of-le (w .from)) [
+            | inr q ↦ omega (arith, f .upto, w .some)
+            | inl q ↦ elim (eq-or-lt-of-le (f .upto)) [
+              | inr p ↦ omega arith
+              | inl p ↦ absurd (whole p q)
+            ]
+          ]
+            where
+              -- one child would be the whole group, whose words part at d
+              whole : f .mid ≡ hi → lo₀ ≡ lo → ⊥
+              whole p q = elim (eq-or-lt-of-le (f .child .some)) [
+                | inl s ↦ lt-irrefl hi (omega arith)
+                | inr s ↦ lt-irrefl d (omega (arith, f .child .below s, g .share, subst (λ (x : ℕ). deep ws lo (f .mid) ≡ deep ws lo x) p refl, subst (λ (x : ℕ). deep ws lo₀ hi ≡ deep ws x hi) q refl))
+              ]
+
+      -- ---- one child more, and the last
+
+      pub walk-more : (mid m : ℕ) → Child b ws d lo mid o m → mid < hi → shared (nth ws (pred mid)) (nth ws mid) ≡ d → Walk b ws lo₀ hi d o₀ mid m
+      walk-more mid m c n q = record {
+        from = omega (arith, w .from, c .some);
+        some = n;
+        edge = λ k. q;
+        forth = λ e g. rest e (first e g);
+        back = λ e t. w .back e (child.row-more ws r b d lo mid hi o m e l n c q t);
+      }
+        where
+          rest : (e : ℕ) → child.Lead ws r b d lo hi o e → RowAt b ws mid hi d m e
+          rest e f = go (f .others)
+            where
+              k : f .mid ≡ mid
+              k = mid-is e (f .mid) (f .end) (f .child) (f .upto) ∙ sym (mid-is e mid m c (omega arith))
+
+              j : f .end ≡ m
+              j =
+                  stands-end b (nodeTable lo (at (nth ws lo) d) (span ws lo (f .mid))) o (f .end) (f .child .node .stands)
+                  ∙ ap (λ (x : ℕ). o + 10 * length (nodeTable lo (at (nth ws lo) d) (span ws lo x))) k
+                  ∙ sym (stands-end b (nodeTable lo (at (nth ws lo) d) (span ws lo mid)) o m (c .node .stands))
+
+              go : child.Others ws r b d (f .mid) hi (f .end) e → RowAt b ws mid hi d m e
+              go (child.ended p x) = absurd (lt-irrefl hi (omega (arith, k)))
+              go (child.going p x t) = subst (λ (y : ℕ). RowAt b ws y hi d m e) k (subst (λ (y : ℕ). RowAt b ws (f .mid) hi d y e) j t)
+
+      pub walk-done : (m : ℕ) → Child b ws d lo hi o m → hi - lo < hi - lo₀ → GroupAt b ws lo₀ hi d o₀ m
+      walk-done m c n =
+          let q : shared (nth ws (pred lo)) (nth ws lo) ≡ d = w .edge (omega arith) in
+          let short : d ≤ length (nth ws lo) = omega (arith, shared-le (nth ws lo) (nth ws (pred lo)), shared-comm (nth ws lo) (nth ws (pred lo))) in
+          let t = w .back m (child.row-last ws r b d lo hi o m l short c) in
+          let u : deep ws lo₀ hi ≤ d = omega (arith, span-share ws r lo₀ hi (pred lo) lo l (omega arith) (omega (arith, w .some)) (w .from) (w .some)) in
+          record { share = omega (arith, t .share); stands = t .stands }

@@ -1,0 +1,8 @@
+-- Laws of the entries as they stand in bytes. No contract cites them.
+pub mod Streams
+pub mod Steps
+pub mod Fronts
+pub mod Blocks
+pub mod Places
+pub mod Walks
+pub mod Rereading

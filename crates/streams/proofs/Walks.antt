@@ -1,0 +1,495 @@
+-- The walk over the entries: one entry, the loop over a block, the order of two names, the loop over the blocks.
+--     step-is, not-above         one entry, from what was read of it
+--     run-first, -more, -none, none-run    the names of a run, one by one
+--     Blocked, blocked-..        what a whole block asks, the rest of it asks, and the other way round
+--     plain-at, below-..         the order of two names, from how many symbols they share
+--     first-name, block-fits     the first name of a block
+--     end-last, end-next         where a block ends
+--     HasFirst, has-first, has-join    names in blocks are a block, and then names in blocks; the other way round
+--     same-last                  a block has one last name
+--     Seen, Walked, walked-..    what the whole asks, the blocks left ask, and the other way round; and the steps so far
+--     has-entries, has-length, has-sound, has-names, has-known, has-steps    what the walk's yes says of the book
+-- Assumes nothing.
+use Prim.Native.Nat.{ℕ, zero, suc, _+_, _-_, _≤_, _<_, min}
+use native.Mathlib.Nat.{not-suc-le-zero, le-of-suc-le-suc}
+use native.Mathlib.Omega.{arith}
+use native.Mathlib.Decide.{decLe}
+use mathlib.Core.Path.{_≡_, refl, sym, ap, ap₂, _∙_, subst}
+use mathlib.Core.Bool.{true, false}
+use mathlib.Core.List.{List, [], _∷_, _++_}
+use lib.Dec.{ltb}
+use lib.ListN.{length, getD, take, drop, set, length-take, length-drop, length-append, length-map, length-set}
+use lib.Seq.{take-at, drop-at, take-nil, take-all, drop-drop, getD-drop, length-take-le}
+use borrow.Author.Tests.{le-leb, lt-leb, lt-ltb, le-ltb}
+use Rattle.words.specs.Words.{Bytes, InBytes, at, less, plain, shared, word}
+use Rattle.words.proofs.Words.{at-past, less-by}
+use Rattle.format.specs.Book.{entryPart, longestBook, number, trailerSize}
+use Rattle.format.specs.Entries.{front}
+use Rattle.format.specs.Records.{longest, mostNames, sound}
+use Rattle.streams.specs.Runs.{Has, Rest, Run, RunTo, Step, Told, done, endOf, lastOf, more}
+use Rattle.streams.specs.Streams.{EntryAt, Known, Steps, entryEnd, nameAt, namesOf, place, placeFrom, prevOf}
+use Rattle.streams.proofs.Blocks.{FirstBlock, none-rest, rest-first, rest-join, rest-none}
+use Rattle.streams.proofs.Fronts.{both-are, run-unique}
+use Rattle.streams.proofs.Places.{block-end, prev-last, told-block, told-start, told-steps}
+use Rattle.streams.proofs.Streams.{known, names-are}
+
+-- ---- one entry
+
+-- c and n are what was read
+pub step-is : (b prev : Bytes) (o e c n : ℕ) → c ≡ getD b o 0 → n ≡ getD b (o + 1) 0 → o + 2 + n ≤ e → 1 ≤ n → c ≤ length prev → c + n ≤ longest
+    → (c < length prev → getD prev c 0 < getD b (o + 2) 0) → Step b o e prev
+step-is b prev o e c n ce ne fit some sh short up = record {
+  fits = omega arith;
+  some = omega arith;
+  shares = omega arith;
+  short = omega arith;
+  above = λ h. subst (λ (x : ℕ). getD prev x 0 < getD b (o + 2) 0) ce (up (omega arith));
+}
+
+pub not-above : (b prev : Bytes) (o e c : ℕ) → c ≡ getD b o 0 → c < length prev → getD b (o + 2) 0 ≤ getD prev c 0 → Step b o e prev → ⊥
+not-above b prev o e c ce l h k =
+    let g : getD prev c 0 < getD b (o + 2) 0 = subst (λ (x : ℕ). getD prev x 0 < getD b (o + 2) 0) (sym ce) (k .above (omega arith)) in
+    omega arith
+
+-- ---- a block
+
+module _ (b : Bytes) (e : ℕ) where
+  pub run-first : (o : ℕ) (prev : Bytes) (m : ℕ) (l : Bytes) → 0 < m → RunTo b e o prev m l
+      → Step b o e prev × RunTo b e (entryEnd b o) (nameAt b o prev) (m - 1) l
+  unfolding lastOf
+  run-first o prev m l h k = go (k .names) (k .count) (k .run) (k .last)
+    where
+      go : (xs : List Bytes) → length xs ≡ m → Run b e o prev xs → lastOf prev xs ≡ l → Step b o e prev × RunTo b e (entryEnd b o) (nameAt b o prev) (m - 1) l
+      go [] n r q = absurd (omega arith)
+      go (x ∷ xs) n (more s p r) q = (
+        s,
+        record {
+          names = xs;
+          count = omega arith;
+          run = subst (λ (z : Bytes). Run b e (entryEnd b o) z xs) (sym p) r;
+          last = ap (λ (z : Bytes). lastOf z xs) p ∙ q;
+        },
+      )
+
+  pub run-more : (o : ℕ) (prev : Bytes) (m : ℕ) (l : Bytes) → 0 < m → Step b o e prev → RunTo b e (entryEnd b o) (nameAt b o prev) (m - 1) l → RunTo b e o prev m l
+  unfolding lastOf
+  run-more o prev m l h s k = record { names = nameAt b o prev ∷ k .names; count = omega (arith, k .count); run = more s refl (k .run); last = k .last }
+
+  pub run-none : (o : ℕ) (prev l : Bytes) → RunTo b e o prev 0 l → o ≡ e
+  run-none o prev l k = go (k .names) (k .count) (k .run)
+    where
+      go : (xs : List Bytes) → length xs ≡ 0 → Run b e o prev xs → o ≡ e
+      go [] n (done q) = q
+      go (x ∷ xs) n r = absurd (omega arith)
+
+  pub none-run : (o : ℕ) (prev : Bytes) → o ≡ e → RunTo b e o prev 0 prev
+  unfolding lastOf
+  none-run o prev h = record { names = []; count = refl; run = done h; last = refl }
+
+-- what the whole block asks, the rest of it asks, and the other way round
+pub record Blocked (b : Bytes) (e o₀ m o : ℕ) (prev : Bytes) (left : ℕ) : Type 0 where
+  pub within : e ≤ length b
+  pub forth : (l : Bytes) → RunTo b e o₀ [] m l → RunTo b e o prev left l
+  pub back : (l : Bytes) → RunTo b e o prev left l → RunTo b e o₀ [] m l
+
+module _ (b : Bytes) (e o₀ m : ℕ) where
+  pub blocked-start : e ≤ length b → Blocked b e o₀ m o₀ [] m
+  blocked-start h = record { within = h; forth = λ l k. k; back = λ l k. k }
+
+  module _ (o : ℕ) (prev : Bytes) (left : ℕ) (w : Blocked b e o₀ m o prev left) where
+    pub blocked-entry : (len : ℕ) → length prev ≡ len → Step b o e prev → EntryAt b o len
+    blocked-entry len n s = record { fits = omega (arith, s .fits, w .within); shares = omega (arith, s .shares); short = s .short }
+
+    pub blocked-more : (next : ℕ) (name : Bytes) → 0 < left → Step b o e prev → name ≡ nameAt b o prev → next ≡ entryEnd b o
+        → Blocked b e o₀ m next name (left - 1)
+    blocked-more next name h s p q = record {
+      within = w .within;
+      forth = λ l k. there l (run-first b e o prev left l h (w .forth l k) .1);
+      back = λ l k. w .back l (run-more b e o prev left l h s (here l k));
+    }
+      where
+        there : (l : Bytes) → RunTo b e (entryEnd b o) (nameAt b o prev) (left - 1) l → RunTo b e next name (left - 1) l
+        there l k = subst (λ (x : ℕ). RunTo b e x name (left - 1) l) (sym q) (subst (λ (x : Bytes). RunTo b e (entryEnd b o) x (left - 1) l) (sym p) k)
+
+        here : (l : Bytes) → RunTo b e next name (left - 1) l → RunTo b e (entryEnd b o) (nameAt b o prev) (left - 1) l
+        here l k = subst (λ (x : ℕ). RunTo b e x (nameAt b o prev) (left - 1) l) q (subst (λ (x : Bytes). RunTo b e next x (left - 1) l) p k)
+
+    pub blocked-bad : 0 < left → (Step b o e prev → ⊥) → (l : Bytes) → RunTo b e o₀ [] m l → ⊥
+    blocked-bad h n l k = n (run-first b e o prev left l h (w .forth l k) .0)
+
+    pub blocked-apart : left ≤ 0 → (o ≡ e → ⊥) → (l : Bytes) → RunTo b e o₀ [] m l → ⊥
+    blocked-apart h n l k =
+        let z : left ≡ 0 = omega arith in
+        n (run-none b e o prev l (subst (λ (x : ℕ). RunTo b e o prev x l) z (w .forth l k)))
+
+    pub blocked-done : left ≤ 0 → o ≡ e → RunTo b e o₀ [] m prev
+    blocked-done h q =
+        let z : 0 ≡ left = omega arith in
+        w .back prev (subst (λ (x : ℕ). RunTo b e o prev x prev) z (none-run b e o prev q))
+
+-- ---- where a block ends
+
+pub end-last : (b : Bytes) (k s t left : ℕ) → left ≤ k → endOf b k s t left ≡ s
+end-last b k s t left h = rw (le-leb left k h) refl
+
+pub end-next : (b : Bytes) (k s t left : ℕ) → k < left → endOf b k s t left ≡ number b (t + 2)
+end-next b k s t left h = rw (lt-leb left k h) refl
+
+-- ---- the order of two names
+
+pub plain-at : (x : Bytes) (i : ℕ) → i < length x → at (word plain x) i ≡ suc (getD x i 0)
+plain-at [] i h = absurd (not-suc-le-zero h)
+plain-at (a ∷ x) zero h = refl
+plain-at (a ∷ x) (suc i) h = plain-at x i (le-of-suc-le-suc h)
+
+past : (x : Bytes) (i : ℕ) → length x ≤ i → at (word plain x) i ≡ 0
+past x i h = at-past (word plain x) i (omega (arith, length-map x plain))
+
+module _ (a c : Bytes) (i : ℕ) (e : i ≡ shared (word plain a) (word plain c)) where
+  by : less (word plain a) (word plain c) ≡ ltb (at (word plain a) i) (at (word plain c) i)
+  by = less-by (word plain a) (word plain c) i (sym e)
+
+  pub below-no : length c ≤ i → false ≡ less (word plain a) (word plain c)
+  below-no h = sym (by ∙ le-ltb (at (word plain a) i) (at (word plain c) i) (omega (arith, past c i h)))
+
+  pub below-end : i < length c → length a ≤ i → true ≡ less (word plain a) (word plain c)
+  below-end h g = sym (by ∙ lt-ltb (at (word plain a) i) (at (word plain c) i) (omega (arith, past a i g, plain-at c i h)))
+
+  pub below-not : i < length c → i < length a → getD c i 0 ≤ getD a i 0 → false ≡ less (word plain a) (word plain c)
+  below-not h g l = sym (by ∙ le-ltb (at (word plain a) i) (at (word plain c) i) (omega (arith, plain-at a i g, plain-at c i h)))
+
+  pub below-is : i < length c → i < length a → getD a i 0 < getD c i 0 → true ≡ less (word plain a) (word plain c)
+  below-is h g l = sym (by ∙ lt-ltb (at (word plain a) i) (at (word plain c) i) (omega (arith, plain-at a i g, plain-at c i h)))
+
+-- ---- a block and the name before it
+
+pub block-fits : (b : Bytes) (e o m : ℕ) (l : Bytes) → 0 < m → RunTo b e o [] m l → entryEnd b o ≤ e
+block-fits b e o m l h k = run-first b e o [] m l h k .0 .fits
+
+pub first-name : (b : Bytes) (o n : ℕ) → n ≡ getD b (o + 1) 0 → nameAt b o [] ≡ take (o + 2 + n - (o + 2)) (drop (o + 2) b)
+first-name b o n e =
+    let z : getD b (o + 1) 0 ≡ o + 2 + n - (o + 2) = omega arith in
+    ap₂ (λ (u v : Bytes). u ++ v) (take-nil (getD b o 0)) (ap (λ (x : ℕ). take x (drop (o + 2) b)) z)
+
+-- ---- names in blocks
+
+-- the trailer's numbers lie within the bytes
+pub record Frame (b : Bytes) (k s u : ℕ) : Type 0 where
+  pub one : 1 ≤ k
+  pub small : length b ≤ longestBook
+  pub order : s ≤ u
+  pub room : u + 2 ≤ length b
+
+pub record HasFirst (b : Bytes) (k s u left t o : ℕ) (prev : Bytes) : Type 0 where
+  pub room : t + 2 ≤ u
+  pub place : number b t ≡ o
+  pub upto : endOf b k s t left ≤ s
+  pub below : less (word plain prev) (word plain (nameAt b o [])) ≡ true
+  pub last : Bytes
+  pub run : RunTo b (endOf b k s t left) o [] (min left k) last
+  pub others : Has b k s u (left - min left k) (t + 2) (endOf b k s t left) last
+
+head-name : (b : Bytes) (e o k : ℕ) (x : Bytes) (xs : List Bytes) → 1 ≤ k → Run b e o [] (take k (x ∷ xs)) → nameAt b o [] ≡ x
+head-name b e o zero x xs h r = absurd (not-suc-le-zero h)
+head-name b e o (suc k) x xs h (more s p r) = p
+
+run-name : (b : Bytes) (e o : ℕ) (x : Bytes) (xs : List Bytes) → Run b e o [] (x ∷ xs) → nameAt b o [] ≡ x
+run-name b e o x xs (more s p r) = p
+
+front-length : (k left : ℕ) (ys : List Bytes) → length ys ≡ left → length (take k ys) ≡ min left k
+front-length k left ys e = omega (arith, length-take k ys)
+
+-- the names cut after k
+record CutAt (k : ℕ) (zs ws : List Bytes) : Type 0 where
+  front-is : take k (zs ++ ws) ≡ zs
+  rest-is : drop k (zs ++ ws) ≡ ws
+
+cut-short : (k : ℕ) (zs ws : List Bytes) → length zs ≤ k → length ws ≡ 0 → CutAt k zs ws
+cut-short zero [] [] h e = record { front-is = refl; rest-is = refl }
+cut-short (suc k) [] [] h e = record { front-is = refl; rest-is = refl }
+cut-short zero [] (w ∷ ws) h e = absurd (omega arith)
+cut-short (suc k) [] (w ∷ ws) h e = absurd (omega arith)
+cut-short zero (z ∷ zs) ws h e = absurd (not-suc-le-zero h)
+cut-short (suc k) (z ∷ zs) ws h e =
+    let ih = cut-short k zs ws (le-of-suc-le-suc h) e in
+    record { front-is = ap (λ (ys : List Bytes). z ∷ ys) (ih .front-is); rest-is = ih .rest-is }
+
+cut-at : (k left : ℕ) (zs ws : List Bytes) → length zs ≡ min left k → length ws ≡ left - min left k → CutAt k zs ws
+cut-at k left zs ws p q = elim (decLe left k) [
+  | yes h ↦ cut-short k zs ws (omega arith) (omega arith)
+  | no n ↦
+      let e : length zs ≡ k = omega arith in
+      record { front-is = take-at zs ws k e; rest-is = drop-at zs ws k e }
+]
+
+module _ (b : Bytes) (k s u left t o : ℕ) (prev : Bytes) (ask : Frame b k s u) (lo : o ≤ s) (lt : t ≤ u) (some : 0 < left) where
+  -- where the first block ends
+  end-is : (x : Bytes) (xs : List Bytes) (e : ℕ) → length (x ∷ xs) ≡ left → FirstBlock b k s u t o prev x xs e → endOf b k s t left ≡ e
+  end-is x xs e n f = elim (decLe left k) [
+    | yes h ↦ end-last b k s t left h ∙ sym (none (drop k (x ∷ xs)) (omega (arith, length-drop k (x ∷ xs))) (f .others))
+    | no h ↦ end-next b k s t left (omega arith) ∙ next (drop k (x ∷ xs)) (omega (arith, length-drop k (x ∷ xs))) (f .others)
+  ]
+    where
+      none : (ys : List Bytes) → length ys ≡ 0 → Rest b k s u (t + 2) e (lastOf [] (take k (x ∷ xs))) ys → e ≡ s
+      none [] z r = rest-none b k s u (t + 2) e (lastOf [] (take k (x ∷ xs))) (omega (arith, ask, f .upto)) (omega (arith, ask)) (omega (arith, ask, f .room)) (omega (arith, ask)) r .0
+      none (y ∷ ys) z r = absurd (omega arith)
+
+      next : (ys : List Bytes) → 0 < length ys → Rest b k s u (t + 2) e (lastOf [] (take k (x ∷ xs))) ys → number b (t + 2) ≡ e
+      next [] z r = absurd (omega arith)
+      next (y ∷ ys) z r =
+          rest-first b k s u (t + 2) e (lastOf [] (take k (x ∷ xs))) y ys (ask .one) (ask .small) (omega (arith, ask, f .upto)) (omega (arith, ask)) (omega (arith, ask, f .room)) (omega (arith, ask)) r .place
+
+  pub has-first : Has b k s u left t o prev → HasFirst b k s u left t o prev
+  has-first h = go (h .names) (h .count) (h .rest)
+    where
+      go : (ys : List Bytes) → length ys ≡ left → Rest b k s u t o prev ys → HasFirst b k s u left t o prev
+      go [] n r = absurd (omega arith)
+      go (x ∷ xs) n r =
+          let e : ℕ = o + length (front [] (take k (x ∷ xs))) in
+          let f = rest-first b k s u t o prev x xs (ask .one) (ask .small) (omega (arith, ask)) (omega (arith, ask)) (omega (arith, ask)) (omega (arith, ask)) r in
+          let q : endOf b k s t left ≡ e = end-is x xs e n f in
+          record {
+            room = f .room;
+            place = f .place;
+            upto = subst (λ (z : ℕ). z ≤ s) (sym q) (f .upto);
+            below = ap (λ (z : Bytes). less (word plain prev) (word plain z)) (head-name b e o k x xs (ask .one) (f .run)) ∙ f .below;
+            last = lastOf [] (take k (x ∷ xs));
+            run = record {
+              names = take k (x ∷ xs);
+              count = front-length k left (x ∷ xs) n;
+              run = subst (λ (z : ℕ). Run b z o [] (take k (x ∷ xs))) (sym q) (f .run);
+              last = refl;
+            };
+            others = record {
+              names = drop k (x ∷ xs);
+              count = dropped (x ∷ xs) n;
+              rest = subst (λ (z : ℕ). Rest b k s u (t + 2) z (lastOf [] (take k (x ∷ xs))) (drop k (x ∷ xs))) (sym q) (f .others);
+            };
+          }
+        where
+          dropped : (ys : List Bytes) → length ys ≡ left → length (drop k ys) ≡ left - min left k
+          dropped ys m = omega (arith, length-drop k ys, front-length k left ys m, length-take k ys)
+
+  pub has-join : (e : ℕ) (l : Bytes) → InBytes b → t + 2 ≤ u → number b t ≡ o → e ≤ s → RunTo b e o [] (min left k) l
+      → less (word plain prev) (word plain (nameAt b o [])) ≡ true → Has b k s u (left - min left k) (t + 2) e l → Has b k s u left t o prev
+  has-join e l bytes room place he r bl h = go (r .names) (r .count) (r .run) (r .last)
+    where
+      go : (zs : List Bytes) → length zs ≡ min left k → Run b e o [] zs → lastOf [] zs ≡ l → Has b k s u left t o prev
+      go [] n q z = absurd (omega (arith, ask .one))
+      go (x ∷ xs) n q z =
+          let c = cut-at k left (x ∷ xs) (h .names) n (h .count) in
+          let named : nameAt b o [] ≡ x = run-name b e o x xs q in
+          record {
+            names = (x ∷ xs) ++ h .names;
+            count = length-append (x ∷ xs) (h .names) ∙ omega (arith, n, h .count);
+            rest = rest-join b k s u t o prev x (xs ++ h .names) (ask .one) (ask .small) (omega (arith, ask)) (omega (arith, ask)) (omega (arith, ask)) (omega (arith, ask))
+                e bytes (omega (arith, ask)) (omega (arith, ask)) place (sym (ap (λ (y : Bytes). less (word plain prev) (word plain y)) named) ∙ bl)
+                (subst (Run b e o []) (sym (c .front-is)) q)
+                (subst (λ (ys : List Bytes). Rest b k s u (t + 2) e (lastOf [] ys) (drop k ((x ∷ xs) ++ h .names))) (sym (c .front-is))
+                (subst (Rest b k s u (t + 2) e (lastOf [] (x ∷ xs))) (sym (c .rest-is))
+                (subst (λ (y : Bytes). Rest b k s u (t + 2) e y (h .names)) (sym z) (h .rest))));
+          }
+
+pub same-last : (b : Bytes) (e o m : ℕ) (l j : Bytes) → RunTo b e o [] m l → RunTo b e o [] m j → l ≡ j
+same-last b e o m l j h g = sym (h .last) ∙ ap (lastOf []) (run-unique b e o [] (h .names) (g .names) (h .count ∙ sym (g .count)) (h .run) (g .run)) ∙ g .last
+
+-- ---- the loop over the blocks
+
+-- of the names xs, i are passed: the last of them is prev, and the row of steps is right for them
+pub record Seen (b : Bytes) (k s u t o : ℕ) (prev steps : Bytes) (xs : List Bytes) (i : ℕ) : Type 0 where
+  pub rest : Rest b k s u t o prev (drop i xs)
+  pub before : prevOf xs i ≡ prev
+  pub here : place b i ≡ o
+  pub told : Told b steps xs i
+
+pub record Walked (b : Bytes) (k s u n t o : ℕ) (prev : Bytes) (i left : ℕ) (steps : Bytes) : Type 0 where
+  pub ask : Frame b k s u
+  pub bytes : InBytes b
+  pub entries-in : o ≤ s
+  pub table-in : t ≤ u
+  pub counted : i + left ≡ n
+  pub row : n ≤ length steps
+  pub seen : (xs : List Bytes) → length xs ≡ n → Rest b k s u s 0 [] xs → Seen b k s u t o prev steps xs i
+  pub back : Has b k s u left t o prev → Has b k s u n s 0 []
+
+take-least : (k left : ℕ) (ys : List Bytes) → length ys ≡ left → take k ys ≡ take (min left k) ys
+take-least k left ys e = elim (decLe left k) [
+  | yes h ↦ take-all k ys (omega arith) ∙ sym (take-all (min left k) ys (omega arith))
+  | no n ↦ let z : k ≡ min left k = omega arith in ap (λ (x : ℕ). take x ys) z
+]
+
+drop-all : (k : ℕ) (ys : List Bytes) → length ys ≤ k → drop k ys ≡ []
+drop-all zero [] h = refl
+drop-all (suc k) [] h = refl
+drop-all zero (y ∷ ys) h = absurd (not-suc-le-zero h)
+drop-all (suc k) (y ∷ ys) h = drop-all k ys (le-of-suc-le-suc h)
+
+drop-least : (k left : ℕ) (ys : List Bytes) → length ys ≡ left → drop k ys ≡ drop (min left k) ys
+drop-least k left ys e = elim (decLe left k) [
+  | yes h ↦ drop-all k ys (omega arith) ∙ sym (drop-all (min left k) ys (omega arith))
+  | no n ↦ let z : k ≡ min left k = omega arith in ap (λ (x : ℕ). drop x ys) z
+]
+
+-- the first block of names that are told, by the numbers that the walk has
+record Passed (b : Bytes) (k s u t o e m : ℕ) (ys : List Bytes) : Type 0 where
+  run : Run b e o [] (take m ys)
+  others : Rest b k s u (t + 2) e (lastOf [] (take m ys)) (drop m ys)
+  first : nameAt b o [] ≡ getD ys 0 []
+
+rest-passed : (b : Bytes) (k s u left t o : ℕ) (prev : Bytes) → Frame b k s u → o ≤ s → t ≤ u → 0 < left → (ys : List Bytes) → length ys ≡ left
+    → Rest b k s u t o prev ys → Passed b k s u t o (endOf b k s t left) (min left k) ys
+rest-passed b k s u left t o prev ask lo lt some [] n r = absurd (omega arith)
+rest-passed b k s u left t o prev ask lo lt some (x ∷ xs) n r =
+    let e : ℕ = o + length (front [] (take k (x ∷ xs))) in
+    let f = rest-first b k s u t o prev x xs (ask .one) (ask .small) (omega (arith, ask)) (omega (arith, ask)) (omega (arith, ask)) (omega (arith, ask)) r in
+    let q : endOf b k s t left ≡ e = end-is b k s u left t o prev ask lo lt some x xs e n f in
+    let p : take k (x ∷ xs) ≡ take (min left k) (x ∷ xs) = take-least k left (x ∷ xs) n in
+    let d : drop k (x ∷ xs) ≡ drop (min left k) (x ∷ xs) = drop-least k left (x ∷ xs) n in
+    record {
+      run = subst (λ (z : ℕ). Run b z o [] (take (min left k) (x ∷ xs))) (sym q) (subst (Run b e o []) p (f .run));
+      others = subst (λ (z : ℕ). Rest b k s u (t + 2) z (lastOf [] (take (min left k) (x ∷ xs))) (drop (min left k) (x ∷ xs))) (sym q)
+          (subst (λ (zs : List Bytes). Rest b k s u (t + 2) e (lastOf [] zs) (drop (min left k) (x ∷ xs))) p
+          (subst (Rest b k s u (t + 2) e (lastOf [] (take k (x ∷ xs)))) d (f .others)));
+      first = head-name b e o k x xs (ask .one) (f .run);
+    }
+
+module _ (b : Bytes) (k s u n : ℕ) where
+  pub walked-start : (steps : Bytes) → Frame b k s u → InBytes b → n ≤ length steps → ((j : ℕ) → getD steps j 0 ≡ 0) → Walked b k s u n s 0 [] 0 n steps
+  unfolding placeFrom
+  walked-start steps a bytes row z = record {
+    ask = a;
+    bytes = bytes;
+    entries-in = omega arith;
+    table-in = a .order;
+    counted = omega arith;
+    row = row;
+    seen = λ xs l r. record { rest = r; before = refl; here = refl; told = told-start b steps xs z };
+    back = λ h. h;
+  }
+
+  module _ (t o : ℕ) (prev : Bytes) (i left : ℕ) (steps : Bytes) (w : Walked b k s u n t o prev i left steps) where
+    pub walked-forth : Has b k s u n s 0 [] → Has b k s u left t o prev
+    walked-forth h = record {
+      names = drop i (h .names);
+      count = omega (arith, length-drop i (h .names), h .count, w .counted);
+      rest = w .seen (h .names) (h .count) (h .rest) .rest;
+    }
+
+    pub walked-first : 0 < left → Has b k s u n s 0 [] → HasFirst b k s u left t o prev
+    walked-first some h = has-first b k s u left t o prev (w .ask) (w .entries-in) (w .table-in) some (walked-forth h)
+
+    pub walked-room : 0 < left → u - t < 2 → Has b k s u n s 0 [] → ⊥
+    walked-room some h g = omega (arith, walked-first some g .room)
+
+    pub walked-place : 0 < left → (x : ℕ) → x ≡ number b t → (x ≡ o → ⊥) → Has b k s u n s 0 [] → ⊥
+    walked-place some x e h g = h (e ∙ walked-first some g .place)
+
+    pub walked-past : 0 < left → (e : ℕ) → e ≡ endOf b k s t left → s < e → Has b k s u n s 0 [] → ⊥
+    walked-past some e q h g = omega (arith, walked-first some g .upto)
+
+    module _ (e m : ℕ) (eq : e ≡ endOf b k s t left) (mq : m ≡ min left k) (some : 0 < left) where
+      run-here : (f : HasFirst b k s u left t o prev) → RunTo b e o [] m (f .last)
+      run-here f = subst (λ (x : ℕ). RunTo b x o [] m (f .last)) (sym eq) (subst (λ (x : ℕ). RunTo b (endOf b k s t left) o [] x (f .last)) (sym mq) (f .run))
+
+      pub walked-bad : ((l : Bytes) → RunTo b e o [] m l → less (word plain prev) (word plain (nameAt b o [])) ≡ true → ⊥) → Has b k s u n s 0 [] → ⊥
+      walked-bad says g = let f = walked-first some g in says (f .last) (run-here f) (f .below)
+
+      passed : (xs : List Bytes) → length xs ≡ n → Rest b k s u s 0 [] xs → Passed b k s u t o e m (drop i xs)
+      passed xs l r = subst (λ (x : ℕ). Passed b k s u t o x m (drop i xs)) (sym eq) (subst (λ (x : ℕ). Passed b k s u t o (endOf b k s t left) x (drop i xs)) (sym mq)
+          (rest-passed b k s u left t o prev (w .ask) (w .entries-in) (w .table-in) some (drop i xs) (omega (arith, length-drop i xs, w .counted)) (w .seen xs l r .rest)))
+
+      -- sh is what the block's first name shares with the name before it
+      module _ (last : Bytes) (sh : ℕ) (run : RunTo b e o [] m last) (below : less (word plain prev) (word plain (nameAt b o [])) ≡ true)
+          (shares : sh ≡ shared prev (nameAt b o [])) (room : t + 2 ≤ u) (at-o : number b t ≡ o) (upto : e ≤ s) where
+        seen-more : (xs : List Bytes) → length xs ≡ n → Rest b k s u s 0 [] xs → Seen b k s u (t + 2) e last (set steps i sh) xs (i + m)
+        seen-more xs l r =
+            let v = w .seen xs l r in
+            let p = passed xs l r in
+            let one : 1 ≤ m = omega (arith, w .ask .one) in
+            let all : i + m ≤ length xs = omega (arith, w .counted) in
+            let lens : length (take m (drop i xs)) ≡ m = length-take-le m (drop i xs) (omega (arith, length-drop i xs)) in
+            let within : e ≤ length b = omega (arith, w .ask) in
+            let end : lastOf [] (take m (drop i xs)) ≡ last = same-last b e o m (lastOf [] (take m (drop i xs))) last (record { names = take m (drop i xs); count = lens; run = p .run; last = refl }) run in
+            let z : i + 0 ≡ i = omega arith in
+            let named : nameAt b o [] ≡ getD xs i [] = p .first ∙ getD-drop i xs 0 [] ∙ ap (λ (x : ℕ). getD xs x []) z in
+            record {
+              rest = subst (λ (x : Bytes). Rest b k s u (t + 2) e x (drop (i + m) xs)) end (subst (Rest b k s u (t + 2) e (lastOf [] (take m (drop i xs)))) (drop-drop m i xs) (p .others));
+              before = prev-last xs i m one all ∙ end;
+              here = block-end b steps xs i m o e sh (v .told) (v .here) within (p .run) one all;
+              told = told-block b steps xs i m o e sh (v .told) (v .here) within (p .run) one all (omega (arith, w .row, w .counted))
+                  (shares ∙ ap₂ (λ (x y : Bytes). shared x y) (sym (v .before)) named);
+            }
+
+        pub walked-more : Walked b k s u n (t + 2) e last (i + m) (left - m) (set steps i sh)
+        walked-more = record {
+          ask = w .ask;
+          bytes = w .bytes;
+          entries-in = upto;
+          table-in = room;
+          counted = omega (arith, w .counted);
+          row = omega (arith, w .row, length-set steps i sh);
+          seen = seen-more;
+          back = λ g. w .back (has-join b k s u left t o prev (w .ask) (w .entries-in) (w .table-in) some e last (w .bytes) room at-o upto
+              (subst (λ (x : ℕ). RunTo b e o [] x last) mq run) below (subst (λ (x : ℕ). Has b k s u (left - x) (t + 2) e last) mq g));
+        }
+
+    ended : left ≤ 0 → Has b k s u n s 0 [] → (o ≡ s) × (t ≡ u)
+    ended h g = go (walked-forth g .names) (omega (arith, walked-forth g .count)) (walked-forth g .rest)
+      where
+        go : (xs : List Bytes) → length xs ≡ 0 → Rest b k s u t o prev xs → (o ≡ s) × (t ≡ u)
+        go [] z r = rest-none b k s u t o prev (omega (arith, w .ask, w .entries-in)) (omega (arith, w .ask)) (omega (arith, w .ask, w .table-in)) (omega (arith, w .ask)) r
+        go (x ∷ xs) z r = absurd (omega arith)
+
+    pub walked-short : left ≤ 0 → (o ≡ s → ⊥) → Has b k s u n s 0 [] → ⊥
+    walked-short h q g = q (ended h g .0)
+
+    pub walked-table : left ≤ 0 → (t ≡ u → ⊥) → Has b k s u n s 0 [] → ⊥
+    walked-table h q g = q (ended h g .1)
+
+    pub walked-done : left ≤ 0 → o ≡ s → t ≡ u → Has b k s u n s 0 []
+    walked-done h p q = w .back (record {
+      names = [];
+      count = omega arith;
+      rest = subst (λ (x : ℕ). Rest b k s u x o prev []) (sym q) (subst (λ (x : ℕ). Rest b k s u u x prev []) (sym p) (none-rest b k s u prev));
+    })
+
+    pub walked-told : left ≤ 0 → (xs : List Bytes) → length xs ≡ n → Rest b k s u s 0 [] xs → Told b steps xs n
+    walked-told h xs l r =
+        let z : i ≡ n = omega (arith, w .counted) in
+        subst (Told b steps xs) z (w .seen xs l r .told)
+
+pub left-less : (left m : ℕ) → 0 < left → 0 < m → left - m < left
+left-less left m h g = omega arith
+
+-- ---- lengths out of an equation of bytes
+
+pub ends-at : (b p : Bytes) (o s : ℕ) → o ≤ length b → s ≤ length b → drop o b ≡ p ++ drop s b → o + length p ≡ s
+ends-at b p o s ho hs e = omega (arith, ap length e, length-drop o b, length-append p (drop s b), length-drop s b)
+
+-- ---- what the node check asks
+
+module _ (b : Bytes) (k s u n : ℕ) (hs : s ≤ length b) (h : Has b k s u n s 0 []) where
+  pub has-entries : b ≡ entryPart k (h .names) ++ drop s b
+  has-entries = h .rest .entries
+
+  pub has-length : length (entryPart k (h .names)) ≡ s
+  has-length = omega (arith, ends-at b (entryPart k (h .names)) 0 s (omega arith) hs (h .rest .entries))
+
+  pub has-sound : n ≤ mostNames → sound plain (h .names) ≡ true
+  unfolding sound
+  has-sound f = both-are _ _ (le-leb (length (h .names)) mostNames (omega (arith, h .count))) (h .rest .rises)
+
+  module _ (one : 1 ≤ k) (says : number b (length b - trailerSize + 4) ≡ s) where
+    pub has-names : namesOf b ≡ h .names
+    has-names = names-are b k (h .names) (drop s b) one has-entries (says ∙ sym has-length)
+
+    pub has-known : n ≤ mostNames → length b ≤ longestBook → Known b
+    has-known f l = known b k (h .names) (drop s b) one has-entries (says ∙ sym has-length) (has-sound f) l
+
+    -- the row that the walk has filled
+    pub has-steps : (steps : Bytes) → n ≤ length steps → ((xs : List Bytes) → length xs ≡ n → Rest b k s u s 0 [] xs → Told b steps xs n) → Steps b steps
+    has-steps steps room told =
+        let size : length (namesOf b) ≡ n = ap length has-names ∙ h .count in
+        told-steps b steps
+        (subst (Told b steps (namesOf b)) (sym size) (subst (λ (xs : List Bytes). Told b steps xs n) (sym has-names) (told (h .names) (h .count) (h .rest))))
+        (omega (arith, size))

@@ -1,0 +1,60 @@
+-- The entries of a block, and of a book, as local tests judge them.
+--     Step              an entry stands at an offset, ends by e, and passes the tests after the name prev
+--     Run, RunTo        from o to e stand the entries of names after prev; of m names, the last of them l
+--     Rest, Has         from o to s stand the entries of names in blocks of k, from t to u the blocks' offsets; of m names
+--     Told              a row of steps is right for the first i of the names, and 0 from there on
+-- The laws are in proofs/Fronts.antt, proofs/Blocks.antt and proofs/Walks.antt. Assumes nothing: these are definitions.
+use Prim.Native.Nat.{ℕ, _+_, _<_, _≤_}
+use mathlib.Core.Path.{_≡_}
+use mathlib.Core.Bool.{true}
+use mathlib.Core.List.{List, [], _++_, _∷_}
+use lib.Dec.{leb}
+use lib.ListN.{drop, getD, length}
+use Rattle.words.specs.Words.{Bytes, pick, plain, shared}
+use Rattle.format.specs.Book.{entryPart, number, numbers}
+use Rattle.format.specs.Entries.{blocks, offsets}
+use Rattle.format.specs.Records.{longest, rising}
+use Rattle.streams.specs.Streams.{entryEnd, nameAt, place, prevOf}
+
+-- `above` is both: the count is the greatest possible, and the name is above the one before
+pub record Step (b : Bytes) (o e : ℕ) (prev : Bytes) : Type 0 where
+  pub fits : entryEnd b o ≤ e
+  pub some : 1 ≤ getD b (o + 1) 0
+  pub shares : getD b o 0 ≤ length prev
+  pub short : getD b o 0 + getD b (o + 1) 0 ≤ longest
+  pub above : getD b o 0 < length prev → getD prev (getD b o 0) 0 < getD b (o + 2) 0
+
+pub data Run (b : Bytes) (e : ℕ) : ℕ → Bytes → List Bytes → Type 0 where
+  done : {o : ℕ} {prev : Bytes} → o ≡ e → Run b e o prev []
+  more : {o : ℕ} {prev x : Bytes} {xs : List Bytes} → Step b o e prev → nameAt b o prev ≡ x → Run b e (entryEnd b o) x xs
+      → Run b e o prev (x ∷ xs)
+
+-- the last of some names, and prev where there are none
+unfoldable pub lastOf : Bytes → List Bytes → Bytes
+lastOf prev [] = prev
+lastOf prev (x ∷ xs) = lastOf x xs
+
+pub record RunTo (b : Bytes) (e o : ℕ) (prev : Bytes) (m : ℕ) (l : Bytes) : Type 0 where
+  pub names : List Bytes
+  pub count : length names ≡ m
+  pub run : Run b e o prev names
+  pub last : lastOf prev names ≡ l
+
+-- the names are above prev
+pub record Rest (b : Bytes) (k s u t o : ℕ) (prev : Bytes) (xs : List Bytes) : Type 0 where
+  pub rises : rising plain prev xs ≡ true
+  pub entries : drop o b ≡ entryPart k xs ++ drop s b
+  pub places : drop t b ≡ numbers (offsets o (blocks k xs)) ++ drop u b
+
+pub record Has (b : Bytes) (k s u m t o : ℕ) (prev : Bytes) : Type 0 where
+  pub names : List Bytes
+  pub count : length names ≡ m
+  pub rest : Rest b k s u t o prev names
+
+-- where the block ends whose offset stands at t: at the next offset, or, as the last one, at s
+abbrev pub endOf : Bytes → ℕ → ℕ → ℕ → ℕ → ℕ
+endOf b k s t left = pick (leb left k) s (number b (t + 2))
+
+pub record Told (b steps : Bytes) (xs : List Bytes) (i : ℕ) : Type 0 where
+  pub before : (j : ℕ) → j < i → getD b (place b j) 0 + getD steps j 0 ≡ shared (prevOf xs j) (getD xs j [])
+  pub behind : (j : ℕ) → i ≤ j → getD steps j 0 ≡ 0

@@ -1,0 +1,1 @@
+// Theory without code: how the entries of a book stand in its bytes, and what local tests of them show.
