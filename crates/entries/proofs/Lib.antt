@@ -1,0 +1,3 @@
+-- Laws of reading and judging entries. No contract cites them.
+pub mod Reading
+pub mod Walking

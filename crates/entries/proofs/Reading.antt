@@ -1,0 +1,218 @@
+-- Laws of the code that reads and judges one block, one for each way through it.
+--     Pasted, name-read         the cursor
+--     says-true, says-false, Held    the loop over a block, with its buffer
+--     shared-bytes, Alike       the loop over what two names share
+--     next-..                   a block and the name before it
+--     Reached                   the loop to a name that is read back
+-- Assumes nothing.
+use Prim.Native.Nat.{ℕ, _+_, _-_, _≤_, _<_}
+use native.Mathlib.Numerals.{add-one}
+use native.Mathlib.Omega.{arith}
+use mathlib.Core.Path.{_≡_, refl, sym, ap, _∙_, subst}
+use mathlib.Core.Bool.{Bool, true, false, not}
+use mathlib.Core.List.{List, [], _∷_}
+use lib.ListN.{length, getD, take, drop, set, length-take, length-drop, length-set}
+use lib.Seq.{paste, paste-zero, paste-suc, take-paste, length-paste, getD-drop, take-take, drop-drop}
+use Rattle.words.specs.Words.{Bytes, less, plain, shared, word}
+use Rattle.words.proofs.Words.{false≠true, part-at, plain-injective, shared-comm, shared-le, shared-more, shared-word}
+use Rattle.streams.specs.Streams.{EntryAt, Stream, entry, entryEnd, nameAt}
+use Rattle.streams.specs.Runs.{RunTo, Step}
+use Rattle.streams.proofs.Walks.{Blocked, block-fits, blocked-apart, blocked-bad, blocked-done, blocked-entry, blocked-more, blocked-start, first-name}
+use Rattle.entries.specs.Judging.{BlockSays, EntrySays, NameIs, NameRead, NextSays, ReadAsk}
+
+-- ---- the cursor
+
+-- the first i bytes are copied
+pub record Pasted (b d buf : Bytes) (to from n i : ℕ) : Type 0 where
+  pub source : from + n ≤ length b
+  pub target : to + n ≤ length d
+  pub within : i ≤ n
+  pub kept : length buf ≡ length d
+  pub so-far : buf ≡ paste d to (drop from b) i
+
+module _ (b d : Bytes) (to from n : ℕ) where
+  pub paste-start : from + n ≤ length b → to + n ≤ length d → Pasted b d d to from n 0
+  paste-start h g = record { source = h; target = g; within = omega arith; kept = refl; so-far = paste-zero d to (drop from b) }
+
+  pub paste-more : (buf : Bytes) (i : ℕ) → Pasted b d buf to from n i → i < n → Pasted b d (set buf (to + i) (getD b (from + i) 0)) to from n (i + 1)
+  paste-more buf i k h = record {
+    source = k .source;
+    target = k .target;
+    within = omega arith;
+    kept = length-set buf (to + i) (getD b (from + i) 0) ∙ k .kept;
+    so-far = rw (k .so-far, ← getD-drop from b i 0, add-one) (paste-suc d to (drop from b) i 0 (omega (arith, k .target)) (rw length-drop (omega (arith, k .source))));
+  }
+
+  pub paste-done : (buf : Bytes) (i : ℕ) → Pasted b d buf to from n i → n ≤ i → buf ≡ paste d to (drop from b) n
+  paste-done buf i k h = let e : i ≡ n = omega (arith, k .within) in k .so-far ∙ ap (paste d to (drop from b)) e
+
+pub name-read : (b prev out : Bytes) (o len c n : ℕ) → EntryAt b o len → len ≤ 200 → length prev ≡ 200 → c ≡ getD b o 0 → n ≡ getD b (o + 1) 0
+    → out ≡ paste prev c (drop (o + 2) b) n → NameRead b o (take len prev) (o + 2 + n) (c + n) out
+name-read b prev out o len c n k h size ce ne oe = record {
+  name-is = rw oe (take-paste prev c (drop (o + 2) b) n (omega (arith, k .shares)) (rw length-drop (omega (arith, k .fits)))
+      ∙ rw (← ce, ← ne, take-take c len prev (omega (arith, k .shares))) refl);
+  next-is = ap (λ (x : ℕ). o + 2 + x) ne;
+  room = omega (arith, k .short);
+  size = rw oe (length-paste prev c (drop (o + 2) b) n (omega (arith, k .short)) (rw length-drop (omega (arith, k .fits))) ∙ size);
+}
+
+-- ---- a block
+
+-- what the code says after the part `&name[0..len]`
+pub says-true : (b : Bytes) (o e : ℕ) (name : Bytes) (len : ℕ) (r : Bool) → not r ≡ false → EntrySays b o e (take (len - 0) name) r → Step b o e (take len name)
+says-true b o e name len true h k = let z : len - 0 ≡ len = omega arith in subst (λ (x : ℕ). Step b o e (take x name)) z k
+says-true b o e name len false h k = absurd (false≠true (sym h))
+
+pub says-false : (b : Bytes) (o e : ℕ) (name : Bytes) (len : ℕ) (r : Bool) → not r ≡ true → EntrySays b o e (take (len - 0) name) r → Step b o e (take len name) → ⊥
+says-false b o e name len true h = absurd (false≠true h)
+says-false b o e name len false h = λ k j. let z : len ≡ len - 0 = omega arith in k (subst (λ (x : ℕ). Step b o e (take x name)) z j)
+
+-- the loop over a block, with its buffer
+pub record Held (b : Bytes) (e o₀ m o : ℕ) (name : Bytes) (len left : ℕ) : Type 0 where
+  pub size : length name ≡ 200
+  pub room : len ≤ 200
+  pub blocked : Blocked b e o₀ m o (take len name) left
+
+pub held-start : (b : Bytes) (e o₀ m : ℕ) (name : Bytes) → e ≤ length b → length name ≡ 200 → Held b e o₀ m o₀ name 0 m
+held-start b e o₀ m name h s = record { size = s; room = omega arith; blocked = blocked-start b e o₀ m h }
+
+-- all that the record tells is left to it
+module _ {b : Bytes} {e o₀ m o : ℕ} {name : Bytes} {len left : ℕ} (w : Held b e o₀ m o name len left) where
+  pub held-entry : Step b o e (take len name) → EntryAt b o len
+  held-entry s = blocked-entry b e o₀ m o (take len name) left (w .blocked) len (omega (arith, length-take len name, w .size, w .room)) s
+
+  pub held-more : (next : ℕ) (name' : Bytes) (len' : ℕ) → 0 < left → Step b o e (take len name) → NameRead b o (take len name) next len' name'
+      → Held b e o₀ m next name' len' (left - 1)
+  held-more next name' len' h s r = record {
+    size = r .size;
+    room = r .room;
+    blocked = blocked-more b e o₀ m o (take len name) left (w .blocked) next (take len' name') h s (r .name-is) (r .next-is);
+  }
+
+  -- the answers of each way out
+  pub held-bad : 0 < left → (Step b o e (take len name) → ⊥) → (len ≤ 200) × (length name ≡ 200) × BlockSays b o₀ e m false name len
+  held-bad h n = (w .room, w .size, blocked-bad b e o₀ m o (take len name) left (w .blocked) h n)
+
+  pub held-apart : left ≤ 0 → (o ≡ e → ⊥) → (len ≤ 200) × (length name ≡ 200) × BlockSays b o₀ e m false name len
+  held-apart h n = (w .room, w .size, blocked-apart b e o₀ m o (take len name) left (w .blocked) h n)
+
+  pub held-done : left ≤ 0 → o ≡ e → (len ≤ 200) × (length name ≡ 200) × BlockSays b o₀ e m true name len
+  held-done h q = (w .room, w .size, blocked-done b e o₀ m o (take len name) left (w .blocked) h q)
+
+-- ---- what two names share
+
+pub shared-bytes : (a c : Bytes) → shared (word plain a) (word plain c) ≡ shared a c
+shared-bytes a c = shared-word plain plain-injective a c
+
+pub record Alike (a c : Bytes) (i : ℕ) : Type 0 where
+  pub low : i ≤ length a
+  pub shares : i ≤ shared a c
+
+module _ (a c : Bytes) where
+  pub alike-start : Alike a c 0
+  alike-start = record { low = omega arith; shares = omega arith }
+
+  module _ (i : ℕ) (k : Alike a c i) where
+    pub alike-more : i < length a → i < length c → getD a i 0 ≡ getD c i 0 → Alike a c (i + 1)
+    alike-more h g e = record { low = omega arith; shares = omega (arith, shared-more a c i (k .shares) h g e) }
+
+    pub alike-other : (getD a i 0 ≡ getD c i 0 → ⊥) → i ≡ shared (word plain a) (word plain c)
+    alike-other n = sym (shared-bytes a c ∙ part-at a c i (k .shares) n)
+
+    pub alike-left : length a ≤ i → i ≡ shared (word plain a) (word plain c)
+    alike-left h = omega (arith, k .shares, shared-le a c, shared-bytes a c)
+
+    pub alike-right : length c ≤ i → i ≡ shared (word plain a) (word plain c)
+    alike-right h = omega (arith, k .shares, shared-le c a, shared-comm a c, shared-bytes a c)
+
+-- ---- a block and the name before it
+
+module _ (b : Bytes) (o e m : ℕ) (prev name : Bytes) (len : ℕ) where
+  pub next-no : (r : Bool) → not r ≡ true → BlockSays b o e m r name len → NextSays b o e m prev false name len 0
+  next-no true h k = absurd (false≠true h)
+  next-no false h k = λ l j i. k l j
+
+  block-yes : (r : Bool) → not r ≡ false → BlockSays b o e m r name len → RunTo b e o [] m (take len name)
+  block-yes true h k = k
+  block-yes false h k = absurd (false≠true (sym h))
+
+  pub next-fits : (r : Bool) → not r ≡ false → BlockSays b o e m r name len → 0 < m → o + 2 + getD b (o + 1) 0 ≤ e
+  next-fits r h k some = block-fits b e o m (take len name) some (block-yes r h k)
+
+  -- r is what the code found of x, which is the first name
+  judged : (r : Bool) (x : Bytes) (shares : ℕ) → x ≡ nameAt b o [] → RunTo b e o [] m (take len name) → r ≡ less (word plain prev) (word plain x)
+      → shares ≡ shared (word plain prev) (word plain x) → NextSays b o e m prev r name len shares
+  judged true x shares q run p z = (
+    run,
+    ap (λ (y : Bytes). less (word plain prev) (word plain y)) (sym q) ∙ sym p,
+    z ∙ shared-bytes prev x ∙ ap (shared prev) q,
+  )
+  judged false x shares q run p z = λ l j i. false≠true (p ∙ ap (λ (y : Bytes). less (word plain prev) (word plain y)) q ∙ i)
+
+  -- the code looked at `&book[from..to]`
+  pub next-judged : (t r : Bool) (n shares : ℕ) → not t ≡ false → BlockSays b o e m t name len → n ≡ getD b (o + 1) 0
+      → r ≡ less (word plain prev) (word plain (take (o + 2 + n - (o + 2)) (drop (o + 2) b)))
+      → shares ≡ shared (word plain prev) (word plain (take (o + 2 + n - (o + 2)) (drop (o + 2) b))) → NextSays b o e m prev r name len shares
+  next-judged t r n shares h k ne p z = judged r (take (o + 2 + n - (o + 2)) (drop (o + 2) b)) shares (sym (first-name b o n ne)) (block-yes t h k) p z
+
+-- ---- a name read back
+
+stream-next : (b : Bytes) (o : ℕ) (prev : Bytes) (zs : List Bytes) → 0 < length zs → Stream b o prev zs
+    → EntryAt b o (length prev) × (nameAt b o prev ≡ getD zs 0 []) × Stream b (entryEnd b o) (nameAt b o prev) (drop 1 zs)
+stream-next b o prev [] h s = absurd (omega arith)
+stream-next b o prev (z ∷ zs) h (entry a q s) = (a, q, subst (λ (x : Bytes). Stream b (entryEnd b o) x zs) (sym q) s)
+
+-- name number i is in the buffer, and the cursor stands at the next entry
+pub record Reached (b : Bytes) (start count o : ℕ) (name : Bytes) (len i : ℕ) : Type 0 where
+  pub size : length name ≡ 200
+  pub room : len ≤ 200
+  pub ask : ReadAsk b start count
+  pub upto : i ≤ count
+  pub named : (xs : List Bytes) → Stream b start [] xs → count < length xs → take len name ≡ getD xs i []
+  pub others : (xs : List Bytes) → Stream b start [] xs → count < length xs → Stream b o (take len name) (drop (i + 1) xs)
+
+module _ {b : Bytes} {start count : ℕ} (ask : ReadAsk b start count) where
+  pub reached-first : EntryAt b start 0
+  reached-first = stream-next b start [] (ask .names) (omega (arith, ask .within)) (ask .stream) .0
+
+  pub reached-start : (o : ℕ) (name : Bytes) (len : ℕ) → NameRead b start [] o len name → Reached b start count o name len 0
+  reached-start o name len r = record {
+    size = r .size;
+    room = r .room;
+    ask = ask;
+    upto = omega arith;
+    named = λ xs s h. r .name-is ∙ stream-next b start [] xs (omega arith) s .1;
+    others = λ xs s h. rw (r .name-is, r .next-is) (stream-next b start [] xs (omega arith) s .2);
+  }
+
+module _ {b : Bytes} {start count o : ℕ} {name : Bytes} {len i : ℕ} (w : Reached b start count o name len i) where
+  at-next : i < count → (xs : List Bytes) → Stream b start [] xs → count < length xs → 0 < length (drop (i + 1) xs)
+  at-next l xs s h = omega (arith, length-drop (i + 1) xs)
+
+  next-of : i < count → (xs : List Bytes) → Stream b start [] xs → count < length xs
+      → EntryAt b o (length (take len name)) × (nameAt b o (take len name) ≡ getD (drop (i + 1) xs) 0 []) × Stream b (entryEnd b o) (nameAt b o (take len name)) (drop 1 (drop (i + 1) xs))
+  next-of l xs s h = stream-next b o (take len name) (drop (i + 1) xs) (at-next l xs s h) (w .others xs s h)
+
+  pub reached-entry : i < count → EntryAt b o len
+  reached-entry l =
+      let z : length (take len name) ≡ len = omega (arith, length-take len name, w .size, w .room) in
+      subst (EntryAt b o) z (next-of l (w .ask .names) (w .ask .stream) (w .ask .within) .0)
+
+  pub reached-more : i < count → (next : ℕ) (name' : Bytes) (len' : ℕ) → NameRead b o (take len name) next len' name' → Reached b start count next name' len' (i + 1)
+  reached-more l next name' len' r =
+      let z : i + 1 + 0 ≡ i + 1 = omega arith in
+      record {
+        size = r .size;
+        room = r .room;
+        ask = w .ask;
+        upto = omega arith;
+        named = λ xs s h. r .name-is ∙ next-of l xs s h .1 ∙ getD-drop (i + 1) xs 0 [] ∙ ap (λ (x : ℕ). getD xs x []) z;
+        others = λ xs s h. rw (r .name-is, r .next-is, ← drop-drop 1 (i + 1) xs) (next-of l xs s h .2);
+      }
+
+  pub reached-done : count ≤ i → NameIs b start count name len
+  reached-done l =
+      let z : i ≡ count = omega (arith, w .upto) in
+      record { room = w .room; size = w .size; named = λ xs s h. w .named xs s h ∙ ap (λ (x : ℕ). getD xs x []) z }
+
+pub ruleset reading = (alike-start, alike-more, alike-other, alike-left, alike-right, paste-start, paste-more, paste-done)

@@ -1,0 +1,30 @@
+-- `entries::shared_symbols` meets its contract.
+-- Assumes nothing.
+use Prim.Native.Nat.{_-_}
+use lib.ListN.{length}
+use borrow.Author.Needs.{needs}
+use Rattle.entries.proofs.Reading.{Alike, reading}
+use Rattle.entries.proofs.shared_symbols.Statement.{statement}
+use Rattle.entries.proofs.shared_symbols.Tie as tie
+
+abbrev Inv-loop : tie.InvT-loop
+Inv-loop a b i₀ i = Alike a b i
+
+abbrev μ-loop : tie.MeasureT-loop
+μ-loop a b i₀ i = length a - i
+
+pub shared-symbols-spec : {M : Type 1} → statement M
+shared-symbols-spec =
+    tie.close
+    (tie.spec
+    Inv-loop
+    μ-loop
+    (λ c. search (needs, reading))
+    (λ c. search (needs, reading))
+    (λ c. search (needs, reading))
+    (λ c. search (needs, reading))
+    (λ c. search (needs, reading))
+    (λ c. search (needs, reading))
+    (λ c. search (needs, reading))
+    (λ c. search (needs, reading))
+    (λ c. search (needs, reading)))

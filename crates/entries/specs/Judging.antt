@@ -1,0 +1,70 @@
+-- What the check of the entries says and asks, function by function. What stands in the bytes is told by crate `streams`; here is
+-- what an answer says of it.
+--     NameRead          the name that the cursor reads, and the place of the next entry
+--     EntrySays         whether an entry stands
+--     BlockSays         whether the entries of a block stand, and then its last name
+--     NextSays          the same, and its first name is above the name before; then also how many symbols it shares with that one
+--     WalkSays          whether the entries and the block table stand, and then the row of steps
+--     WalkAsk, Blank    what the walk asks of the trailer's numbers, and of the row of steps
+--     ReadAsk, NameIs   reading a name back: names stand there; the one that is asked for
+-- The laws are in proofs/Reading.antt and proofs/Walking.antt. Assumes nothing: these are definitions.
+use Prim.Native.Nat.{ℕ, _+_, _<_, _≤_}
+use mathlib.Core.Path.{_≡_}
+use mathlib.Core.Bool.{Bool, true, false}
+use mathlib.Core.List.{List, []}
+use lib.ListN.{getD, length, take}
+use Rattle.words.specs.Words.{Bytes, less, plain, shared, word}
+use Rattle.format.specs.Book.{longestBook}
+use Rattle.format.specs.Records.{longest}
+use Rattle.streams.specs.Streams.{Stream, entryEnd, nameAt}
+use Rattle.streams.specs.Runs.{Has, Rest, RunTo, Step, Told}
+
+pub record NameRead (b : Bytes) (o : ℕ) (prev : Bytes) (next len : ℕ) (name : Bytes) : Type 0 where
+  pub name-is : take len name ≡ nameAt b o prev
+  pub next-is : next ≡ entryEnd b o
+  pub room : len ≤ longest
+  pub size : length name ≡ longest
+
+abbrev pub EntrySays : Bytes → ℕ → ℕ → Bytes → Bool → Type 0
+EntrySays b o e prev true = Step b o e prev
+EntrySays b o e prev false = Step b o e prev → ⊥
+
+-- m names of a block stand from o to e, the last of them in the first len bytes
+abbrev pub BlockSays : Bytes → ℕ → ℕ → ℕ → Bool → Bytes → ℕ → Type 0
+BlockSays b o e m true name len = RunTo b e o [] m (take len name)
+BlockSays b o e m false name len = (l : Bytes) → RunTo b e o [] m l → ⊥
+
+-- the block's first name is above prev
+abbrev pub Above : Bytes → ℕ → Bytes → Type 0
+Above b o prev = less (word plain prev) (word plain (nameAt b o [])) ≡ true
+
+abbrev pub NextSays : Bytes → ℕ → ℕ → ℕ → Bytes → Bool → Bytes → ℕ → ℕ → Type 0
+NextSays b o e m prev true name len shares = RunTo b e o [] m (take len name) × Above b o prev × (shares ≡ shared prev (nameAt b o []))
+NextSays b o e m prev false name len shares = (l : Bytes) → RunTo b e o [] m l → Above b o prev → ⊥
+
+abbrev pub WalkSays : Bytes → ℕ → ℕ → ℕ → ℕ → Bool → Bytes → Type 0
+WalkSays b k s u n true steps = Has b k s u n s 0 [] × ((xs : List Bytes) → length xs ≡ n → Rest b k s u s 0 [] xs → Told b steps xs n)
+WalkSays b k s u n false steps = Has b k s u n s 0 [] → ⊥
+
+-- the trailer's numbers lie within the bytes
+pub record WalkAsk (b : Bytes) (k s u : ℕ) : Type 0 where
+  pub one : 1 ≤ k
+  pub small : length b ≤ longestBook
+  pub order : s ≤ u
+  pub room : u + 2 ≤ length b
+
+-- nothing is told yet
+abbrev pub Blank : Bytes → Type 0
+Blank steps = (j : ℕ) → getD steps j 0 ≡ 0
+
+-- entry number count after the one at start can be read: some names stand there, from a block's first on, and it is one of them
+pub record ReadAsk (b : Bytes) (start count : ℕ) : Type 0 where
+  pub names : List Bytes
+  pub stream : Stream b start [] names
+  pub within : count < length names
+
+-- the name of that entry, in the first len bytes
+pub record NameIs (b : Bytes) (start count : ℕ) (name : Bytes) (len : ℕ) : Type 0 where
+  pub room : len ≤ longest
+  pub size : length name ≡ longest
+  pub named : (xs : List Bytes) → Stream b start [] xs → count < length xs → take len name ≡ getD xs count []
