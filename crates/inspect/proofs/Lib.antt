@@ -1,0 +1,5 @@
+-- Laws of the check of a node table. No contract cites them.
+pub mod Fields
+pub mod Entry
+pub mod Rows
+pub mod Table
