@@ -1,0 +1,2 @@
+-- Laws of reading a name back.
+pub mod Rebuilding

@@ -1,0 +1,120 @@
+-- A name that is read back and put into a room.
+--     Found, found, found-asks, found-name      where the block of a position starts, and what streams from there
+--     fronted-..        bytes at the front of a room, one by one
+--     put-short, put-all            the room is too short; it holds the name
+-- Assumes nothing.
+use Prim.Native.Nat.{ℕ, _*_, _+_, _-_, _/_, _<_, _≤_}
+use native.Mathlib.Nat.{div-add-mod', div-le-self}
+use native.Mathlib.Numerals.{add-one}
+use native.Mathlib.Omega.{arith}
+use mathlib.Core.Path.{_≡_, _∙_, ap, ap₂, refl, subst, sym}
+use mathlib.Core.List.{List, [], _++_}
+use lib.ListN.{drop, getD, length, length-drop, length-set, set, take}
+use lib.Seq.{getD-drop, length-take-le, paste, paste-suc, paste-zero, take-all}
+use borrow.Author.Tests.{le-leb, lt-leb}
+use Rattle.words.specs.Words.{Bytes}
+use Rattle.format.specs.Book.{number}
+use Rattle.answers.specs.Calls.{over}
+use Rattle.streams.specs.Runs.{Rest}
+use Rattle.streams.specs.Streams.{namesOf}
+use Rattle.streams.proofs.Rereading.{block-from}
+use Rattle.streams.proofs.Walks.{has-names}
+use Rattle.entries.specs.Judging.{NameIs, ReadAsk}
+use Rattle.accept.specs.Parts.{told, toldNames}
+use Rattle.names.specs.Names.{Named, PositionAsk, Put}
+
+-- ---- where a position's block starts
+
+pub record Found (b : Bytes) (k position table : ℕ) : Type 0 where
+  pub room : table + 2 * (position / k) + 2 ≤ length b
+  pub few : position ≤ 2000
+  pub below : position / k ≤ position
+  pub first : position / k * k ≤ position
+  pub reads : ReadAsk b (number b (table + 2 * (position / k))) (position - position / k * k)
+  pub gives : (name : Bytes) (len : ℕ) → NameIs b (number b (table + 2 * (position / k))) (position - position / k * k) name len
+      → Named (getD (namesOf b) position []) len name
+
+pub found : (b : Bytes) (k position table : ℕ) → PositionAsk b k position → table ≡ told b 4 → Found b k position table
+found b k position table a e =
+    let p = a .parts in
+    let has = p .entries in
+    let inside : told b 4 ≤ length b = omega (arith, p .trail .total, p .trail .order) in
+    let ns : namesOf b ≡ has .names = has-names b (told b 2) (told b 4) (told b 6) (toldNames b) inside has (p .trail .low) refl in
+    let within : position < length (has .names) = subst (λ (xs : List Bytes). position < length xs) ns (a .within) in
+    let first : position / k * k ≤ position = omega (arith, div-add-mod' position k) in
+    let r = subst (λ (n : ℕ). Rest b n (told b 4) (told b 6) (told b 4) 0 [] (has .names)) (sym (a .block)) (has .rest) in
+    let f = block-from b k (told b 4) (told b 6) (omega (arith, a .block, p .trail .low)) (p .trail .short) inside (omega (arith, p .trail .total))
+    (position / k) (position / k * k) (told b 4) 0 [] (has .names) (omega arith) inside r refl (omega arith) in
+    let d : position / k * k + (position - position / k * k) ≡ position = omega arith in
+    let u : position - position / k * k < length (drop (position / k * k) (has .names)) = omega (arith, length-drop (position / k * k) (has .names)) in
+    subst (Found b k position) (sym e) (record {
+      room = omega (arith, f .room, p .trail .total);
+      few = omega (arith, within, has .count, p .trail .few);
+      below = div-le-self position k;
+      first = first;
+      reads = record { names = drop (position / k * k) (has .names); stream = f .stream; within = u };
+      gives = λ name len n. record {
+        name-is = n .named (drop (position / k * k) (has .names)) (f .stream) u
+            ∙ getD-drop (position / k * k) (has .names) (position - position / k * k) []
+            ∙ ap (λ (i : ℕ). getD (has .names) i []) d ∙ ap (λ (xs : List Bytes). getD xs position []) (sym ns);
+        room = n .room;
+        size = n .size;
+      };
+    })
+
+-- with the offset that the code has read
+module _ (b : Bytes) (k position table start : ℕ) (f : Found b k position table) (e : start ≡ number b (table + 2 * (position / k))) where
+  pub found-asks : ReadAsk b start (position - position / k * k)
+  found-asks = subst (λ (n : ℕ). ReadAsk b n (position - position / k * k)) (sym e) (f .reads)
+
+  pub found-name : (name : Bytes) (len : ℕ) → NameIs b start (position - position / k * k) name len → Named (getD (namesOf b) position []) len name
+  found-name name len n = f .gives name len (subst (λ (o : ℕ). NameIs b o (position - position / k * k) name len) e n)
+
+-- ---- at the front of a room
+
+-- i of the bytes are written
+pub record Fronted (out room₀ room : Bytes) (i : ℕ) : Type 0 where
+  pub fits : length out ≤ length room₀
+  pub within : i ≤ length out
+  pub kept : length room ≡ length room₀
+  pub so-far : room ≡ paste room₀ 0 out i
+
+module _ (out room₀ : Bytes) where
+  pub fronted-start : length out ≤ length room₀ → Fronted out room₀ room₀ 0
+  fronted-start h = record { fits = h; within = omega arith; kept = refl; so-far = paste-zero room₀ 0 out }
+
+  module _ (room : Bytes) (i : ℕ) (f : Fronted out room₀ room i) where
+    pub fronted-more : i < length out → Fronted out room₀ (set room i (getD out i 0)) (i + 1)
+    fronted-more h =
+        let z : 0 + i ≡ i = omega arith in
+        record {
+          fits = f .fits;
+          within = omega arith;
+          kept = length-set room i (getD out i 0) ∙ f .kept;
+          so-far = ap₂ (λ (r : Bytes) (n : ℕ). set r n (getD out i 0)) (f .so-far) (sym z)
+              ∙ paste-suc room₀ 0 out i 0 (omega (arith, f .fits)) h ∙ ap (paste room₀ 0 out) (sym (add-one i));
+        }
+
+    pub fronted-all : length out ≤ i → room ≡ over out room₀
+    fronted-all h =
+        let e : i ≡ length out = omega (arith, f .within) in
+        let z : 0 + length out ≡ length out = omega arith in
+        f .so-far ∙ ap (paste room₀ 0 out) e ∙ ap₂ (λ (t : Bytes) (n : ℕ). t ++ drop n room₀) (take-all (length out) out (omega arith)) z
+
+module _ (x : Bytes) (len : ℕ) (name : Bytes) (n : Named x len name) where
+  -- the part of the array that is the name
+  pub front-is : take (len - 0) name ≡ x
+  front-is = let z : len - 0 ≡ len = omega arith in ap (λ (i : ℕ). take i name) z ∙ n .name-is
+
+module _ (x room : Bytes) (len : ℕ) (name : Bytes) (n : Named x len name) where
+  size-is : length x ≡ len
+  size-is = sym (ap length (n .name-is)) ∙ length-take-le len name (omega (arith, n .size, n .room))
+
+  pub put-short : length room < len → Put x room 0 room
+  put-short h = record { answer = rw (lt-leb (length x) (length room) (omega (arith, size-is))) refl; bytes = rw (lt-leb (length x) (length room) (omega (arith, size-is))) refl }
+
+  pub put-all : (out after : Bytes) → len ≤ length room → out ≡ x → after ≡ over out room → Put x room len after
+  put-all out after h e q = record {
+    answer = sym size-is ∙ rw (le-leb (length x) (length room) (omega (arith, size-is))) refl;
+    bytes = q ∙ ap (λ (y : Bytes). over y room) e ∙ rw (le-leb (length x) (length room) (omega (arith, size-is))) refl;
+  }

@@ -1,0 +1,29 @@
+-- What reading a name back asks of the bytes, and what it gives.
+--     PositionAsk       the parts of a book with blocks of k names have passed, and it has a name at the position
+--     Named             the front of an array of 200 bytes is the name
+--     Put               the name stands at the front of the room, where it fits
+-- Assumes nothing: these are definitions.
+use Prim.Native.Nat.{ℕ, _<_, _≤_}
+use mathlib.Core.Path.{_≡_}
+use lib.Dec.{leb}
+use lib.ListN.{length, take}
+use Rattle.words.specs.Words.{Bytes, pick}
+use Rattle.format.specs.Records.{longest}
+use Rattle.answers.specs.Calls.{over}
+use Rattle.streams.specs.Streams.{namesOf}
+use Rattle.accept.specs.Parts.{Parts, told}
+
+pub record PositionAsk (b : Bytes) (k position : ℕ) : Type 0 where
+  pub parts : Parts b
+  pub block : k ≡ told b 2
+  pub within : position < length (namesOf b)
+
+pub record Named (x : Bytes) (len : ℕ) (name : Bytes) : Type 0 where
+  pub name-is : take len name ≡ x
+  pub room : len ≤ longest
+  pub size : length name ≡ longest
+
+-- a name has at least one byte, so 0 says that the room is too short
+pub record Put (x room : Bytes) (len : ℕ) (after : Bytes) : Type 0 where
+  pub answer : len ≡ pick (leb (length x) (length room)) (length x) 0
+  pub bytes : after ≡ pick (leb (length x) (length room)) (over x room) room

@@ -1,0 +1,47 @@
+// A name read back from a book, from the start of its block on.
+ghost use mathlib.Core.Path.{_≡_};
+ghost use mathlib.Core.List.{[]};
+ghost use Prim.Native.Nat.{_≤_};
+ghost use lib.ListN.{getD, length};
+ghost use Rattle.answers.specs.Calls.{over};
+ghost use Rattle.streams.specs.Streams.{namesOf};
+ghost use Rattle.names.specs.Names.{Named, PositionAsk, Put};
+
+// The name at a position of a book with blocks of k names.
+pub fn read_name(book: &[u8], k: usize, position: usize) -> entries::Entry
+    requires { ⌜ PositionAsk (now book) k position ⌝ }
+    ensures { λ r. ⌜ Named (getD (namesOf (now (book .entry))) position []) (r .len) (r .name) ⌝ }
+{
+    let at = book.len() - 16;
+    let table = numbers::number_at(book, at + 4);
+    let block = position / k;
+    let start = numbers::number_at(book, table + 2 * block);
+    entries::name_of(book, start, position - block * k)
+}
+
+// Bytes at the front of a room that holds them.
+fn put_front(out: &[u8], room: &mut [u8])
+    requires { ⌜ length (now out) ≤ length (now room) ⌝ }
+    ensures { λ _. ⌜ now (room .exit) ≡ over (now (out .entry)) (now (room .entry)) ⌝ }
+{
+    let mut i: usize = 0;
+    while i < out.len() {
+        room[i] = out[i];
+        i += 1;
+    }
+}
+
+// The name at a position at the front of the room, and its length; or 0, and nothing is written, where the room is shorter.
+pub fn put_name(book: &[u8], k: usize, position: usize, room: &mut [u8]) -> usize
+    requires { ⌜ PositionAsk (now book) k position ⌝ }
+    ensures { λ r. ⌜ Put (getD (namesOf (now (book .entry))) position []) (now (room .entry)) r (now (room .exit)) ⌝ }
+{
+    let entry = read_name(book, k, position);
+    let name = entry.name;
+    let len = entry.len;
+    if room.len() < len {
+        return 0;
+    }
+    put_front(&name[0..len], room);
+    len
+}
