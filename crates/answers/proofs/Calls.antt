@@ -1,37 +1,45 @@
 -- Laws of the public calls, for those who call them.
 --     build-within      the bytes that an accepted build counts stand in the room
+--     read-within       the bytes that a read counts stand in the room; a refused one counts none
+--     check-within      what an accepted check accepts has a trailer, and a block size that is not 0
 -- Assumes nothing.
 use Prim.Native.Nat.{ℕ, _≤_}
 use native.Mathlib.Omega.{arith}
-use mathlib.Core.Path.{_≡_, refl}
+use mathlib.Core.Path.{_≡_, refl, ap}
 use mathlib.Core.Bool.{Bool, true, false}
-use lib.Dec.{leb}
-use lib.ListN.{length, drop, length-append}
+use mathlib.Core.List.{[]}
+use lib.Dec.{leb, ltb}
+use lib.ListN.{length, drop, getD, length-append}
 use Rattle.words.specs.Words.{Bytes, Rule, pick}
 use Rattle.format.specs.Records.{Names, Reading, Refused, readList}
-use Rattle.format.specs.Book.{book, goodBlock, longestBook}
+use Rattle.format.specs.Book.{Book, NoBook, Opened, book, goodBlock, longestBook, opened, trailerSize}
+use Rattle.format.proofs.Book.{book-length, book-opened, fits-parts}
 use Rattle.format.proofs.Records.{read-refused}
-use Rattle.answers.specs.Calls.{Written, build, builtFrom, given, over, refused, write}
+use Rattle.answers.specs.Calls.{Answer, Written, build, builtFrom, check, checkOf, given, over, readBack, readBackOf, refused, write}
 
 -- where the code is 0, the number counts bytes that stand in the room
 abbrev Counted : Written → Type 0
 Counted w = w .answer .code ≡ 0 → w .answer .first ≤ length (w .room)
 
-module _ (ρ : Rule) (list : Bytes) (k : ℕ) (room : Bytes) where
-  write-within : (out : Bytes) → Counted (write out room)
-  write-within out = go (leb (length out) (length room))
-    where
-      go : (t : Bool) → Counted (pick t (record { answer = given (length out) 0; room = over out room }) (record { answer = refused 4; room = room }))
-      go true e = omega (arith, length-append out (drop (length out) room))
-      go false e = absurd (omega arith)
+-- the number counts bytes that stand in the room
+abbrev Within : Written → Type 0
+Within w = w .answer .first ≤ length (w .room)
 
+write-within : (room out : Bytes) → Within (write out room)
+write-within room out = go (leb (length out) (length room))
+  where
+    go : (t : Bool) → Within (pick t (record { answer = given (length out) 0; room = over out room }) (record { answer = refused 4; room = room }))
+    go true = omega (arith, length-append out (drop (length out) room))
+    go false = omega arith
+
+module _ (ρ : Rule) (list : Bytes) (k : ℕ) (room : Bytes) where
   from-within : (r : Reading) → readList ρ list ≡ r → Counted (builtFrom ρ k room r)
   unfolding builtFrom
   from-within (Refused code i) p = λ e. absurd (omega (arith, read-refused ρ list code i p))
   from-within (Names xs) p = go (leb (length (book ρ k xs)) longestBook)
     where
       go : (t : Bool) → Counted (pick t (write (book ρ k xs) room) (record { answer = refused 9; room = room }))
-      go true = write-within (book ρ k xs)
+      go true = λ e. write-within room (book ρ k xs)
       go false = λ e. absurd (omega arith)
 
   pub build-within : (w : Written) → w ≡ build ρ list k room → Counted w
@@ -41,3 +49,34 @@ module _ (ρ : Rule) (list : Bytes) (k : ℕ) (room : Bytes) where
       go : (t : Bool) → Counted (pick t (builtFrom ρ k room (readList ρ list)) (record { answer = refused 8; room = room }))
       go true = from-within (readList ρ list) refl
       go false = λ e. absurd (omega arith)
+
+module _ (ρ : Rule) (s : Bytes) (i : ℕ) (room : Bytes) where
+  read-of-within : (o : Opened) → Within (readBackOf i room o)
+  unfolding readBackOf
+  read-of-within NoBook = omega arith
+  read-of-within (Book k xs) = go (ltb i (length xs))
+    where
+      go : (t : Bool) → Within (pick t (write (getD xs i []) room) (record { answer = refused 3; room = room }))
+      go true = write-within room (getD xs i [])
+      go false = omega arith
+
+  pub read-within : (w : Written) → w ≡ readBack ρ s i room → Within w
+  unfolding readBack
+  read-within w p = rw p (read-of-within (opened ρ s))
+
+-- what an accepted check says of the bytes
+pub record Trailed (s : Bytes) (a : Answer) : Type 0 where
+  pub low : 1 ≤ a .second
+  pub size : trailerSize ≤ length s
+
+module _ (ρ : Rule) (s : Bytes) where
+  check-of-within : (o : Opened) → opened ρ s ≡ o → checkOf o .code ≡ 0 → Trailed s (checkOf o)
+  unfolding checkOf
+  check-of-within NoBook p e = absurd (omega arith)
+  check-of-within (Book k xs) p e =
+      let b = book-opened ρ s k xs p in
+      record { low = fits-parts ρ k xs (b .0) .low; size = omega (arith, book-length ρ k xs, ap length (b .1)) }
+
+  pub check-within : (a : Answer) → a ≡ check ρ s → a .code ≡ 0 → Trailed s a
+  unfolding check
+  check-within a p = rw p (check-of-within (opened ρ s) refl)

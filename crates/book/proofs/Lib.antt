@@ -1,2 +1,3 @@
 -- Laws of the public calls.
 pub mod Building
+pub mod Reading

@@ -3,8 +3,8 @@
 // and Rust; a slice is a pointer and a length.
 ghost use mathlib.Core.Path.{_≡_};
 ghost use Rattle.words.specs.Words.{plain};
-ghost use Rattle.answers.specs.Calls.{build};
-ghost use Rattle.book.specs.Answers.{written};
+ghost use Rattle.answers.specs.Calls.{build, check, readBack};
+ghost use Rattle.book.specs.Answers.{answered, written};
 
 // 0 or the number of a refusal, and two numbers beside it.
 #[repr(C)]
@@ -50,6 +50,47 @@ pub extern "C" fn book_build(list: &[u8], block: usize, room: &mut [u8]) -> Answ
                     first: total,
                     second: 0,
                 },
+            }
+        }
+    }
+}
+
+// Whether bytes are a book: then how many names it has, in blocks of how many. Refusal: 2.
+#[no_mangle]
+pub extern "C" fn book_check(book: &[u8]) -> Answer
+    ensures { λ r. ⌜ answered r ≡ check plain (now (book .entry)) ⌝ }
+{
+    let checked = accept::check_book(book);
+    match checked {
+        accept::Checked::Unsound => refuse(2, 0),
+        accept::Checked::Sound(n, k) => Answer {
+            code: 0,
+            first: n,
+            second: k,
+        },
+    }
+}
+
+// The name at a position of a book, at the front of the room. Refusals: 2, 3, 4.
+#[no_mangle]
+pub extern "C" fn book_read(book: &[u8], position: usize, room: &mut [u8]) -> Answer
+    ensures { λ r. ⌜ written r (now (room .exit)) ≡ readBack plain (now (book .entry)) position (now (room .entry)) ⌝ }
+{
+    let checked = accept::check_book(book);
+    match checked {
+        accept::Checked::Unsound => refuse(2, 0),
+        accept::Checked::Sound(n, k) => {
+            if n <= position {
+                return refuse(3, 0);
+            }
+            let len = names::put_name(book, k, position, room);
+            if len == 0 {
+                return refuse(4, 0);
+            }
+            Answer {
+                code: 0,
+                first: len,
+                second: 0,
             }
         }
     }

@@ -1,0 +1,104 @@
+-- How a check and a read end, by the ways that the calls go.
+--     check-unsound, check-sound            no book; a book of n names in blocks of k
+--     read-unsound, read-past               no book; no name at the position
+--     position-ask, read-short, read-put    the name can be read; the room is too short; the name stands at its front
+-- Assumes nothing.
+use Prim.Native.Nat.{ℕ, _<_, _≤_}
+use native.Mathlib.Omega.{arith}
+use mathlib.Core.Path.{_≡_, _∙_, ap, ap₂, refl, sym}
+use mathlib.Core.Bool.{Bool, false, true}
+use mathlib.Core.List.{[]}
+use lib.Dec.{leb}
+use lib.ListN.{getD, length}
+use borrow.Author.Tests.{le-ltb, lt-ltb}
+use Rattle.words.specs.Words.{Bytes, InBytes, plain}
+use Rattle.words.proofs.Lists.{all-at}
+use Rattle.format.specs.Book.{Book, NoBook, Opened, opened}
+use Rattle.format.proofs.Book.{book-opened, fits-parts}
+use Rattle.format.proofs.Records.{rising-sizes, sound-rising}
+use Rattle.answers.specs.Calls.{Answer as Numbers, Written, check, checkOf, given, over, readBack, readBackOf, refused, write}
+use Rattle.streams.specs.Streams.{namesOf}
+use Rattle.accept.specs.Parts.{checkedOf}
+use Rattle.accept.specs.declared.Checked.the-variants.{Sound, Unsound}
+use Rattle.accept.proofs.Judging.{sound-book}
+use Rattle.names.specs.Names.{PositionAsk, Put}
+use Rattle.book.specs.Answers.{answered, written}
+use Rattle.book.specs.declared.Answer.{Answer}
+
+no-book : (b : Bytes) → Unsound ≡ checkedOf (opened plain b) → opened plain b ≡ NoBook
+no-book b s = go (opened plain b) s
+  where
+    go : (o : Opened) → Unsound ≡ checkedOf o → o ≡ NoBook
+    go NoBook q = refl
+    go (Book k xs) q = absurd (let z : _≡_ {A = ℕ} 0 1 = cc in omega arith)
+
+-- ---- the check
+
+pub check-unsound : (b : Bytes) (r : Answer) → answered r ≡ refused 2 → Unsound ≡ checkedOf (opened plain b) → answered r ≡ check plain b
+unfolding check checkOf
+check-unsound b r e s = e ∙ sym (ap checkOf (no-book b s))
+
+pub check-sound : (b : Bytes) (n k : ℕ) → InBytes b → Sound n k ≡ checkedOf (opened plain b) → given n k ≡ check plain b
+unfolding check checkOf
+check-sound b n k bytes s =
+    let f = sound-book b n k bytes s in
+    ap (λ (x : ℕ). given x k) (f .count) ∙ sym (ap checkOf (f .book))
+
+-- ---- the read
+
+abbrev ended : Bytes → Numbers → Written
+ended room a = record { answer = a; room = room }
+
+pub read-unsound : (b room : Bytes) (i : ℕ) (r : Answer) → answered r ≡ refused 2 → Unsound ≡ checkedOf (opened plain b) → written r room ≡ readBack plain b i room
+unfolding readBack readBackOf
+read-unsound b room i r e s = ap (ended room) e ∙ sym (ap (readBackOf i room) (no-book b s))
+
+module _ (b room : Bytes) (i n k : ℕ) (bytes : InBytes b) (s : Sound n k ≡ checkedOf (opened plain b)) where
+  abbrev name : Bytes
+  name = getD (namesOf b) i []
+
+  asked : readBack plain b i room ≡ readBackOf i room (Book k (namesOf b))
+  unfolding readBack
+  asked = ap (readBackOf i room) (sound-book b n k bytes s .book)
+
+  pub read-past : (r : Answer) → answered r ≡ refused 3 → n ≤ i → written r room ≡ readBack plain b i room
+  unfolding readBackOf
+  read-past r e h = ap (ended room) e ∙ sym (asked ∙ rw (le-ltb i (length (namesOf b)) (omega (arith, sound-book b n k bytes s .count))) refl)
+
+  pub position-ask : i < n → PositionAsk b k i
+  position-ask h =
+      let f = sound-book b n k bytes s in
+      record { parts = f .parts; block = f .block; within = omega (arith, f .count) }
+
+  module _ (h : i < n) where
+    within : i < length (namesOf b)
+    within = omega (arith, sound-book b n k bytes s .count)
+
+    writes : readBack plain b i room ≡ write name room
+    unfolding readBackOf
+    writes = asked ∙ rw (lt-ltb i (length (namesOf b)) within) refl
+
+    some : 1 ≤ length name
+    some =
+        let o = book-opened plain b k (namesOf b) (sound-book b n k bytes s .book) in
+        all-at [] (namesOf b) (rising-sizes plain [] (namesOf b) (sound-rising plain (namesOf b) (fits-parts plain k (namesOf b) (o .0) .sound))) i within .0
+
+    module _ (len : ℕ) (after : Bytes) (p : Put name room len after) where
+      pub read-short : (r : Answer) → answered r ≡ refused 4 → len ≡ 0 → written r after ≡ readBack plain b i room
+      read-short r e z = go (leb (length name) (length room)) refl
+        where
+          go : (t : Bool) → leb (length name) (length room) ≡ t → written r after ≡ readBack plain b i room
+          go true q = absurd (let y : len ≡ length name = p .answer ∙ rw q refl in omega (arith, some))
+          go false q =
+              let kept : after ≡ room = p .bytes ∙ rw q refl in
+              ap₂ (λ (a : Numbers) (m : Bytes). ended m a) e kept ∙ sym (writes ∙ rw q refl)
+
+      pub read-put : (len ≡ 0 → ⊥) → ended after (given len 0) ≡ readBack plain b i room
+      read-put z = go (leb (length name) (length room)) refl
+        where
+          go : (t : Bool) → leb (length name) (length room) ≡ t → ended after (given len 0) ≡ readBack plain b i room
+          go true q =
+              let size : len ≡ length name = p .answer ∙ rw q refl in
+              let put : after ≡ over name room = p .bytes ∙ rw q refl in
+              ap₂ (λ (x : ℕ) (m : Bytes). ended m (given x 0)) size put ∙ sym (writes ∙ rw q refl)
+          go false q = absurd (z (p .answer ∙ rw q refl))
