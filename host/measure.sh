@@ -1,11 +1,14 @@
 #!/usr/bin/env bash
 # Counts the instructions of one call of the proved library, with all that it calls, by valgrind's callgrind.
 #
-#   host/measure.sh build LISTFILE K      instructions of book_build on that list with that block size
+#   host/measure.sh build LISTFILE K          instructions of book_build on that list with that block size
+#   host/measure.sh check BOOKFILE            of book_check on that book
+#   host/measure.sh read BOOKFILE POSITION    of book_read at that position of that book
 #
-# The words go to the program `bench`. The archive is the one that MISTROGU_ARCHIVE names, or a new one from archive.sh.
+# `vectors lists FOLDER` and `vectors books FOLDER K` write files to measure with. The words go to the program `bench`. The archive is
+# the one that MISTROGU_ARCHIVE names, or a new one from archive.sh.
 set -eu
-[ $# -ge 1 ] || { sed -n '2,6s/^# \{0,1\}//p' "$0" >&2; exit 2; }
+[ $# -ge 1 ] || { sed -n '2,9s/^# \{0,1\}//p' "$0" >&2; exit 2; }
 call=book_$1
 
 host=$(cd "$(dirname "$0")" && pwd -P)

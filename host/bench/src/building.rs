@@ -1,16 +1,15 @@
 //! `book_build`, from a file of list records into a room for the longest book.
 
-use crate::Ready;
+use crate::{read_file, read_number, Ready};
 use model::layout::LONGEST_BOOK;
-use std::fs;
 
 /// Makes the call ready from a file's name and a block size.
 pub fn ready(words: &[String]) -> Result<Ready, String> {
     let [file, block] = words else {
         return Err("build needs the name of a list file and a block size".to_string());
     };
-    let list = fs::read(file).map_err(|error| format!("{file}: {error}"))?;
-    let block: usize = block.parse().map_err(|error| format!("{block}: {error}"))?;
+    let list = read_file(file)?;
+    let block = read_number(block)?;
     let mut room = vec![0; LONGEST_BOOK];
     let expected = model::book_build(&list, block, &mut room);
     Ok(Ready {

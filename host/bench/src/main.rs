@@ -9,10 +9,12 @@
 //! Another call is a module with one function, and one more line in [`CALLS`].
 
 mod building;
+mod checking;
+mod reading;
 mod stack;
 
-use std::env;
 use std::process::ExitCode;
+use std::{env, fs};
 
 /// A call that can be measured.
 struct Call {
@@ -33,11 +35,23 @@ pub struct Ready {
 }
 
 /// Every call that can be measured.
-const CALLS: [Call; 1] = [Call {
-    name: "build",
-    words: "LISTFILE K",
-    ready: building::ready,
-}];
+const CALLS: [Call; 3] = [
+    Call {
+        name: "build",
+        words: "LISTFILE K",
+        ready: building::ready,
+    },
+    Call {
+        name: "check",
+        words: "BOOKFILE",
+        ready: checking::ready,
+    },
+    Call {
+        name: "read",
+        words: "BOOKFILE POSITION",
+        ready: reading::ready,
+    },
+];
 
 fn main() -> ExitCode {
     let words: Vec<String> = env::args().skip(1).collect();
@@ -72,6 +86,16 @@ fn ready(words: &[String]) -> Result<Ready, String> {
     let (name, rest) = words.split_first().ok_or_else(usage)?;
     let call = CALLS.iter().find(|call| call.name == name);
     (call.ok_or_else(usage)?.ready)(rest)
+}
+
+/// The bytes of a file.
+pub fn read_file(file: &str) -> Result<Vec<u8>, String> {
+    fs::read(file).map_err(|error| format!("{file}: {error}"))
+}
+
+/// A number among the words.
+pub fn read_number(word: &str) -> Result<usize, String> {
+    word.parse().map_err(|error| format!("{word}: {error}"))
 }
 
 /// The answer as it is printed, if it is the expected one.

@@ -7,8 +7,12 @@
 //!
 //! Another call is a module with one function, and one more line in [`KINDS`].
 
+mod books;
 mod building;
+mod checking;
 mod lent;
+mod reading;
+mod shapes;
 mod tally;
 
 use std::env;
@@ -29,10 +33,20 @@ pub struct Kind {
 }
 
 /// Every kind of call, as often as the others.
-const KINDS: [Kind; 1] = [Kind {
-    name: "build",
-    run: building::run,
-}];
+const KINDS: [Kind; 3] = [
+    Kind {
+        name: "build",
+        run: building::run,
+    },
+    Kind {
+        name: "check",
+        run: checking::run,
+    },
+    Kind {
+        name: "read",
+        run: reading::run,
+    },
+];
 
 /// Whether both programs answered the same.
 pub fn same_answer(expected: model::Answer, found: proved::Answer) -> bool {

@@ -40,3 +40,26 @@ pub fn book_build(list: &[u8], block: usize, room: &mut [u8]) -> Answer {
         )
     }
 }
+
+/// Checks a book: (0, how many names it has, its block size), or refusal 2.
+pub fn book_check(book: &[u8]) -> Answer {
+    // SAFETY: the pointer comes with the length of its own slice, and nothing
+    // is written.
+    unsafe { raw::book_check(book.as_ptr(), book.len()) }
+}
+
+/// Reads the name at this position into the room: (0, its length, 0), or
+/// refusal 2, 3 or 4, and then the room is as it was.
+pub fn book_read(book: &[u8], position: usize, room: &mut [u8]) -> Answer {
+    // SAFETY: each pointer comes with the length of its own slice. The room is
+    // borrowed for this call alone, so it does not overlap the book.
+    unsafe {
+        raw::book_read(
+            book.as_ptr(),
+            book.len(),
+            position,
+            room.as_mut_ptr(),
+            room.len(),
+        )
+    }
+}

@@ -54,4 +54,8 @@ macro_rules! exported {
 exported! {
     /// Builds a book from list records.
     fn book_build(list: *const u8, list_len: usize, block: usize, room: *mut u8, room_len: usize);
+    /// Checks a book.
+    fn book_check(book: *const u8, book_len: usize);
+    /// Reads a name back by its position.
+    fn book_read(book: *const u8, book_len: usize, position: usize, room: *mut u8, room_len: usize);
 }

@@ -1,7 +1,7 @@
 //! The worked example through the linked archive, so that a wrong convention
 //! or a wrong archive shows at once.
 
-use proved::{book_build, Answer};
+use proved::{book_build, book_check, book_read, Answer};
 
 const LIST: &[u8] = b"\x03Mar\x06Marina\x0DMarket Square";
 
@@ -33,4 +33,42 @@ fn a_refused_call_leaves_the_room_as_it_was() {
     assert_eq!(book_build(LIST, 65, &mut room), answer(8, 0, 0));
     assert_eq!(book_build(b"\x01b\x01a", 2, &mut room), answer(6, 1, 0));
     assert_eq!(room, [0xAA; 84]);
+}
+
+/// The book of 85 bytes.
+fn book() -> [u8; 85] {
+    let mut room = [0; 85];
+    assert_eq!(book_build(LIST, 2, &mut room), answer(0, 85, 0));
+    room
+}
+
+#[test]
+fn the_book_of_85_bytes_is_checked() {
+    assert_eq!(book_check(&book()), answer(0, 3, 2));
+    let mut spoilt = book();
+    spoilt[30] = 1;
+    assert_eq!(book_check(&spoilt), answer(2, 0, 0));
+    assert_eq!(book_check(&book()[1..]), answer(2, 0, 0));
+    assert_eq!(book_check(&[]), answer(2, 0, 0));
+}
+
+#[test]
+fn each_name_of_the_book_of_85_bytes_is_read_back() {
+    for (position, name) in ["Mar", "Marina", "Market Square"].iter().enumerate() {
+        let mut room = [0xAA; 20];
+        let read = book_read(&book(), position, &mut room);
+        assert_eq!(read, answer(0, name.len(), 0));
+        assert_eq!(&room[..name.len()], name.as_bytes());
+        assert!(room[name.len()..].iter().all(|&byte| byte == 0xAA));
+    }
+}
+
+#[test]
+fn a_refused_reading_leaves_the_room_as_it_was() {
+    let mut room = [0xAA; 12];
+    assert_eq!(book_read(&[], 0, &mut room), answer(2, 0, 0));
+    assert_eq!(book_read(&book(), 3, &mut room), answer(3, 0, 0));
+    assert_eq!(book_read(&book(), usize::MAX, &mut room), answer(3, 0, 0));
+    assert_eq!(book_read(&book(), 2, &mut room), answer(4, 0, 0));
+    assert_eq!(room, [0xAA; 12]);
 }

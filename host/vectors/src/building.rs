@@ -28,10 +28,10 @@
 //! - the two numbers of the checksum of the whole room, so that a byte that was
 //!   touched past the book, or in a refused call, shows.
 
-use crate::checksum::printed_checksum;
 use crate::damage::{spoil_bytes, spoil_names};
 use crate::lists::{self, Names};
 use crate::random::Random;
+use crate::rooms::{filled_room, printed_outcome};
 use crate::{Case, Set};
 use model::{book_build, book_of, write_list};
 
@@ -73,21 +73,8 @@ impl Case for BuildCase {
         let block = usize::try_from(self.block).unwrap_or(usize::MAX);
         let mut room = filled_room(self.room);
         let answer = book_build(&self.list, block, &mut room);
-        let written = if answer.code == 0 { answer.first } else { 0 };
-        format!(
-            "{} {} {} {} {}",
-            answer.code,
-            answer.first,
-            answer.second,
-            printed_checksum(&room[..written]),
-            printed_checksum(&room)
-        )
+        printed_outcome(answer, &room)
     }
-}
-
-/// A room of this length as it is before the call.
-pub fn filled_room(length: usize) -> Vec<u8> {
-    (0..length).map(|at| (at % 251) as u8).collect()
 }
 
 /// All cases, in the order of the file.

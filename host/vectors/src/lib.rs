@@ -11,9 +11,13 @@
 //! | Module | What it has |
 //! |---|---|
 //! | [`building`] | the set of `book_build`, and the format of its file |
+//! | [`checking`] | the set of `book_check`, and the format of its file |
+//! | [`reading`] | the set of `book_read`, and the format of its file |
 //! | [`checksum`] | two small numbers that stand for many bytes |
 //! | [`lists`] | lists of names by their shape |
-//! | [`damage`] | ways to spoil a list |
+//! | [`pieces`] | a book in pieces, to be put together wrongly |
+//! | [`damage`] | ways to spoil a list or a book |
+//! | [`rooms`] | rooms before and after a call |
 //! | [`random`] | numbers that look random |
 //!
 //! Another call is one more module with a type that is a [`Case`], and one
@@ -23,10 +27,14 @@
 #![warn(missing_docs)]
 
 pub mod building;
+pub mod checking;
 pub mod checksum;
 pub mod damage;
 pub mod lists;
+pub mod pieces;
 pub mod random;
+pub mod reading;
+pub mod rooms;
 
 /// One call with all that goes into it.
 pub trait Case {
@@ -48,7 +56,7 @@ pub struct Set {
 }
 
 /// Every set, in the order in which a program runs them.
-pub const SETS: [Set; 1] = [building::SET];
+pub const SETS: [Set; 3] = [building::SET, checking::SET, reading::SET];
 
 impl Set {
     /// The file of cases: one record after the other, from first to last byte.

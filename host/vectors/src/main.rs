@@ -1,5 +1,5 @@
-//! Writes test vectors, says what they are for, and writes lists to measure
-//! with.
+//! Writes test vectors, says what they are for, and writes lists and books to
+//! measure with.
 
 use std::path::Path;
 use std::process::ExitCode;
@@ -11,6 +11,7 @@ const USAGE: &str = "\
 vectors SET FOLDER       write FOLDER/SET.cases and FOLDER/SET.expected
 vectors purposes SET     say what each case of the set is for
 vectors lists FOLDER     write lists to measure with, as FOLDER/NAME.list
+vectors books FOLDER K   write their books with that block size, as FOLDER/NAME.book
 The sets are:";
 
 fn main() -> ExitCode {
@@ -18,6 +19,7 @@ fn main() -> ExitCode {
     let words: Vec<&str> = words.iter().map(String::as_str).collect();
     let done = match words[..] {
         ["lists", folder] => write_lists(Path::new(folder)),
+        ["books", folder, block] => write_books(Path::new(folder), block),
         ["purposes", name] => with_set(name, |set| {
             print!("{}", set.purposes());
             Ok(())
@@ -59,9 +61,9 @@ fn write_set(set: &Set, folder: &Path) -> io::Result<()> {
     Ok(())
 }
 
-/// Writes lists of the shapes that cost most, and the worked example.
-fn write_lists(folder: &Path) -> Result<(), String> {
-    let shapes: [(&str, Names); 7] = [
+/// Lists of the shapes that cost most, and the worked example.
+fn shapes() -> [(&'static str, Names); 7] {
+    [
         ("example", lists::example()),
         ("stops", lists::stops()),
         ("chain", lists::chain(b'a', 200)),
@@ -69,13 +71,31 @@ fn write_lists(folder: &Path) -> Result<(), String> {
         ("pairs", lists::pairs(2000)),
         ("binary", lists::binary(1860)),
         ("long", lists::long(300)),
-    ];
-    for (name, names) in shapes {
-        let path = folder.join(format!("{name}.list"));
-        let written = fs::create_dir_all(folder)
-            .and_then(|()| fs::write(&path, model::write_list(&names)))
-            .map_err(|error| format!("{}: {error}", path.display()));
-        written?;
+    ]
+}
+
+/// Writes the lists.
+fn write_lists(folder: &Path) -> Result<(), String> {
+    for (name, names) in shapes() {
+        write_file(folder, &format!("{name}.list"), &model::write_list(&names))?;
     }
     Ok(())
+}
+
+/// Writes the books of the lists with this block size.
+fn write_books(folder: &Path, block: &str) -> Result<(), String> {
+    let block = block.parse().map_err(|error| format!("{block}: {error}"))?;
+    for (name, names) in shapes() {
+        let book = model::book_of(block, &names);
+        write_file(folder, &format!("{name}.book"), &book)?;
+    }
+    Ok(())
+}
+
+/// Writes one file, and its folder where it is not there.
+fn write_file(folder: &Path, name: &str, bytes: &[u8]) -> Result<(), String> {
+    let path = folder.join(name);
+    fs::create_dir_all(folder)
+        .and_then(|()| fs::write(&path, bytes))
+        .map_err(|error| format!("{}: {error}", path.display()))
 }

@@ -3,13 +3,16 @@
 //! They stand in the program crate that runs the proved library on them: each
 //! set's cases in its data folder, all expected lines in its file `stdout`.
 
+use model::{book_of, listing};
 use std::fs;
 use std::path::{Path, PathBuf};
-use vectors::{expected_of_all, SETS};
+use vectors::{expected_of_all, lists, SETS};
 
-/// The folder of the program that runs the vectors.
-fn program_folder() -> PathBuf {
-    Path::new(env!("CARGO_MANIFEST_DIR")).join("../../crates/cases")
+/// The folder of a program.
+fn program_folder(name: &str) -> PathBuf {
+    Path::new(env!("CARGO_MANIFEST_DIR"))
+        .join("../../crates")
+        .join(name)
 }
 
 /// Asserts that the file holds exactly these bytes.
@@ -26,14 +29,34 @@ fn assert_stored(path: &Path, today: &[u8]) {
 
 #[test]
 fn the_stored_vectors_are_what_the_second_program_writes_today() {
-    let folder = program_folder();
-    if !folder.is_dir() {
-        println!("note: there is no crates/cases yet, so nothing is stored");
-        return;
-    }
+    let folder = program_folder("cases");
     for set in &SETS {
         let file = folder.join(format!("data/{}.cases", set.name));
         assert_stored(&file, &set.case_file());
     }
     assert_stored(&folder.join("stdout"), expected_of_all().as_bytes());
+}
+
+#[test]
+fn the_stored_listings_are_what_the_second_program_prints() {
+    let book = book_of(2, &lists::example());
+    let folder = program_folder("list_book");
+    assert_stored(&folder.join("stdin"), &book);
+    assert_stored(&folder.join("stdout"), &listing(&book));
+
+    let escaped: [&[u8]; 5] = [
+        b"\x00\x1F ~",
+        b"\x00\x1F ~\x7F",
+        b"A\\B",
+        b"\xC3\x87ay",
+        b"\xFF",
+    ];
+    let others = [
+        vec![],
+        b"\x03Mar\x06Marina".to_vec(),
+        book_of(64, &[]),
+        book_of(3, &escaped.map(<[u8]>::to_vec)),
+    ];
+    let today: Vec<u8> = others.iter().flat_map(|bytes| listing(bytes)).collect();
+    assert_stored(&program_folder("list_others").join("stdout"), &today);
 }

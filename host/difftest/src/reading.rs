@@ -1,0 +1,48 @@
+//! Random calls of `book_read`.
+
+use crate::books::any_book;
+use crate::lent::{any_room_length, hex, Lent};
+use crate::same_answer;
+use vectors::lists::Names;
+use vectors::random::Random;
+
+/// Makes one call of both programs: the code they agree on, or the whole case.
+pub fn run(random: &mut Random) -> Result<usize, String> {
+    let (book, names) = any_book(random);
+    let position = any_position(random, &names);
+    let length = names.get(position).map_or(20, Vec::len);
+    let room_length = any_room_length(random, length);
+    let lent = Lent::any(random, room_length);
+
+    let (mut expected, mut found) = (lent.clone(), lent.clone());
+    let expected_answer = model::book_read(&book, position, expected.room());
+    let found_answer = proved::book_read(&book, position, found.room());
+    if same_answer(expected_answer, found_answer) && expected == found {
+        return Ok(expected_answer.code);
+    }
+    Err([
+        format!("position {position}, room {room_length}"),
+        format!("book {}", hex(&book)),
+        format!("expected {expected_answer:?}"),
+        format!("found    {found_answer:?}"),
+        format!("room differs at {:?}", expected.first_difference(&found)),
+        format!("room before   {}", lent.shown()),
+        format!("room expected {}", expected.shown()),
+        format!("room found    {}", found.shown()),
+    ]
+    .join("\n"))
+}
+
+/// A position: mostly that of a name, now and then past the last.
+fn any_position(random: &mut Random, names: &Names) -> usize {
+    let past = [0, 1, 255, 65_535, 65_536, u64::from(u32::MAX)];
+    match random.below(24) {
+        0 => random.any() as usize,
+        1 => usize::MAX,
+        2 => names.len() + *random.one_of(&past) as usize,
+        3 => names.len(),
+        4 => names.len().saturating_sub(1),
+        _ if names.is_empty() => 0,
+        _ => random.below(names.len()),
+    }
+}

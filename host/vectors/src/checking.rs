@@ -1,0 +1,299 @@
+//! The set of `book_check`.
+//!
+//! # The file
+//!
+//! The cases stand one after the other, without gaps, and the file ends behind
+//! the last one. Numbers are low byte first.
+//!
+//! | Bytes | What |
+//! |---|---|
+//! | 4 | L, the length of the book |
+//! | L | the book |
+//!
+//! The file has fewer than 600,000 bytes.
+//!
+//! # What to do with a case
+//!
+//! Check. Then print one line of four numbers, with one space between and a
+//! newline behind: the number of the case, from 0; code, first and second of
+//! the answer.
+
+use crate::damage::{changed_bytes, cut_books, other_pieces, spoil_book, Spoilt};
+use crate::lists::{self, Names};
+use crate::pieces::Pieces;
+use crate::random::Random;
+use crate::rooms::printed_answer;
+use crate::{Case, Set};
+use model::{book_check, book_of};
+
+/// The set.
+pub const SET: Set = Set {
+    name: "check",
+    cases: boxed_cases,
+};
+
+/// A call of `book_check`.
+pub struct CheckCase {
+    purpose: String,
+    book: Vec<u8>,
+}
+
+impl Case for CheckCase {
+    fn purpose(&self) -> String {
+        format!("{}: book {}", self.purpose, self.book.len())
+    }
+
+    fn record(&self) -> Vec<u8> {
+        let length = (self.book.len() as u32).to_le_bytes();
+        [&length[..], &self.book].concat()
+    }
+
+    fn outcome(&self) -> String {
+        printed_answer(book_check(&self.book))
+    }
+}
+
+/// All cases, in the order of the file.
+pub fn cases() -> Vec<CheckCase> {
+    [
+        worked_example(),
+        no_names(),
+        lengths_of_names(),
+        shapes(),
+        block_sizes(),
+        numbers_of_names(),
+        longest_books(),
+        lists_that_are_none(),
+        bytes_around_a_book(),
+        no_books_at_all(),
+        spoilt_example(),
+        spoilt_tree(),
+        spoilt_at_the_end(),
+        spoilt_at_random(),
+    ]
+    .into_iter()
+    .flatten()
+    .collect()
+}
+
+fn boxed_cases() -> Vec<Box<dyn Case>> {
+    let cases = cases().into_iter();
+    cases.map(|case| Box::new(case) as Box<dyn Case>).collect()
+}
+
+/// A case with these bytes.
+fn of_bytes(purpose: impl Into<String>, book: impl Into<Vec<u8>>) -> CheckCase {
+    CheckCase {
+        purpose: purpose.into(),
+        book: book.into(),
+    }
+}
+
+/// A case with the layout of these names, whether a book allows them or not.
+fn of_names(purpose: &str, names: &Names, block: usize) -> CheckCase {
+    of_bytes(format!("{purpose}, k {block}"), book_of(block, names))
+}
+
+/// A case for each spoilt book.
+fn of_spoilt(purpose: &str, spoilt: Spoilt) -> Vec<CheckCase> {
+    let spoilt = spoilt.into_iter();
+    spoilt
+        .map(|(how, book)| of_bytes(format!("{purpose}, {how}"), book))
+        .collect()
+}
+
+/// The book of 85 bytes, the one of 80, and others of the same names.
+fn worked_example() -> Vec<CheckCase> {
+    let names = lists::example();
+    [2, 4, 1, 3, 16, 64]
+        .map(|block| of_names("worked example", &names, block))
+        .into()
+}
+
+/// Books of 16 bytes.
+fn no_names() -> Vec<CheckCase> {
+    let names = Names::new();
+    let mut cases: Vec<CheckCase> = [1, 2, 16, 64, 0, 65, 256, 258]
+        .map(|block| of_names("no names", &names, block))
+        .into();
+    let book = book_of(2, &names);
+    cases.extend(of_spoilt("no names", changed_bytes(&book)));
+    cases
+}
+
+/// Names of 1, 200 and 201 bytes, and none.
+fn lengths_of_names() -> Vec<CheckCase> {
+    let name = |length: usize| vec![b'n'; length];
+    vec![
+        of_names("one name of 1 byte", &vec![name(1)], 1),
+        of_names("one name of 1 byte", &vec![name(1)], 64),
+        of_names("one name of 200 bytes", &vec![name(200)], 2),
+        of_names("one name of 201 bytes", &vec![name(201)], 2),
+        of_names("one name of 255 bytes", &vec![name(255)], 2),
+        of_names("a second name of 200", &vec![name(199), name(200)], 2),
+        of_names("a second name of 201", &vec![name(200), name(201)], 2),
+        of_names("a second name of 201", &vec![name(200), name(201)], 1),
+        of_names("one name of no bytes", &vec![name(0)], 1),
+        of_names("a first name of no bytes", &vec![name(0), name(1)], 2),
+    ]
+}
+
+/// Sound books of many shapes, with block sizes from 1 to 64.
+fn shapes() -> Vec<CheckCase> {
+    let mut random = Random::from_seed(3);
+    let all = lists::all_bytes();
+    let chain = lists::chain(b'a', 200);
+    let longest_path = [chain.clone(), lists::texts(&["b"])].concat();
+    let grown = lists::grown(&mut random, &all, 90, 12);
+    let few = lists::random(&mut random, b"\0\x01\xFE\xFF", 120, 1, 6);
+    let ends = vec![vec![0; 199], vec![0; 200], vec![255; 199], vec![255; 200]];
+    vec![
+        of_names("short chain", &lists::chain(b'a', 11), 5),
+        of_names("short mirror", &lists::mirror(b'a', b'b', 11), 5),
+        of_names("deepest chain", &chain, 64),
+        of_names("chain with the longest path", &longest_path, 16),
+        of_names("deepest mirror", &lists::mirror(b'a', b'b', 200), 64),
+        of_names("all names of one byte", &lists::single_bytes(), 16),
+        of_names("257 children", &lists::fan(b"x"), 1),
+        of_names("bytes 0 and 255", &ends, 2),
+        of_names("grown names of all bytes", &grown, 16),
+        of_names("short names, few letters", &few, 7),
+        of_names("seventy stops", &lists::stops(), 1),
+        of_names("seventy stops", &lists::stops(), 16),
+        of_names("seventy stops", &lists::stops(), 64),
+    ]
+}
+
+/// Block sizes on both sides of 1 and 64, laid out as they say.
+fn block_sizes() -> Vec<CheckCase> {
+    let names = lists::chain(b'a', 70);
+    [0, 1, 63, 64, 65, 66, 128, 256, 257, 65_535]
+        .map(|block| of_names("block size", &names, block))
+        .into()
+}
+
+/// 2,000 names and one more.
+fn numbers_of_names() -> Vec<CheckCase> {
+    vec![
+        of_names("2,000 names", &lists::pairs(2000), 64),
+        of_names("2,001 names", &lists::pairs(2001), 64),
+    ]
+}
+
+/// Books of 65,535 and 65,536 bytes, and 65,536 bytes before a book.
+fn longest_books() -> Vec<CheckCase> {
+    let small = lists::binary(1860);
+    let fits = lists::with_book_length(&small, 1, 65_535);
+    let too_long = lists::with_book_length(&small, 1, 65_536);
+    let book = book_of(4, &lists::example());
+    let behind = [vec![0; 65_536], book].concat();
+    vec![
+        of_names("book of 65,535", &fits, 1),
+        of_names("book of 65,536", &too_long, 1),
+        of_bytes("65,536 bytes, then a book", behind),
+    ]
+}
+
+/// The layout of names that do not rise.
+fn lists_that_are_none() -> Vec<CheckCase> {
+    let wrong = [
+        ("equal names", lists::texts(&["Mar", "Mar"])),
+        (
+            "a name, then its beginning",
+            lists::texts(&["Marina", "Mar"]),
+        ),
+        ("falling names", lists::texts(&["b", "a"])),
+        ("falling in the midst", lists::texts(&["a", "c", "b", "d"])),
+        ("falling from 255 to 0", vec![vec![255], vec![0]]),
+        ("equal names of 200", vec![vec![b'n'; 200], vec![b'n'; 200]]),
+    ];
+    let calls = wrong.iter().flat_map(|list| [1, 2, 64].map(|k| (list, k)));
+    calls
+        .map(|((purpose, names), block)| of_names(purpose, names, block))
+        .collect()
+}
+
+/// Books cut short, and with bytes before or behind them.
+fn bytes_around_a_book() -> Vec<CheckCase> {
+    let book = book_of(2, &lists::example());
+    let mut cases = of_spoilt("cut", cut_books(&book));
+    cases.push(of_bytes("a byte behind", [&book[..], &[0]].concat()));
+    cases.push(of_bytes("a 1 behind", [&book[..], b"1"].concat()));
+    cases.push(of_bytes("a byte before", [&[0], &book[..]].concat()));
+    cases.push(of_bytes("twice", [&book[..], &book].concat()));
+    cases
+}
+
+/// Nothing, and runs of one byte.
+fn no_books_at_all() -> Vec<CheckCase> {
+    let mut cases = vec![of_bytes("empty input", [])];
+    for (byte, length) in [
+        (0, 1),
+        (0, 15),
+        (0, 16),
+        (0, 17),
+        (1, 16),
+        (255, 16),
+        (255, 300),
+    ] {
+        let purpose = format!("byte {byte} over and over");
+        cases.push(of_bytes(purpose, vec![byte; length]));
+    }
+    cases
+}
+
+/// The 85 and the 80 bytes: every byte changed, every piece spoilt.
+fn spoilt_example() -> Vec<CheckCase> {
+    let names = lists::example();
+    let mut cases = Vec::new();
+    for (block, purpose) in [(2, "85"), (4, "80")] {
+        let bytes = book_of(block, &names);
+        cases.extend(of_spoilt(purpose, changed_bytes(&bytes)));
+        let pieces = Pieces::of(block, &names);
+        cases.extend(of_spoilt(purpose, other_pieces(&pieces)));
+    }
+    cases
+}
+
+/// A small book with three blocks and inner nodes below the root: every piece
+/// spoilt.
+fn spoilt_tree() -> Vec<CheckCase> {
+    let names = lists::texts(&["a", "ab", "abba", "abbot", "b", "ba", "bad", "c"]);
+    let pieces = Pieces::of(3, &names);
+    of_spoilt("small tree", other_pieces(&pieces))
+}
+
+/// Larger books that are wrong in one of their last numbers.
+fn spoilt_at_the_end() -> Vec<CheckCase> {
+    let mut cases = Vec::new();
+    for (purpose, names) in [
+        ("deepest mirror", lists::mirror(b'a', b'b', 200)),
+        ("257 children", lists::fan(b"x")),
+    ] {
+        for field in 0..5 {
+            let mut pieces = Pieces::of(64, &names);
+            if let Some(node) = pieces.nodes.last_mut() {
+                node[field] += 1;
+            }
+            let purpose = format!("{purpose}, last node, number {field} one more");
+            cases.push(of_bytes(purpose, pieces.bytes()));
+        }
+    }
+    cases
+}
+
+/// Small random books, spoilt at random.
+fn spoilt_at_random() -> Vec<CheckCase> {
+    let mut random = Random::from_seed(4);
+    let all = lists::all_bytes();
+    let mut cases = Vec::new();
+    for turn in 0..150 {
+        let letters = if turn % 3 == 0 { &all } else { &b"abc"[..] };
+        let count = random.between(1, 12);
+        let names = lists::grown(&mut random, letters, count, 5);
+        let block = random.between(1, 6);
+        let book = spoil_book(&mut random, block, &names);
+        cases.push(of_bytes("spoilt at random", book));
+    }
+    cases
+}

@@ -1,0 +1,284 @@
+//! The set of `book_read`.
+//!
+//! # The file
+//!
+//! The cases stand one after the other, without gaps, and the file ends behind
+//! the last one. Numbers are low byte first.
+//!
+//! | Bytes | What |
+//! |---|---|
+//! | 4 | L, the length of the book; 0 for the book of the case before |
+//! | 8 | the position, any number of 64 bits |
+//! | 4 | R, the length of the room, at most 1,000 |
+//! | L | the book |
+//!
+//! Before the first case the book is empty. The file has fewer than 600,000
+//! bytes.
+//!
+//! # What to do with a case
+//!
+//! Take a room of R bytes and fill it: byte number i, from 0, gets i modulo
+//! 251. Read. Then print one line of eight numbers, with one space between and
+//! a newline behind:
+//!
+//! - the number of the case, from 0;
+//! - code, first and second of the answer;
+//! - the two numbers of the [checksum](mod@crate::checksum) of the name: of the
+//!   first `first` bytes of the room where the code is 0, of no bytes (1 and 0)
+//!   where it is not;
+//! - the two numbers of the checksum of the whole room, so that a byte that was
+//!   touched past the name, or in a refused call, shows.
+
+use crate::damage::{changed_bytes, gaps, other_counts, other_nodes, spoil_book};
+use crate::lists::{self, Names};
+use crate::pieces::Pieces;
+use crate::random::Random;
+use crate::rooms::{filled_room, printed_outcome};
+use crate::{Case, Set};
+use model::{book_of, book_read};
+use std::rc::Rc;
+
+/// The set.
+pub const SET: Set = Set {
+    name: "read",
+    cases: boxed_cases,
+};
+
+/// The longest room of a case.
+pub const LONGEST_ROOM: usize = 1000;
+
+/// A call of `book_read`.
+#[derive(Clone)]
+pub struct ReadCase {
+    purpose: String,
+    book: Rc<Vec<u8>>,
+    /// Whether the book is that of the case before.
+    again: bool,
+    position: u64,
+    room: usize,
+}
+
+impl Case for ReadCase {
+    fn purpose(&self) -> String {
+        let (book, position, room) = (self.book.len(), self.position, self.room);
+        format!(
+            "{}: book {book}, position {position}, room {room}",
+            self.purpose
+        )
+    }
+
+    fn record(&self) -> Vec<u8> {
+        let book = if self.again { &[][..] } else { &self.book };
+        let mut bytes = Vec::new();
+        bytes.extend((book.len() as u32).to_le_bytes());
+        bytes.extend(self.position.to_le_bytes());
+        bytes.extend((self.room as u32).to_le_bytes());
+        bytes.extend_from_slice(book);
+        bytes
+    }
+
+    fn outcome(&self) -> String {
+        // Where a word is smaller than 64 bits, a position that does not fit
+        // it is as wrong as the largest one that does.
+        let position = usize::try_from(self.position).unwrap_or(usize::MAX);
+        let mut room = filled_room(self.room);
+        let answer = book_read(&self.book, position, &mut room);
+        printed_outcome(answer, &room)
+    }
+}
+
+/// All cases, in the order of the file.
+pub fn cases() -> Vec<ReadCase> {
+    [
+        empty_input(),
+        worked_example(),
+        no_names(),
+        lengths_of_names(),
+        small_books(),
+        deep_and_wide_trees(),
+        numbers_of_names(),
+        longest_books(),
+        spoilt_books(),
+        random_books(),
+    ]
+    .into_iter()
+    .flatten()
+    .collect()
+}
+
+fn boxed_cases() -> Vec<Box<dyn Case>> {
+    let cases = cases().into_iter();
+    cases.map(|case| Box::new(case) as Box<dyn Case>).collect()
+}
+
+/// Reads from one run of bytes: a case for each position and room.
+fn of_bytes(purpose: &str, book: Vec<u8>, calls: &[(u64, usize)]) -> Vec<ReadCase> {
+    let book = Rc::new(book);
+    let calls = calls.iter().enumerate();
+    calls
+        .map(|(number, &(position, room))| ReadCase {
+            purpose: purpose.to_string(),
+            book: book.clone(),
+            again: number > 0 || book.is_empty(),
+            position,
+            room,
+        })
+        .collect()
+}
+
+/// Each position with a room that fits, one that is a byte short, a longer one
+/// and none.
+fn with_rooms(names: &Names, positions: impl IntoIterator<Item = usize>) -> Vec<(u64, usize)> {
+    let mut calls = Vec::new();
+    for position in positions {
+        let length = names[position].len();
+        let rooms = [length, length - 1, length + 9, 0];
+        calls.extend(rooms.map(|room| (position as u64, room)));
+    }
+    calls
+}
+
+/// Reads these positions of a book.
+fn at_positions(purpose: &str, names: &Names, block: usize, positions: &[usize]) -> Vec<ReadCase> {
+    let calls = with_rooms(names, positions.iter().copied());
+    of_bytes(purpose, book_of(block, names), &calls)
+}
+
+/// Reads every position of a book, then one past the last and the largest.
+fn all_positions(purpose: &str, names: &Names, block: usize) -> Vec<ReadCase> {
+    let mut calls = with_rooms(names, 0..names.len());
+    calls.extend([(names.len() as u64, 300), (u64::MAX, 300)]);
+    of_bytes(purpose, book_of(block, names), &calls)
+}
+
+/// No bytes: 2, before 3 and 4.
+fn empty_input() -> Vec<ReadCase> {
+    of_bytes("empty input", vec![], &[(0, 0), (0, 9), (u64::MAX, 0)])
+}
+
+/// The book of 85 bytes and the one of 80; positions whose low bytes alone
+/// would be fine; and 3 before 4.
+fn worked_example() -> Vec<ReadCase> {
+    let names = lists::example();
+    let mut cases = Vec::new();
+    for block in [2, 4] {
+        cases.extend(all_positions("worked example", &names, block));
+    }
+    let book = book_of(2, &names);
+    let high = [256, 65_536, 1 << 32, (1 << 32) + 2, 1 << 63].map(|position| (position, 30));
+    cases.extend(of_bytes("high positions", book.clone(), &high));
+    let no_room = [(3, 0), (4, 0), (u64::MAX, 0)];
+    cases.extend(of_bytes("3 before 4", book, &no_room));
+    cases
+}
+
+/// Books without names have no position.
+fn no_names() -> Vec<ReadCase> {
+    let blocks = [1, 64].into_iter();
+    blocks
+        .flat_map(|block| {
+            let calls = [(0, 0), (0, 9), (1, 9), (u64::MAX, 9)];
+            of_bytes("no names", book_of(block, &Names::new()), &calls)
+        })
+        .collect()
+}
+
+/// Names of 1 and of 200 bytes.
+fn lengths_of_names() -> Vec<ReadCase> {
+    let name = |length: usize| vec![b'n'; length];
+    [
+        all_positions("one name of 1 byte", &vec![name(1)], 1),
+        all_positions("one name of 200 bytes", &vec![name(200)], 64),
+        all_positions("both lengths", &vec![name(1), name(200)], 2),
+        all_positions("two of 200", &vec![vec![0; 200], vec![255; 200]], 1),
+    ]
+    .concat()
+}
+
+/// Every position of small books, with blocks of 1, some and all names.
+fn small_books() -> Vec<ReadCase> {
+    let tree = lists::texts(&["a", "ab", "abba", "abbot", "b", "ba", "bad", "c"]);
+    let mut cases = Vec::new();
+    for block in [1, 3, 8, 16] {
+        cases.extend(all_positions("small tree", &tree, block));
+    }
+    let chain = lists::chain(b'a', 12);
+    cases.extend(all_positions("short chain", &chain, 5));
+    let mirror = lists::mirror(b'a', b'b', 12);
+    cases.extend(all_positions("short mirror", &mirror, 5));
+    cases
+}
+
+/// Names that are put together from many entries before them.
+fn deep_and_wide_trees() -> Vec<ReadCase> {
+    let chain = lists::chain(b'a', 200);
+    let mirror = lists::mirror(b'a', b'b', 200);
+    let fan = lists::fan(b"x");
+    let stops = lists::stops();
+    [
+        at_positions("deepest chain", &chain, 64, &[0, 63, 64, 127, 198, 199]),
+        at_positions("deepest mirror", &mirror, 64, &[0, 63, 64, 127, 199]),
+        at_positions("257 children", &fan, 16, &[0, 1, 16, 255, 256]),
+        at_positions("seventy stops", &stops, 16, &[0, 15, 16, 17, 68, 69]),
+    ]
+    .concat()
+}
+
+/// 2,000 names and one more: 2, whatever the position.
+fn numbers_of_names() -> Vec<ReadCase> {
+    let full = lists::pairs(2000);
+    let past = [(2000, 9), (1999, 2), (65_536, 9)];
+    [
+        at_positions("2,000 names", &full, 64, &[0, 63, 64, 1023, 1999]),
+        of_bytes("past 2,000 names", book_of(64, &full), &past),
+        of_bytes("2,001 names", book_of(64, &lists::pairs(2001)), &[(0, 9)]),
+    ]
+    .concat()
+}
+
+/// A book of 65,535 bytes with long names.
+fn longest_books() -> Vec<ReadCase> {
+    let names = lists::with_book_length(&lists::pairs(320), 16, 65_535);
+    let last = names.len() - 1;
+    at_positions("book of 65,535", &names, 16, &[0, 15, 16, 17, last])
+}
+
+/// Bytes that are no book: 2, before 3 and 4.
+fn spoilt_books() -> Vec<ReadCase> {
+    let names = lists::example();
+    let pieces = Pieces::of(2, &names);
+    let bytes = book_of(2, &names);
+    let spoilt = [
+        changed_bytes(&bytes),
+        other_counts(&pieces),
+        other_nodes(&pieces),
+        gaps(&pieces),
+    ];
+    let mut cases = Vec::new();
+    for (number, (how, book)) in spoilt.into_iter().flatten().enumerate() {
+        let calls = [(1, 20), (0, 3), (3, 20), (2, 0)];
+        let call = calls[number % calls.len()];
+        cases.extend(of_bytes(&how, book, &[call]));
+    }
+    cases
+}
+
+/// Random books, some of them spoilt, at random positions.
+fn random_books() -> Vec<ReadCase> {
+    let mut random = Random::from_seed(5);
+    let all = lists::all_bytes();
+    let mut cases = Vec::new();
+    for turn in 0..40 {
+        let letters = if turn % 3 == 0 { &all } else { &b"abc"[..] };
+        let names = lists::grown(&mut random, letters, 12, 9);
+        let block = random.between(1, 6);
+        if turn % 4 == 0 {
+            let book = spoil_book(&mut random, block, &names);
+            cases.extend(of_bytes("spoilt at random", book, &[(0, 90), (3, 90)]));
+        } else {
+            let positions = [0; 3].map(|_| random.below(names.len()));
+            cases.extend(at_positions("random", &names, block, &positions));
+        }
+    }
+    cases
+}

@@ -1,0 +1,119 @@
+//! The set of `book_read`: its file read back by a reader of its own, and what
+//! must be among its cases.
+
+use std::collections::BTreeMap;
+use vectors::checksum::checksum;
+use vectors::reading::{self, LONGEST_ROOM};
+use vectors::Case;
+
+/// A case as it stands in the file.
+struct Read<'file> {
+    book: &'file [u8],
+    position: u64,
+    room: usize,
+}
+
+/// Reads the file as its description says, and asserts that it ends with a
+/// case.
+fn read_file(mut file: &[u8]) -> Vec<Read<'_>> {
+    let mut cases = Vec::new();
+    let mut book: &[u8] = &[];
+    while !file.is_empty() {
+        let length = u32::from_le_bytes(file[..4].try_into().unwrap()) as usize;
+        let position = u64::from_le_bytes(file[4..12].try_into().unwrap());
+        let room = u32::from_le_bytes(file[12..16].try_into().unwrap()) as usize;
+        let end = 16 + length;
+        if length > 0 {
+            book = &file[16..end];
+        }
+        cases.push(Read {
+            book,
+            position,
+            room,
+        });
+        file = &file[end..];
+    }
+    cases
+}
+
+/// The line that a program prints for this case.
+fn line(number: usize, case: &Read) -> String {
+    let mut room: Vec<u8> = (0..case.room).map(|at| (at % 251) as u8).collect();
+    let answer = model::book_read(case.book, case.position as usize, &mut room);
+    let (mut a, mut b) = (1, 0);
+    if answer.code == 0 {
+        (a, b) = checksum(&room[..answer.first]);
+    }
+    let (whole_a, whole_b) = checksum(&room);
+    let (code, first, second) = (answer.code, answer.first, answer.second);
+    format!("{number} {code} {first} {second} {a} {b} {whole_a} {whole_b}\n")
+}
+
+/// The three numbers of a case's answer.
+fn answer(case: &impl Case) -> [usize; 3] {
+    let outcome = case.outcome();
+    let mut numbers = outcome.split(' ').map(|word| word.parse().unwrap());
+    std::array::from_fn(|_| numbers.next().unwrap())
+}
+
+#[test]
+fn a_program_that_follows_the_description_prints_the_text() {
+    let file = reading::SET.case_file();
+    let cases = read_file(&file);
+    let lines = cases.iter().enumerate();
+    let text: String = lines.map(|(number, case)| line(number, case)).collect();
+    assert_eq!(text, reading::SET.expected());
+}
+
+#[test]
+fn the_file_and_the_rooms_are_small_enough() {
+    let file = reading::SET.case_file();
+    assert!(file.len() < 600_000, "{}", file.len());
+    let cases = read_file(&file);
+    assert!(cases.len() <= 1200, "{}", cases.len());
+    assert!(cases.iter().all(|case| case.room <= LONGEST_ROOM));
+}
+
+#[test]
+fn every_refusal_of_a_reading_is_among_the_cases() {
+    let mut counts = BTreeMap::new();
+    for case in reading::cases() {
+        *counts.entry(answer(&case)[0]).or_insert(0) += 1;
+    }
+    let codes: Vec<usize> = counts.keys().copied().collect();
+    assert_eq!(codes, [0, 2, 3, 4], "{counts:?}");
+}
+
+#[test]
+fn the_edges_of_document_01_are_among_the_cases() {
+    let cases = reading::cases();
+    for (purpose, expected) in [
+        ("empty input: book 0, position 0, room 0", [2, 0, 0]),
+        ("worked example: book 85, position 2, room 13", [0, 13, 0]),
+        ("worked example: book 85, position 2, room 12", [4, 0, 0]),
+        ("worked example: book 85, position 3, room 300", [3, 0, 0]),
+        ("worked example: book 80, position 1, room 15", [0, 6, 0]),
+        ("3 before 4: book 85, position 3, room 0", [3, 0, 0]),
+        ("no names: book 16, position 0, room 9", [3, 0, 0]),
+        (
+            "one name of 200 bytes: book 230, position 0, room 200",
+            [0, 200, 0],
+        ),
+        (
+            "one name of 200 bytes: book 230, position 0, room 199",
+            [4, 0, 0],
+        ),
+        ("2,000 names: book 26209, position 1999, room 2", [0, 2, 0]),
+        (
+            "past 2,000 names: book 26209, position 2000, room 9",
+            [3, 0, 0],
+        ),
+        ("book of 65,535: book 65535, position 0, ", [0, 194, 0]),
+    ] {
+        let found = cases
+            .iter()
+            .find(|case| case.purpose().starts_with(purpose));
+        let found = found.unwrap_or_else(|| panic!("no case for {purpose}"));
+        assert_eq!(answer(found), expected, "{purpose}");
+    }
+}
