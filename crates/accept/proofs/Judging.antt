@@ -14,10 +14,10 @@ use lib.ListN.{getD, length, replicate}
 use Rattle.words.specs.Words.{Bytes, InBytes, plain}
 use Rattle.words.proofs.Words.{false≠true}
 use Rattle.format.specs.Book.{Book, NoBook, Opened, opened, trailerSize}
-use Rattle.streams.specs.Runs.{Has}
+use Rattle.streams.specs.Runs.{Frame, Has}
 use Rattle.streams.specs.Streams.{namesOf}
 use Rattle.streams.proofs.Walks.{has-known, has-names, has-steps}
-use Rattle.entries.specs.Judging.{WalkAsk, WalkSays}
+use Rattle.entries.specs.Judging.{WalkSays}
 use Rattle.inspect.specs.Check.{TableAsk, isTable}
 use Rattle.accept.specs.Parts.{Parts, Trail, TrailSays, checkedOf, told, toldNames}
 use Rattle.accept.proofs.Opens.{has-at, opened-parts, parts-opened}
@@ -56,7 +56,7 @@ module _ (b : Bytes) (n k s u : ℕ) (a : Asked b n k s u) where
   abbrev inside : s ≤ length b
   inside = omega (arith, a .trail .total, a .trail .order, a .table, a .nodes)
 
-  pub walk-ask : WalkAsk b k s u
+  pub walk-ask : Frame b k s u
   walk-ask = record {
     one = omega (arith, a .trail .low, a .block);
     small = a .trail .short;

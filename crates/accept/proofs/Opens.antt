@@ -15,10 +15,10 @@ use Rattle.format.specs.Nodes.{Node, table}
 use Rattle.format.proofs.Book.{Fits, blocksAt, book-length, book-opened, fits-parts, nodes-length, nodesAt, opened-book, parts-fits, read-field, records, trailerAt, trailerNumbers}
 use Rattle.format.proofs.Book as layout
 use Rattle.format.proofs.Records.{sound-few, sound-rising}
+use Rattle.format.proofs.Numbers.{high-byte, low-byte}
 use Rattle.streams.specs.Runs.{Has}
 use Rattle.streams.specs.Streams.{namesOf, wordsOf}
 use Rattle.streams.proofs.Fronts.{two}
-use Rattle.streams.proofs.Blocks.{high-byte, low-byte}
 use Rattle.streams.proofs.Walks.{ends-at, has-length, has-names, has-sound}
 use Rattle.inspect.specs.Check.{isTable}
 use Rattle.accept.specs.Parts.{Parts, Trail, told, toldNames}

@@ -16,26 +16,26 @@ use Rattle.words.specs.Words.{Bytes, InBytes, shared}
 use Rattle.words.proofs.Words.{false≠true, shared-le}
 use Rattle.format.specs.Book.{number}
 use Rattle.streams.specs.Streams.{nameAt}
-use Rattle.streams.specs.Runs.{endOf}
+use Rattle.streams.specs.Runs.{Frame, endOf}
 use Rattle.streams.proofs.Walks.{Walked, walked-bad, walked-done, walked-more, walked-past, walked-place, walked-room, walked-short, walked-start, walked-table, walked-told}
-use Rattle.entries.specs.Judging.{Above, Blank, NextSays, WalkAsk, WalkSays}
+use Rattle.entries.specs.Judging.{Above, Blank, NextSays, WalkSays}
 
 pub record Walking (b : Bytes) (k s u n t o : ℕ) (name : Bytes) (len i : ℕ) (steps₀ steps : Bytes) : Type 0 where
   pub size : length name ≡ 200
   pub room : len ≤ 200
   pub kept : length steps ≡ length steps₀
-  pub ask : WalkAsk b k s u
+  pub ask : Frame b k s u
   pub row : n ≤ length steps
   pub entries-in : o ≤ s
   pub table-in : t ≤ u
   pub walked : Walked b k s u n t o (take len name) i (n - i) steps
 
 module _ (b : Bytes) (k s u n : ℕ) (steps₀ : Bytes) where
-  pub walking-start : (name : Bytes) → length name ≡ 200 → WalkAsk b k s u → InBytes b → n ≤ length steps₀ → Blank steps₀
+  pub walking-start : (name : Bytes) → length name ≡ 200 → Frame b k s u → InBytes b → n ≤ length steps₀ → Blank steps₀
       → Walking b k s u n s 0 name 0 0 steps₀ steps₀
   walking-start name z a bytes row blank =
       let e : n ≡ n - 0 = omega arith in
-      let w = walked-start b k s u n steps₀ (record { one = a .one; small = a .small; order = a .order; room = a .room }) bytes row blank in
+      let w = walked-start b k s u n steps₀ a bytes row blank in
       record {
         size = z;
         room = omega arith;

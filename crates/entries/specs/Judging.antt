@@ -5,7 +5,7 @@
 --     BlockSays         whether the entries of a block stand, and then its last name
 --     NextSays          the same, and its first name is above the name before; then also how many symbols it shares with that one
 --     WalkSays          whether the entries and the block table stand, and then the row of steps
---     WalkAsk, Blank    what the walk asks of the trailer's numbers, and of the row of steps
+--     Blank             what the walk asks of the row of steps
 --     ReadAsk, NameIs   reading a name back: names stand there; the one that is asked for
 -- The laws are in proofs/Reading.antt and proofs/Walking.antt. Assumes nothing: these are definitions.
 use Prim.Native.Nat.{ℕ, _+_, _<_, _≤_}
@@ -14,7 +14,6 @@ use mathlib.Core.Bool.{Bool, true, false}
 use mathlib.Core.List.{List, []}
 use lib.ListN.{getD, length, take}
 use Rattle.words.specs.Words.{Bytes, less, plain, shared, word}
-use Rattle.format.specs.Book.{longestBook}
 use Rattle.format.specs.Records.{longest}
 use Rattle.streams.specs.Streams.{Stream, entryEnd, nameAt}
 use Rattle.streams.specs.Runs.{Has, Rest, RunTo, Step, Told}
@@ -45,13 +44,6 @@ NextSays b o e m prev false name len shares = (l : Bytes) → RunTo b e o [] m l
 abbrev pub WalkSays : Bytes → ℕ → ℕ → ℕ → ℕ → Bool → Bytes → Type 0
 WalkSays b k s u n true steps = Has b k s u n s 0 [] × ((xs : List Bytes) → length xs ≡ n → Rest b k s u s 0 [] xs → Told b steps xs n)
 WalkSays b k s u n false steps = Has b k s u n s 0 [] → ⊥
-
--- the trailer's numbers lie within the bytes
-pub record WalkAsk (b : Bytes) (k s u : ℕ) : Type 0 where
-  pub one : 1 ≤ k
-  pub small : length b ≤ longestBook
-  pub order : s ≤ u
-  pub room : u + 2 ≤ length b
 
 -- nothing is told yet
 abbrev pub Blank : Bytes → Type 0

@@ -6,8 +6,8 @@ ghost use lib.ListN.{drop, length, take};
 ghost use lib.Seq.{paste};
 ghost use Rattle.words.specs.Words.{less, plain, shared, word};
 ghost use Rattle.streams.specs.Streams.{EntryAt};
-ghost use Rattle.streams.specs.Runs.{endOf};
-ghost use Rattle.entries.specs.Judging.{Blank, BlockSays, EntrySays, NameIs, NameRead, NextSays, ReadAsk, WalkAsk, WalkSays};
+ghost use Rattle.streams.specs.Runs.{Frame, endOf};
+ghost use Rattle.entries.specs.Judging.{Blank, BlockSays, EntrySays, NameIs, NameRead, NextSays, ReadAsk, WalkSays};
 
 // Where an entry stands.
 pub struct Cursor {
@@ -217,7 +217,7 @@ fn next_block(book: &[u8], start: usize, end: usize, m: usize, prev: &[u8]) -> J
 // Whether the bytes before s are the entries of some sound list of n names in blocks of k, and those from s to u their offsets. Then
 // the row of steps has at each block's first name how many symbols that one shares with the name before it, and 0 at every other.
 pub fn check_entries(book: &[u8], n: usize, k: usize, s: usize, u: usize, steps: &mut [u8]) -> bool
-    requires { ⌜ WalkAsk (now book) k s u × (n ≤ length (now steps)) × Blank (now steps) ⌝ }
+    requires { ⌜ Frame (now book) k s u × (n ≤ length (now steps)) × Blank (now steps) ⌝ }
     ensures { λ r. ⌜ (length (now (steps .exit)) ≡ length (now (steps .entry))) × WalkSays (now (book .entry)) k s u n r (now (steps .exit)) ⌝ }
 {
     let mut at: usize = 0;

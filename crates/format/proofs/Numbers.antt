@@ -1,5 +1,6 @@
 -- Numbers of two bytes, low byte first, and lists of bytes.
 --     two-bytes                  a number below 65,536 is told by its two bytes
+--     low-byte, high-byte        the two bytes that tell a number
 --     numbers-length, numbers-append, numbers-at
 --     number-past                what stands after other bytes
 --     all-bytes, bytes-all       InBytes, by every element
@@ -18,6 +19,12 @@ use Rattle.format.specs.Book.{number, numbers}
 
 pub two-bytes : (n : ℕ) → n < 65536 → n % 256 + 256 * (n / 256 % 256) ≡ n
 two-bytes n h = omega arith
+
+pub low-byte : (a c n : ℕ) → a < 256 → a + 256 * c ≡ n → a ≡ n % 256
+low-byte a c n h e = omega arith
+
+pub high-byte : (a c n : ℕ) → a < 256 → c < 256 → a + 256 * c ≡ n → c ≡ n / 256 % 256
+high-byte a c n h g e = omega arith
 
 pub numbers-length : (ns : List ℕ) → length (numbers ns) ≡ 2 * length ns
 unfolding numbers

@@ -5,7 +5,6 @@
 --     here-next, first-low                      the next name's entry; the first one stores 0
 -- Assumes nothing.
 use Prim.Native.Nat.{ℕ, zero, suc, _+_, _-_, _≤_, _<_}
-use native.Mathlib.Nat.{not-suc-le-zero, le-of-suc-le-suc}
 use native.Mathlib.Omega.{arith}
 use mathlib.Core.Path.{_≡_, refl, sym, ap, ap₂, _∙_, subst}
 use mathlib.Core.List.{List, [], _∷_, _++_}
@@ -13,7 +12,7 @@ use lib.ListN.{length, getD, take, drop, length-append, length-take, length-drop
 use lib.Seq.{drop-cons, getD-take, getD-drop}
 use Rattle.words.specs.Words.{Bytes, at, nth, plain, word}
 use Rattle.words.proofs.Rising.{nth-word}
-use Rattle.words.proofs.Words.{at-past}
+use Rattle.words.proofs.Words.{at-past, word-at}
 use Rattle.streams.specs.Streams.{EntryAt, Known, Stream, entry, entryEnd, nameAt, namesOf, place, placeFrom, prevOf, wordsOf}
 use Rattle.streams.proofs.Places.{place-next, stream-at}
 use Rattle.inspect.specs.Check.{Here, restAt}
@@ -28,11 +27,6 @@ pub words-nth : (b : Bytes) (i : ℕ) → nth (wordsOf b) i ≡ word plain (getD
 unfolding wordsOf
 words-nth b i = nth-word plain (namesOf b) i
 
-byte-at : (x : Bytes) (i : ℕ) → i < length x → at (word plain x) i ≡ plain (getD x i 0)
-byte-at [] i h = absurd (not-suc-le-zero h)
-byte-at (a ∷ x) zero h = refl
-byte-at (a ∷ x) (suc i) h = byte-at x i (le-of-suc-le-suc h)
-
 past : (p r : Bytes) (j : ℕ) → at (word plain (p ++ r)) (length p + j) ≡ at (word plain r) j
 past [] r j = let z : 0 + j ≡ j = omega arith in ap (at (word plain r)) z
 past (x ∷ p) r j = let z : length (x ∷ p) + j ≡ suc (length p + j) = omega arith in ap (at (word plain (x ∷ p ++ r))) z ∙ past p r j
@@ -43,7 +37,7 @@ module _ (b : Bytes) (a c l d : ℕ) (ce : c ≡ getD b a 0) (le : l ≡ getD b 
   pub symbol-in : (r : ℕ) → entryEnd b a ≤ length b → d - c < l → r ≡ plain (getD b (a + 2 + (d - c)) 0) → r ≡ at (word plain (restAt b a)) (d - getD b a 0)
   symbol-in r f h e =
       e ∙ ap suc (sym (getD-drop (a + 2) b (d - c) 0) ∙ sym (getD-take (getD b (a + 1) 0) (drop (a + 2) b) (d - c) 0 (omega arith)))
-      ∙ sym (byte-at (restAt b a) (d - c) (rw (length-take, length-drop) (omega arith)))
+      ∙ sym (word-at plain (restAt b a) (d - c) (rw (length-take, length-drop) (omega arith)))
       ∙ ap (λ (x : ℕ). at (word plain (restAt b a)) (d - x)) ce
 
   pub symbol-none : l ≤ d - c → 0 ≡ at (word plain (restAt b a)) (d - getD b a 0)

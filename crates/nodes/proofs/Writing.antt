@@ -13,7 +13,7 @@ use lib.ListN.{length, getD, set, take, drop, length-append, length-drop, length
 use lib.Seq.{drop-at, drop-drop, length-take-le, getD-take, getD-drop, getD-set-other, drop-length}
 use Rattle.words.specs.Words.{Bytes, at, nth, plain, shared, word}
 use Rattle.words.proofs.Rising.{nth-less}
-use Rattle.words.proofs.Words.{at-past, less-short, plain-injective, shared-word}
+use Rattle.words.proofs.Words.{at-past, less-short, plain-injective, shared-word, word-at}
 use Rattle.format.specs.Book.{allFields, fields, nodePart, nodeSize, numbers}
 use Rattle.format.specs.Nodes.{Node, leaf, table}
 use Rattle.format.proofs.Groups.{table-empty}
@@ -76,11 +76,6 @@ module _ (room : Bytes) (places w s d f n m : ℕ) where
 
 -- ---- symbols
 
-word-at : (x : Bytes) (d : ℕ) → d < length x → at (word plain x) d ≡ suc (getD x d 0)
-word-at [] d h = absurd (not-suc-le-zero h)
-word-at (b ∷ x) zero h = refl
-word-at (b ∷ x) (suc d) h = word-at x d (le-of-suc-le-suc h)
-
 pub symbol-past : (s : Bytes) (o len p : ℕ) → len < p → o + 1 + len ≤ length s → 0 ≡ symbolOf p (word plain (take len (drop (o + 1) s)))
 symbol-past s o len zero h l = refl
 symbol-past s o len (suc p) h l =
@@ -92,7 +87,7 @@ symbol-here s o len zero z h l = absurd (z refl)
 symbol-here s o len (suc p) z h l =
     let k : o + 1 + p ≡ o + suc p = omega arith in
     add-one (getD s (o + suc p) 0)
-    ∙ sym (word-at (take len (drop (o + 1) s)) p (omega (arith, part-length s (o + 1) len l))
+    ∙ sym (word-at plain (take len (drop (o + 1) s)) p (omega (arith, part-length s (o + 1) len l))
     ∙ ap suc (getD-take len (drop (o + 1) s) p 0 h ∙ getD-drop (o + 1) s p 0 ∙ ap (λ (i : ℕ). getD s i 0) k))
 
 -- ---- a name, and the nodes that begin with it

@@ -1,6 +1,5 @@
 -- Laws of the reading of a list, one for each way that the code goes.
 --     part                       so many bytes of a list, from one place on
---     word-at                    a byte's symbol
 --     AboveAt                    a name is above another, with which it shares so many bytes
 --     ReadUpTo                   so many names are read, and noted: reading-start
 --     StandsAt, Next             the next record begins here, with this length
@@ -22,7 +21,7 @@ use lib.ListN.{length, length-map, getD, set, take, drop, length-append, length-
 use lib.Seq.{drop-cons, drop-drop, getD-at, getD-take, getD-drop, getD-set-same, getD-set-other}
 use borrow.Author.Tests.{lt-ltb, le-ltb, le-leb, lt-leb}
 use Rattle.words.specs.Words.{Bytes, Rule, at, both, less, pick, plain, shared, word}
-use Rattle.words.proofs.Words.{at-past, less-by, part-at, plain-injective, shared-comm, shared-le, shared-more, shared-word}
+use Rattle.words.proofs.Words.{at-past, less-by, part-at, plain-injective, shared-comm, shared-le, shared-more, shared-word, word-at}
 use Rattle.format.specs.Records.{Names, Reading, Refused, after, goodLength, mostNames, readFrom, readList}
 use Rattle.format.proofs.Records.{read-skip}
 use Rattle.records.specs.declared.Verdict.the-variants.{Good, Bad}
@@ -32,11 +31,6 @@ use Rattle.records.specs.Lists.{Judged, Noted, names, namesIn}
 
 abbrev pub part : Bytes → ℕ → ℕ → Bytes
 part s from size = take size (drop from s)
-
-pub word-at : (ρ : Rule) (x : Bytes) (d : ℕ) → d < length x → at (word ρ x) d ≡ ρ (getD x d 0)
-word-at ρ [] d h = absurd (not-suc-le-zero h)
-word-at ρ (b ∷ x) zero h = refl
-word-at ρ (b ∷ x) (suc d) h = word-at ρ x d (le-of-suc-le-suc h)
 
 -- b is above a, with which it shares d bytes
 pub record AboveAt (a b : Bytes) (d : ℕ) : Type 0 where

@@ -12,7 +12,7 @@ use Rattle.words.specs.Words.{All, Bytes, InBytes, cons}
 use Rattle.format.specs.Book.{allFields, nodePart, number, numbers}
 use Rattle.format.specs.Nodes.{Node}
 use Rattle.format.proofs.Book.{nodes-length}
-use Rattle.format.proofs.Numbers.{two-bytes}
+use Rattle.format.proofs.Numbers.{high-byte, low-byte, two-bytes}
 use Rattle.standing.specs.Stands.{Stands}
 use Rattle.standing.proofs.Records.{stands-end, stands-fits}
 
@@ -48,11 +48,11 @@ module _ (b : Bytes) (bytes : InBytes b) where
   -- a number's two bytes
   low : (o v : ℕ) → number b o ≡ v → getD b o 0 ≡ v % 256
   unfolding number
-  low o v e = omega (arith, bytes o, bytes (o + 1))
+  low o v e = low-byte (getD b o 0) (getD b (o + 1) 0) v (bytes o) e
 
   high : (o p v : ℕ) → p ≡ o + 1 → number b o ≡ v → getD b p 0 ≡ v / 256 % 256
   unfolding number
-  high o p v q e = ap (λ (x : ℕ). getD b x 0) q ∙ omega (arith, bytes o, bytes (o + 1))
+  high o p v q e = ap (λ (x : ℕ). getD b x 0) q ∙ high-byte (getD b o 0) (getD b (o + 1) 0) v (bytes o) (bytes (o + 1)) e
 
   told : (o p v : ℕ) → p ≡ o + 1 → v < 65536 → getD b o 0 ≡ v % 256 → getD b p 0 ≡ v / 256 % 256 → number b o ≡ v
   unfolding number

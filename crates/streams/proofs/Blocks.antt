@@ -1,6 +1,5 @@
 -- Blocks joined are the entry part, and their offsets the block table.
 --     rising-after, -alone, -left, -right, -join    rising names in two parts
---     low-byte, high-byte    the two bytes of a number
 --     FirstBlock, rest-first what stands from o on is a block, and then the rest
 --     rest-join              a block, and then the rest
 --     rest-none, none-rest   where no names are left, both parts end
@@ -20,6 +19,7 @@ use Rattle.format.specs.Book.{entryPart, joined, longestBook, number, numbers}
 use Rattle.format.specs.Entries.{blocks, blocksFrom, front, offsets}
 use Rattle.format.specs.Records.{rising}
 use Rattle.format.proofs.Entries.{blocks-first, entries-first}
+use Rattle.format.proofs.Numbers.{high-byte, low-byte}
 use Rattle.streams.specs.Runs.{Rest, Run, lastOf}
 use Rattle.streams.proofs.Fronts.{Headed, both-are, front-run, headed, is-good, run-front, two}
 
@@ -71,12 +71,6 @@ places-first o k x xs h = ap (λ (bs : List (List Bytes)). offsets o (map (front
 numbers-cons : (n : ℕ) (ns : List ℕ) (t : Bytes) → numbers (n ∷ ns) ++ t ≡ n % 256 ∷ n / 256 % 256 ∷ (numbers ns ++ t)
 unfolding numbers
 numbers-cons n ns t = refl
-
-pub low-byte : (a c n : ℕ) → a < 256 → a + 256 * c ≡ n → a ≡ n % 256
-low-byte a c n h e = omega arith
-
-pub high-byte : (a c n : ℕ) → a < 256 → c < 256 → a + 256 * c ≡ n → c ≡ n / 256 % 256
-high-byte a c n h g e = omega arith
 
 pub record FirstBlock (b : Bytes) (k s u t o : ℕ) (prev x : Bytes) (xs : List Bytes) (e : ℕ) : Type 0 where
   pub room : t + 2 ≤ u

@@ -2,7 +2,7 @@
 --     step-is, not-above         one entry, from what was read of it
 --     run-first, -more, -none, none-run    the names of a run, one by one
 --     Blocked, blocked-..        what a whole block asks, the rest of it asks, and the other way round
---     plain-at, below-..         the order of two names, from how many symbols they share
+--     below-..                   the order of two names, from how many symbols they share
 --     first-name, block-fits     the first name of a block
 --     end-last, end-next         where a block ends
 --     HasFirst, has-first, has-join    names in blocks are a block, and then names in blocks; the other way round
@@ -22,11 +22,11 @@ use lib.ListN.{length, getD, take, drop, set, length-take, length-drop, length-a
 use lib.Seq.{take-at, drop-at, take-nil, take-all, drop-drop, getD-drop, length-take-le}
 use borrow.Author.Tests.{le-leb, lt-leb, lt-ltb, le-ltb}
 use Rattle.words.specs.Words.{Bytes, InBytes, at, less, plain, shared, word}
-use Rattle.words.proofs.Words.{at-past, less-by}
+use Rattle.words.proofs.Words.{at-past, less-by, word-at}
 use Rattle.format.specs.Book.{entryPart, longestBook, number, trailerSize}
 use Rattle.format.specs.Entries.{front}
 use Rattle.format.specs.Records.{longest, mostNames, sound}
-use Rattle.streams.specs.Runs.{Has, Rest, Run, RunTo, Step, Told, done, endOf, lastOf, more}
+use Rattle.streams.specs.Runs.{Frame, Has, Rest, Run, RunTo, Step, Told, done, endOf, lastOf, more}
 use Rattle.streams.specs.Streams.{EntryAt, Known, Steps, entryEnd, nameAt, namesOf, place, placeFrom, prevOf}
 use Rattle.streams.proofs.Blocks.{FirstBlock, none-rest, rest-first, rest-join, rest-none}
 use Rattle.streams.proofs.Fronts.{both-are, run-unique}
@@ -137,11 +137,6 @@ end-next b k s t left h = rw (lt-leb left k h) refl
 
 -- ---- the order of two names
 
-pub plain-at : (x : Bytes) (i : ℕ) → i < length x → at (word plain x) i ≡ suc (getD x i 0)
-plain-at [] i h = absurd (not-suc-le-zero h)
-plain-at (a ∷ x) zero h = refl
-plain-at (a ∷ x) (suc i) h = plain-at x i (le-of-suc-le-suc h)
-
 past : (x : Bytes) (i : ℕ) → length x ≤ i → at (word plain x) i ≡ 0
 past x i h = at-past (word plain x) i (omega (arith, length-map x plain))
 
@@ -153,13 +148,13 @@ module _ (a c : Bytes) (i : ℕ) (e : i ≡ shared (word plain a) (word plain c)
   below-no h = sym (by ∙ le-ltb (at (word plain a) i) (at (word plain c) i) (omega (arith, past c i h)))
 
   pub below-end : i < length c → length a ≤ i → true ≡ less (word plain a) (word plain c)
-  below-end h g = sym (by ∙ lt-ltb (at (word plain a) i) (at (word plain c) i) (omega (arith, past a i g, plain-at c i h)))
+  below-end h g = sym (by ∙ lt-ltb (at (word plain a) i) (at (word plain c) i) (omega (arith, past a i g, word-at plain c i h)))
 
   pub below-not : i < length c → i < length a → getD c i 0 ≤ getD a i 0 → false ≡ less (word plain a) (word plain c)
-  below-not h g l = sym (by ∙ le-ltb (at (word plain a) i) (at (word plain c) i) (omega (arith, plain-at a i g, plain-at c i h)))
+  below-not h g l = sym (by ∙ le-ltb (at (word plain a) i) (at (word plain c) i) (omega (arith, word-at plain a i g, word-at plain c i h)))
 
   pub below-is : i < length c → i < length a → getD a i 0 < getD c i 0 → true ≡ less (word plain a) (word plain c)
-  below-is h g l = sym (by ∙ lt-ltb (at (word plain a) i) (at (word plain c) i) (omega (arith, plain-at a i g, plain-at c i h)))
+  below-is h g l = sym (by ∙ lt-ltb (at (word plain a) i) (at (word plain c) i) (omega (arith, word-at plain a i g, word-at plain c i h)))
 
 -- ---- a block and the name before it
 
@@ -172,13 +167,6 @@ first-name b o n e =
     ap₂ (λ (u v : Bytes). u ++ v) (take-nil (getD b o 0)) (ap (λ (x : ℕ). take x (drop (o + 2) b)) z)
 
 -- ---- names in blocks
-
--- the trailer's numbers lie within the bytes
-pub record Frame (b : Bytes) (k s u : ℕ) : Type 0 where
-  pub one : 1 ≤ k
-  pub small : length b ≤ longestBook
-  pub order : s ≤ u
-  pub room : u + 2 ≤ length b
 
 pub record HasFirst (b : Bytes) (k s u left t o : ℕ) (prev : Bytes) : Type 0 where
   pub room : t + 2 ≤ u
@@ -457,9 +445,6 @@ module _ (b : Bytes) (k s u n : ℕ) where
     walked-told h xs l r =
         let z : i ≡ n = omega (arith, w .counted) in
         subst (Told b steps xs) z (w .seen xs l r .told)
-
-pub left-less : (left m : ℕ) → 0 < left → 0 < m → left - m < left
-left-less left m h g = omega arith
 
 -- ---- lengths out of an equation of bytes
 

@@ -2,6 +2,7 @@
 --     Step              an entry stands at an offset, ends by e, and passes the tests after the name prev
 --     Run, RunTo        from o to e stand the entries of names after prev; of m names, the last of them l
 --     Rest, Has         from o to s stand the entries of names in blocks of k, from t to u the blocks' offsets; of m names
+--     Frame             what is asked of the trailer's numbers k, s and u
 --     Told              a row of steps is right for the first i of the names, and 0 from there on
 -- The laws are in proofs/Fronts.antt, proofs/Blocks.antt and proofs/Walks.antt. Assumes nothing: these are definitions.
 use Prim.Native.Nat.{ℕ, _+_, _<_, _≤_}
@@ -11,7 +12,7 @@ use mathlib.Core.List.{List, [], _++_, _∷_}
 use lib.Dec.{leb}
 use lib.ListN.{drop, getD, length}
 use Rattle.words.specs.Words.{Bytes, pick, plain, shared}
-use Rattle.format.specs.Book.{entryPart, number, numbers}
+use Rattle.format.specs.Book.{entryPart, longestBook, number, numbers}
 use Rattle.format.specs.Entries.{blocks, offsets}
 use Rattle.format.specs.Records.{longest, rising}
 use Rattle.streams.specs.Streams.{entryEnd, nameAt, place, prevOf}
@@ -50,6 +51,13 @@ pub record Has (b : Bytes) (k s u m t o : ℕ) (prev : Bytes) : Type 0 where
   pub names : List Bytes
   pub count : length names ≡ m
   pub rest : Rest b k s u t o prev names
+
+-- the trailer's numbers lie within the bytes
+pub record Frame (b : Bytes) (k s u : ℕ) : Type 0 where
+  pub one : 1 ≤ k
+  pub small : length b ≤ longestBook
+  pub order : s ≤ u
+  pub room : u + 2 ≤ length b
 
 -- where the block ends whose offset stands at t: at the next offset, or, as the last one, at s
 abbrev pub endOf : Bytes → ℕ → ℕ → ℕ → ℕ → ℕ

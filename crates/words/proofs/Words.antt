@@ -3,6 +3,7 @@
 --     sides, apart              how two numbers stand to each other
 --     word-positive, word-injective, shared-word; plain-lawful, plain-injective
 --     shared-self, -comm, -le, -at, -trans, -more, -parts; take-shared
+--     word-at                   a byte's symbol
 --     at-past, at-end           past the last symbol stands the end symbol, and nowhere else
 --     less-irrefl, -trans, -asym, -at, -parts, -short, -extends; ordered
 --     part-at, leaves, further  where two words part
@@ -18,7 +19,7 @@ use mathlib.Core.Logic.{_⊎_, inl, inr}
 use mathlib.Core.Bool.{Bool, true, false}
 use mathlib.Core.List.{List, [], _∷_, _++_}
 use lib.Dec.{ltb, eqb}
-use lib.ListN.{length, take}
+use lib.ListN.{getD, length, take}
 use borrow.Author.Tests.{ltb-true, eqb-true, lt-ltb, le-ltb, eq-eqb, ne-eqb}
 use Rattle.words.specs.Words.{Bytes, Lawful, Positive, Rule, at, begins, both, less, plain, same, shared, word}
 
@@ -154,7 +155,12 @@ take-shared (a ∷ x) (b ∷ y) = elim (ℕ-discrete a b) [
   | no n ↦ rw (shared-other a b x y n) refl
 ]
 
--- ---- the end symbol
+-- ---- a symbol by its number
+
+pub word-at : (ρ : Rule) (x : Bytes) (d : ℕ) → d < length x → at (word ρ x) d ≡ ρ (getD x d 0)
+word-at ρ [] d h = absurd (not-suc-le-zero h)
+word-at ρ (b ∷ x) zero h = refl
+word-at ρ (b ∷ x) (suc d) h = word-at ρ x d (le-of-suc-le-suc h)
 
 pub at-end : (w : List ℕ) (d : ℕ) → Positive w → at w d ≡ 0 → length w ≤ d
 at-end [] d p e = zero-le
