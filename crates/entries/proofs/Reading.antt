@@ -162,57 +162,39 @@ stream-next : (b : Bytes) (o : ℕ) (prev : Bytes) (zs : List Bytes) → 0 < len
 stream-next b o prev [] h s = absurd (omega arith)
 stream-next b o prev (z ∷ zs) h (entry a q s) = (a, q, subst (λ (x : Bytes). Stream b (entryEnd b o) x zs) (sym q) s)
 
--- name number i is in the buffer, and the cursor stands at the next entry
+-- i names are read, the last of them is in the buffer, and the cursor stands at the next entry
 pub record Reached (b : Bytes) (start count o : ℕ) (name : Bytes) (len i : ℕ) : Type 0 where
   pub size : length name ≡ 200
   pub room : len ≤ 200
   pub ask : ReadAsk b start count
   pub upto : i ≤ count
-  pub named : (xs : List Bytes) → Stream b start [] xs → count < length xs → take len name ≡ getD xs i []
-  pub others : (xs : List Bytes) → Stream b start [] xs → count < length xs → Stream b o (take len name) (drop (i + 1) xs)
+  pub others : (xs : List Bytes) → Stream b start [] xs → count < length xs → Stream b o (take len name) (drop i xs)
 
-module _ {b : Bytes} {start count : ℕ} (ask : ReadAsk b start count) where
-  pub reached-first : EntryAt b start 0
-  reached-first = stream-next b start [] (ask .names) (omega (arith, ask .within)) (ask .stream) .0
-
-  pub reached-start : (o : ℕ) (name : Bytes) (len : ℕ) → NameRead b start [] o len name → Reached b start count o name len 0
-  reached-start o name len r = record {
-    size = r .size;
-    room = r .room;
-    ask = ask;
-    upto = omega arith;
-    named = λ xs s h. r .name-is ∙ stream-next b start [] xs (omega arith) s .1;
-    others = λ xs s h. rw (r .name-is, r .next-is) (stream-next b start [] xs (omega arith) s .2);
-  }
+pub reached-start : (b : Bytes) (start count : ℕ) (name : Bytes) → ReadAsk b start count → length name ≡ 200 → Reached b start count start name 0 0
+reached-start b start count name ask h = record { size = h; room = omega arith; ask = ask; upto = omega arith; others = λ xs s g. s }
 
 module _ {b : Bytes} {start count o : ℕ} {name : Bytes} {len i : ℕ} (w : Reached b start count o name len i) where
-  at-next : i < count → (xs : List Bytes) → Stream b start [] xs → count < length xs → 0 < length (drop (i + 1) xs)
-  at-next l xs s h = omega (arith, length-drop (i + 1) xs)
+  next-of : (xs : List Bytes) → Stream b start [] xs → count < length xs
+      → EntryAt b o (length (take len name)) × (nameAt b o (take len name) ≡ getD (drop i xs) 0 []) × Stream b (entryEnd b o) (nameAt b o (take len name)) (drop 1 (drop i xs))
+  next-of xs s h = stream-next b o (take len name) (drop i xs) (omega (arith, length-drop i xs, w .upto)) (w .others xs s h)
 
-  next-of : i < count → (xs : List Bytes) → Stream b start [] xs → count < length xs
-      → EntryAt b o (length (take len name)) × (nameAt b o (take len name) ≡ getD (drop (i + 1) xs) 0 []) × Stream b (entryEnd b o) (nameAt b o (take len name)) (drop 1 (drop (i + 1) xs))
-  next-of l xs s h = stream-next b o (take len name) (drop (i + 1) xs) (at-next l xs s h) (w .others xs s h)
-
-  pub reached-entry : i < count → EntryAt b o len
-  reached-entry l =
+  pub reached-entry : EntryAt b o len
+  reached-entry =
       let z : length (take len name) ≡ len = omega (arith, length-take len name, w .size, w .room) in
-      subst (EntryAt b o) z (next-of l (w .ask .names) (w .ask .stream) (w .ask .within) .0)
+      subst (EntryAt b o) z (next-of (w .ask .names) (w .ask .stream) (w .ask .within) .0)
 
   pub reached-more : i < count → (next : ℕ) (name' : Bytes) (len' : ℕ) → NameRead b o (take len name) next len' name' → Reached b start count next name' len' (i + 1)
-  reached-more l next name' len' r =
-      let z : i + 1 + 0 ≡ i + 1 = omega arith in
-      record {
-        size = r .size;
-        room = r .room;
-        ask = w .ask;
-        upto = omega arith;
-        named = λ xs s h. r .name-is ∙ next-of l xs s h .1 ∙ getD-drop (i + 1) xs 0 [] ∙ ap (λ (x : ℕ). getD xs x []) z;
-        others = λ xs s h. rw (r .name-is, r .next-is, ← drop-drop 1 (i + 1) xs) (next-of l xs s h .2);
-      }
+  reached-more l next name' len' r = record {
+    size = r .size;
+    room = r .room;
+    ask = w .ask;
+    upto = omega arith;
+    others = λ xs s h. rw (r .name-is, r .next-is, ← drop-drop 1 i xs) (next-of xs s h .2);
+  }
 
-  pub reached-done : count ≤ i → NameIs b start count name len
-  reached-done l =
-      let z : i ≡ count = omega (arith, w .upto) in
-      record { room = w .room; size = w .size; named = λ xs s h. w .named xs s h ∙ ap (λ (x : ℕ). getD xs x []) z }
+  pub reached-done : count ≤ i → (next : ℕ) (name' : Bytes) (len' : ℕ) → NameRead b o (take len name) next len' name' → NameIs b start count name' len'
+  reached-done l next name' len' r =
+      let z : i + 0 ≡ count = omega (arith, w .upto) in
+      record { room = r .room; size = r .size; named = λ xs s h. r .name-is ∙ next-of xs s h .1 ∙ getD-drop i xs 0 [] ∙ ap (λ (x : ℕ). getD xs x []) z }
 
 pub ruleset reading = (alike-start, alike-more, alike-other, alike-left, alike-right, paste-start, paste-more, paste-done)

@@ -21,6 +21,12 @@ pub struct Entry {
     pub next: Cursor,
 }
 
+// How long the name is that was read, and the place of the next entry.
+pub struct Ahead {
+    pub len: usize,
+    pub next: Cursor,
+}
+
 // Whether a block stands, and then its last name.
 pub struct Last {
     pub ok: bool,
@@ -71,34 +77,46 @@ fn is_entry(book: &[u8], at: usize, end: usize, prev: &[u8]) -> bool
     true
 }
 
-// A name with n bytes of the book from an offset on, from a place on.
-fn pasted(book: &[u8], from: usize, n: usize, prev: [u8; 200], to: usize) -> [u8; 200]
-    requires { ⌜ (from + n ≤ length (now book)) × (to + n ≤ 200) ⌝ }
-    ensures { λ r. ⌜ r ≡ paste prev to (drop from (now (book .entry))) n ⌝ }
+// Puts n bytes of the book, from an offset on, into a name, from a place on.
+fn put_rest(book: &[u8], from: usize, n: usize, name: &mut [u8], to: usize)
+    requires { ⌜ (from + n ≤ length (now book)) × (to + n ≤ length (now name)) ⌝ }
+    ensures { λ _. ⌜ now (name .exit) ≡ paste (now (name .entry)) to (drop from (now (book .entry))) n ⌝ }
 {
-    let mut name = prev;
     let mut i: usize = 0;
     while i < n {
         name[to + i] = book[from + i];
         i += 1;
     }
-    name
 }
 
 impl Cursor {
-    // The entry at the cursor, after the first len bytes of prev.
-    pub fn next(self, book: &[u8], prev: [u8; 200], len: usize) -> Entry
-        requires { ⌜ EntryAt (now book) (self .at) len × (len ≤ 200) ⌝ }
-        ensures { λ r. ⌜ NameRead (now (book .entry)) (self .at) (take len prev) (r .next .at) (r .len) (r .name) ⌝ }
+    // Reads the entry at the cursor into a lent name, whose first len bytes are the name before it: for a loop, which keeps one name.
+    pub fn advance(self, book: &[u8], name: &mut [u8], len: usize) -> Ahead
+        requires { ⌜ EntryAt (now book) (self .at) len × (len ≤ 200) × (length (now name) ≡ 200) ⌝ }
+        ensures { λ r. ⌜ NameRead (now (book .entry)) (self .at) (take len (now (name .entry))) (r .next .at) (r .len) (now (name .exit)) ⌝ }
     {
         let at = self.at;
         let c = numbers::wide(book[at]);
         let n = numbers::wide(book[at + 1]);
-        let name = pasted(book, at + 2, n, prev, c);
-        Entry {
-            name,
+        put_rest(book, at + 2, n, name, c);
+        Ahead {
             len: c + n,
             next: Cursor { at: at + 2 + n },
+        }
+    }
+
+    // The entry at the cursor, after the first len bytes of prev, which stay as they are.
+    pub fn next(self, book: &[u8], prev: [u8; 200], len: usize) -> Entry
+        requires { ⌜ EntryAt (now book) (self .at) len × (len ≤ 200) ⌝ }
+        ensures { λ r. ⌜ NameRead (now (book .entry)) (self .at) (take len prev) (r .next .at) (r .len) (r .name) ⌝ }
+    {
+        let mut name = prev;
+        let ahead = self.advance(book, &mut name, len);
+        let next = ahead.next;
+        Entry {
+            name,
+            len: ahead.len,
+            next,
         }
     }
 }
@@ -259,22 +277,15 @@ pub fn name_of(book: &[u8], start: usize, count: usize) -> Entry
     requires { ⌜ ReadAsk (now book) start count ⌝ }
     ensures { λ r. ⌜ NameIs (now (book .entry)) start count (r .name) (r .len) ⌝ }
 {
-    let first = Cursor { at: start };
-    let e = first.next(book, [0u8; 200], 0);
-    let mut name = e.name;
-    let mut len = e.len;
-    let mut cur = e.next;
+    let mut cur = Cursor { at: start };
+    let mut name = [0u8; 200];
+    let mut len: usize = 0;
     let mut i: usize = 0;
     while i < count {
-        let e = cur.next(book, name, len);
-        name = e.name;
-        len = e.len;
-        cur = e.next;
+        let ahead = cur.advance(book, &mut name, len);
+        len = ahead.len;
+        cur = ahead.next;
         i += 1;
     }
-    Entry {
-        name,
-        len,
-        next: cur,
-    }
+    cur.next(book, name, len)
 }
