@@ -19,7 +19,7 @@ use Rattle.format.proofs.Numbers.{number-past, numbers-at, numbers-length, word
 use Rattle.format.proofs.Records.{rising-sizes, sound-few, sound-rises, sound-rising, word-short}
 use Rattle.format.proofs.Small.{Modest, fields-at, names-bytes, table-small}
 use Rattle.format.proofs.Spans.{table-few}
-use Rattle.descent.proofs.Vocabulary.{NodesAt, Searchable, asked, namesOf, noNode, node, startIn, wordsIn}
+use Rattle.descent.specs.Vocabulary.{NodesAt, Searchable, asked, namesOf, noNode, node, startIn, wordsIn}
 
 -- names of bytes give words of small symbols
 modest : (ρ : Rule) → Lawful ρ → (xs : List Bytes) → All (λ x. (1 ≤ length x) × (length x ≤ longest)) xs → All (λ x. All (λ b. b < 256) x) xs

@@ -22,7 +22,7 @@ use Rattle.words.proofs.Rising.{nth-less, span-all, span-length, span-split}
 use Rattle.words.proofs.Words.{Sides, apart, before, behind, both-true, false≠true, less-asym, less-by, less-irrefl, level, same-refl, same-side, same-true, shared-comm, short-no, sides}
 use Rattle.answers.specs.Questions.{Pair, count, exact, place}
 use Rattle.answers.proofs.Places.{begins-none, count-all, count-append, count-none, exact-place, place-at, place-le}
-use Rattle.descent.proofs.Vocabulary.{Cut, Group}
+use Rattle.descent.specs.Vocabulary.{Cut, Group}
 
 module _ (ws : Words) (q : List ℕ) (r : Rises ws) where
   -- the place, by a cut

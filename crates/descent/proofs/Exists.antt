@@ -14,7 +14,7 @@ use Rattle.words.specs.Words.{Rises, Words, at, nth}
 use Rattle.words.proofs.Words.{apart}
 use Rattle.descent.proofs.Paths.{halt-end, halt-leaf, halt-other, halt-short, passed-few, passed-on, passed-room, passed-sits, passed-start, taken}
 use Rattle.descent.proofs.Rows.{seek-end, seek-found, seek-more, seek-some, seek-start}
-use Rattle.descent.proofs.Vocabulary.{Descended, Halts, Passed, Seeking, Sits, Sought, Taken, node}
+use Rattle.descent.specs.Vocabulary.{Descended, Halts, Passed, Seeking, Sits, Sought, Taken, node}
 
 module _ (ws : Words) (r : Rises ws) where
   seek-on : (n v s c : ℕ) → v + node ws v .nodes ≤ c + n → Seeking ws v s c → (e : ℕ) × Sought ws v s e

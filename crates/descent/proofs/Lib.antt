@@ -1,5 +1,4 @@
--- The blind search: its vocabulary (Vocabulary), and laws of it.
-pub mod Vocabulary
+-- Laws of the blind search; its words are in specs/Vocabulary.antt.
 pub mod Cuts
 pub mod Reach
 pub mod Rows

@@ -22,7 +22,7 @@ use Rattle.answers.proofs.Nearest.{reached-most}
 use Rattle.descent.proofs.Cuts.{group-place}
 use Rattle.descent.proofs.Reach.{reach-child, reach-leaf, reach-none, reach-root, reach-short}
 use Rattle.descent.proofs.Rows.{Kid, root-sits, row-end, row-kid, several, sits-told}
-use Rattle.descent.proofs.Vocabulary.{Cut, Descended, Found, Halts, Highest, In, Passed, Sits, Sought, Step, Taken, from, node, reachIn, upto}
+use Rattle.descent.specs.Vocabulary.{Cut, Descended, Found, Halts, Highest, In, Passed, Sits, Sought, Step, Taken, from, node, reachIn, upto}
 
 module _ (ws : Words) where
   in-or-out : (v i : ℕ) → In ws v i ⊎ ((i < from ws v) ⊎ (upto ws v ≤ i))

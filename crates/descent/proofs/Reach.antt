@@ -21,7 +21,7 @@ use Rattle.format.specs.Nodes.{deep, depth, first, glue, groups}
 use Rattle.format.proofs.Groups.{Same, Short, children, groups-run, joinedGroups, shorter}
 use Rattle.format.proofs.Spans.{deep-is}
 use Rattle.answers.specs.Questions.{childOf, reachWithin, reached}
-use Rattle.descent.proofs.Vocabulary.{reachIn, reachNode}
+use Rattle.descent.specs.Vocabulary.{reachIn, reachNode}
 
 -- ---- any count that is large enough will do
 

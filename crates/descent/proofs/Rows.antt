@@ -23,7 +23,7 @@ use Rattle.words.proofs.Words.{apart}
 use Rattle.format.specs.Nodes.{Node, deep, fork, leaf, nodeTable, rowTable, table}
 use Rattle.format.proofs.Groups.{table-root}
 use Rattle.format.proofs.Spans.{at-rises, ranked-rest, ranked-span, span-share, table-more, table-none, table-one, table-run}
-use Rattle.descent.proofs.Vocabulary.{RowFrom, Seeking, Sits, Sought, from, noNode, node, upto}
+use Rattle.descent.specs.Vocabulary.{RowFrom, Seeking, Sits, Sought, from, noNode, node, upto}
 
 -- ---- the record at the front of what stands from v on
 

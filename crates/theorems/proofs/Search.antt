@@ -27,7 +27,7 @@ use Rattle.descent.proofs.Bytes.{opened-searchable}
 use Rattle.descent.proofs.Cuts.{exact-here, exact-nowhere, range-none, whole-place, whole-range}
 use Rattle.descent.proofs.Exists.{Descent, descent-exists}
 use Rattle.descent.proofs.Paths.{edge-after, edge-before, fork-child, fork-end, found, only-reached, reached-is}
-use Rattle.descent.proofs.Vocabulary.{Descended, Found, Highest, Searchable, Sought, from, node, startIn, upto}
+use Rattle.descent.specs.Vocabulary.{Descended, Found, Highest, Searchable, Sought, from, node, startIn, upto}
 
 module _ (ρ : Rule) (ok : Lawful ρ) (xs : List Bytes) (is : sound ρ xs ≡ true) (question : Bytes) where
   abbrev pub ws : Words
