@@ -2,20 +2,24 @@
 --     build-within      the bytes that an accepted build counts stand in the room
 --     read-within       the bytes that a read counts stand in the room; a refused one counts none
 --     check-within      what an accepted check accepts has a trailer, and a block size that is not 0
+--     question-long, question-none, question-given      1 before 10; 10; what the list answers
 -- Assumes nothing.
-use Prim.Native.Nat.{ℕ, _≤_}
+use Prim.Native.Nat.{ℕ, _≤_, _<_}
 use native.Mathlib.Omega.{arith}
-use mathlib.Core.Path.{_≡_, refl, ap}
+use mathlib.Core.Path.{_≡_, refl, sym, ap, _∙_}
 use mathlib.Core.Bool.{Bool, true, false}
-use mathlib.Core.List.{[]}
-use lib.Dec.{leb, ltb}
+use mathlib.Core.List.{List, []}
+use lib.Dec.{eqb, leb, ltb}
 use lib.ListN.{length, drop, getD, length-append}
-use Rattle.words.specs.Words.{Bytes, Rule, pick}
-use Rattle.format.specs.Records.{Names, Reading, Refused, readList}
+use borrow.Author.Tests.{eq-eqb, eqb-true, le-leb, lt-leb}
+use Rattle.words.specs.Words.{Bytes, Rule, both, pick}
+use Rattle.words.proofs.Words.{both-true}
+use Rattle.format.specs.Records.{Names, Reading, Refused, longest, readList}
 use Rattle.format.specs.Book.{Book, NoBook, Opened, book, goodBlock, longestBook, opened, trailerSize}
 use Rattle.format.proofs.Book.{book-length, book-opened, fits-parts}
 use Rattle.format.proofs.Records.{read-refused}
-use Rattle.answers.specs.Calls.{Answer, Written, build, builtFrom, check, checkOf, given, over, readBack, readBackOf, refused, write}
+use Rattle.answers.specs.Calls.{Answer, Written, build, builtFrom, check, checkOf, given, over, questionOf, readBack, readBackOf, refused, write}
+use Rattle.answers.specs.Questions.{Pair, answer}
 
 -- where the code is 0, the number counts bytes that stand in the room
 abbrev Counted : Written → Type 0
@@ -80,3 +84,28 @@ module _ (ρ : Rule) (s : Bytes) where
   pub check-within : (a : Answer) → a ≡ check ρ s → a .code ≡ 0 → Trailed s a
   unfolding check
   check-within a p = rw p (check-of-within (opened ρ s) refl)
+
+-- ---- a question to a book of some names
+
+module _ (ρ : Rule) (kind : ℕ) (q : Bytes) (k : ℕ) (xs : List Bytes) where
+  -- whatever the kind, and also where there are no names
+  pub question-long : longest < length q → questionOf ρ kind q (Book k xs) ≡ refused 1
+  unfolding questionOf
+  question-long h = rw (lt-leb (length q) longest h) refl
+
+  module _ (h : length q ≤ longest) where
+    pub question-none : kind ≡ 4 → length xs ≡ 0 → questionOf ρ kind q (Book k xs) ≡ refused 10
+    unfolding questionOf
+    question-none e z = rw (le-leb (length q) longest h, eq-eqb kind 4 e, eq-eqb (length xs) 0 z) refl
+
+    pub question-given : (kind ≡ 4 → length xs ≡ 0 → ⊥) → (a : Pair) → a ≡ answer ρ kind q xs → given (a .0) (a .1) ≡ questionOf ρ kind q (Book k xs)
+    unfolding questionOf
+    question-given n a e =
+        ap (λ (p : Pair). given (p .0) (p .1)) e ∙ sym (rw (le-leb (length q) longest h) (go (both (eqb kind 4) (eqb (length xs) 0)) refl))
+      where
+        go : (t : Bool) → both (eqb kind 4) (eqb (length xs) 0) ≡ t
+            → pick t (refused 10) (given (answer ρ kind q xs .0) (answer ρ kind q xs .1)) ≡ given (answer ρ kind q xs .0) (answer ρ kind q xs .1)
+        go false f = refl
+        go true f =
+            let b = both-true (eqb kind 4) (eqb (length xs) 0) f in
+            absurd (n (eqb-true kind 4 (b .0)) (eqb-true (length xs) 0 (b .1)))

@@ -2,6 +2,7 @@
 --     place-below       a name is less than the question just where it stands before the question's place
 --     range-is          the names that begin with the question are those from its place on, as many as the range says
 --     exact-is          a name that equals the question stands at its place
+--     exact-finds       every name is found at its position, also where it is a beginning of others
 --     nearest-greatest  nearest's number is what its name shares with the question, and no name shares more
 --     nearest-bytes     under document 01's rule those are leading bytes
 -- Assumes nothing.
@@ -20,6 +21,7 @@ use Rattle.format.proofs.Records.{sound-rises}
 use Rattle.answers.specs.Questions.{Pair, answer, ask, nearest, place, range, reached}
 use Rattle.answers.proofs.Nearest.{reached-most, reached-within}
 use Rattle.answers.proofs.Places.{exact-place, place-at, range-at}
+use Rattle.descent.proofs.Cuts.{exact-here}
 
 module _ (ρ : Rule) (ok : Lawful ρ) (xs : List Bytes) (is : sound ρ xs ≡ true) (q : Bytes) where
   -- a name's word
@@ -55,6 +57,10 @@ module _ (ρ : Rule) (ok : Lawful ρ) (xs : List Bytes) (is : sound ρ xs ≡ tr
       let p : ℕ = place (word ρ q) (map (word ρ) xs) in
       exact-place (word ρ q) (map (word ρ) xs) (word-positive ρ ok q) rises
       ∙ ap₂ (λ (n : ℕ) (w : List ℕ). pick (both (ltb p n) (same w (word ρ q))) (p, 1) (0, 0)) (length-map xs (word ρ)) (nth-word ρ xs p)
+
+  pub exact-finds : (i : ℕ) → i < length xs → theWord i ≡ word ρ q → answer ρ 1 q xs ≡ (i, 1)
+  unfolding answer ask
+  exact-finds i h e = exact-here (map (word ρ) xs) (word ρ q) rises (word-positive ρ ok q) i (inside h) (nth-word ρ xs i ∙ e)
 
   pub record Greatest (a : Pair) : Type 0 where
     pub within : a .0 < length xs
