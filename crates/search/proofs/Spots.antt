@@ -1,0 +1,227 @@
+-- The node that is found, and the answers there.
+--     Climbing, climb-..   the loop of `highest`
+--     end-.., met-..       the last node of the path; the name that is reached, and how it stands to the question
+--     spot                 the highest node that is deep enough is the one with the names that share most
+--     seat-..              the place there: before or after the edge, a child, the end of the row
+--     range-.., nearest-is, exact-..   the other answers
+--     table-at, by-kind, by-rest   where the table starts; an answer by the number of its kind
+-- Assumes nothing.
+use Prim.Native.Nat.{ℕ, suc, _+_, _-_, _≤_, _<_}
+use native.Mathlib.Nat.{lt-irrefl}
+use native.Mathlib.Omega.{arith}
+use mathlib.Core.Path.{_≡_, _∙_, ap, ap₂, subst, sym}
+use mathlib.Core.Logic.{_⊎_, inl, inr}
+use mathlib.Core.List.{List, []}
+use lib.ListN.{getD, length, length-map, take}
+use Rattle.words.specs.Words.{Bytes, Positive, Words, at, begins, nth, plain, shared, word}
+use Rattle.words.proofs.Rising.{nth-positive, nth-word}
+use Rattle.words.proofs.Words.{apart, at-past, plain-lawful, shared-le, shared-parts, shared-self, word-positive}
+use Rattle.format.specs.Nodes.{table}
+use Rattle.answers.specs.Questions.{Pair as Numbers, ask, count, exact, nearest, place, range, reached}
+use Rattle.answers.proofs.Nearest.{reached-most}
+use Rattle.descent.specs.Vocabulary.{Descended, Highest, Located, Reached, Searchable, Sits, Sought, asked, from, node, upto, wordsIn}
+use Rattle.descent.proofs.Cuts.{exact-here, exact-nowhere, range-none, whole-range}
+use Rattle.descent.proofs.Paths.{edge-after, edge-before, fork-child, fork-end, fork-wide, found, only-reached, passed-sits, reached-is}
+use Rattle.streams.specs.Streams.{namesOf, wordsOf}
+use Rattle.accept.specs.Parts.{told}
+use Rattle.names.specs.Names.{Named}
+use Rattle.search.specs.Asks.{Askable, AtFork, AtSpot, MetSays, NameAsk, Numbered, OnPath, SpotSays}
+use Rattle.search.proofs.Ways.{asked-length}
+
+-- ---- `highest`
+
+-- the first j nodes of the path are less deep than m
+pub record Climbing (b : Bytes) (start : ℕ) (p : List ℕ) (n m j : ℕ) : Type 0 where
+  pub nodes : OnPath b start p n
+  pub within : j < n
+  pub above : (i : ℕ) → i < j → node (wordsIn plain b) (getD p i 0) .depth < m
+
+pub climb-start : {b : Bytes} {start : ℕ} {p : List ℕ} {n m : ℕ} → OnPath b start p n → Climbing b start p n m 0
+climb-start t = record { nodes = t; within = t .some; above = λ i h. absurd (lt-irrefl i (omega arith)) }
+
+module _ {b : Bytes} {start : ℕ} {p : List ℕ} {n m j : ℕ} (k : Climbing b start p n m j) where
+  pub climb-room : j < 202
+  climb-room = omega (arith, k .within, k .nodes .few)
+
+  module _ {v : ℕ} (e : v ≡ getD p j 0) where
+    pub climb-numbered : Numbered b start v
+    climb-numbered = record {
+      searchable = k .nodes .searchable;
+      inside = subst (λ (u : ℕ). u < length (table (wordsIn plain b))) (sym e) (k .nodes .sits j (k .within) .inside);
+    }
+
+    pub climb-end : n ≤ j + 1 → Highest (wordsIn plain b) p n m v
+    climb-end h = record { index = j; within = k .within; is = e; above = k .above; deep = inr (omega (arith, k .within)) }
+
+    pub climb-found : m ≤ node (wordsIn plain b) v .depth → Highest (wordsIn plain b) p n m v
+    climb-found h = record { index = j; within = k .within; is = e; above = k .above; deep = inl h }
+
+    pub climb-more : j + 1 < n → node (wordsIn plain b) v .depth < m → Climbing b start p n m (j + 1)
+    climb-more h l = record { nodes = k .nodes; within = h; above = λ i x. go i x (apart i j) }
+      where
+        go : (i : ℕ) → i < j + 1 → (i < j) ⊎ (j ≤ i) → node (wordsIn plain b) (getD p i 0) .depth < m
+        go i x (inl y) = k .above i y
+        go i x (inr y) =
+            let f : v ≡ getD p i 0 = e ∙ ap (λ (a : ℕ). getD p a 0) {y = i} (omega arith) in
+            subst (λ (u : ℕ). node (wordsIn plain b) u .depth < m) f l
+
+-- ---- `meet`
+
+-- the front of the array is the name at the position
+module _ {b : Bytes} {k position len : ℕ} (q name : Bytes) (a : NameAsk b k position) (n : Named (getD (namesOf b) position []) len name) where
+  name-is : word plain (take (len - 0) name) ≡ nth (wordsIn plain b) position
+  unfolding wordsOf
+  name-is =
+      let z : len - 0 ≡ len = omega arith in
+      ap (λ (i : ℕ). word plain (take i name)) z ∙ ap (word plain) (n .name-is)
+      ∙ sym (nth-word plain (namesOf b) position) ∙ ap (λ (ws : Words). nth ws position) (sym (a .names))
+
+  pub met : {m s : ℕ} → m ≡ shared (word plain q) (word plain (take (len - 0) name)) → s ≡ at (asked plain (take (len - 0) name)) m
+      → MetSays (wordsIn plain b) (asked plain q) position m s
+  unfolding asked
+  met {m} {s} e f = record {
+    shares = e ∙ ap (shared (asked plain q)) name-is;
+    next = f ∙ ap (λ (w : List ℕ). at w m) name-is;
+  }
+
+-- ---- `reach` and `locate`
+
+module _ (b q : Bytes) {start : ℕ} (o : Searchable plain b start) {p : List ℕ} {n last : ℕ} (t : Descended (wordsIn plain b) (asked plain q) p n last) where
+  ends : Sits (wordsIn plain b) last
+  ends = passed-sits (wordsIn plain b) (o .rises) (t .path) (o .short)
+
+  pub end-numbered : Numbered b start last
+  end-numbered = record { searchable = o; inside = ends .inside }
+
+  pub end-path : OnPath b start p n
+  end-path = record { searchable = o; long = t .path .long; some = t .path .some; few = t .few; sits = t .path .sits }
+
+  module _ {r : ℕ} (f : r ≡ node (wordsIn plain b) last .first) where
+    is : r ≡ reached (asked plain q) (wordsIn plain b)
+    is = f ∙ sym (reached-is (wordsIn plain b) (o .rises) t)
+
+    pub end-reached : Reached (wordsIn plain b) (asked plain q) r
+    end-reached = record {
+      is = is;
+      within = omega (arith, ends .some, ends .within);
+      only = λ i h k. only-reached (wordsIn plain b) (o .rises) t i h k ∙ sym is;
+    }
+
+    pub spot : {m s v : ℕ} → MetSays (wordsIn plain b) (asked plain q) r m s → Highest (wordsIn plain b) p n m v → SpotSays (wordsIn plain b) (asked plain q) v m s
+    spot {m} e h =
+        let g : m ≡ shared (asked plain q) (nth (wordsIn plain b) (reached (asked plain q) (wordsIn plain b))) =
+        e .shares ∙ ap (λ (i : ℕ). shared (asked plain q) (nth (wordsIn plain b) i)) is in
+        record {
+          located = record { shares = g; found = found (wordsIn plain b) (o .rises) t g h };
+          next = e .next ∙ ap (λ (i : ℕ). at (nth (wordsIn plain b) i) m) is;
+        }
+
+-- the name that is reached can be read
+pub name-ask : {b : Bytes} {k start r : ℕ} (q : List ℕ) → Askable b k start → Reached (wordsIn plain b) q r → NameAsk b k r
+unfolding wordsOf
+name-ask {b} {k} {start} {r} q a o = record {
+  found = record {
+    parts = a .parts;
+    block = a .block;
+    within = omega (arith, o .within, ap length (a .names), length-map (namesOf b) (word plain));
+  };
+  names = a .names;
+}
+
+-- ---- `seat`
+
+module _ {b q : Bytes} {start v m s : ℕ} (a : AtSpot b start q v m s) where
+  pub seat-before : m < node (wordsIn plain b) v .depth → s < at (asked plain q) m → upto (wordsIn plain b) v ≡ place (asked plain q) (wordsIn plain b)
+  seat-before h l = edge-before (wordsIn plain b) (a .searchable .rises) (a .spot .located .found) h (omega (arith, a .spot .next))
+
+  pub seat-after : m < node (wordsIn plain b) v .depth → at (asked plain q) m ≤ s → from (wordsIn plain b) v ≡ place (asked plain q) (wordsIn plain b)
+  seat-after h l = edge-after (wordsIn plain b) (a .searchable .rises) (a .spot .located .found) h (omega (arith, a .spot .next))
+
+  module _ (h : node (wordsIn plain b) v .depth ≤ m) where
+    pub seat-fork : AtFork b start v
+    seat-fork = record {
+      searchable = a .searchable;
+      sits = a .spot .located .found .sits;
+      several = fork-wide (wordsIn plain b) (a .searchable .rises) (a .spot .located .found) h;
+    }
+
+    module _ {t c : ℕ} (e : t ≡ at (asked plain q) m) (k : Sought (wordsIn plain b) v t c) where
+      sought : Sought (wordsIn plain b) v (at (asked plain q) m) c
+      sought = subst (λ (y : ℕ). Sought (wordsIn plain b) v y c) e k
+
+      pub seat-child : c < v + node (wordsIn plain b) v .nodes → from (wordsIn plain b) c ≡ place (asked plain q) (wordsIn plain b)
+      seat-child g = fork-child (wordsIn plain b) (a .searchable .rises) (a .spot .located .found) h sought g
+
+      pub seat-end : v + node (wordsIn plain b) v .nodes ≤ c → upto (wordsIn plain b) v ≡ place (asked plain q) (wordsIn plain b)
+      seat-end g = fork-end (wordsIn plain b) (a .searchable .rises) (a .spot .located .found) h sought g
+
+-- ---- the answers
+
+abbrev pair : ℕ → ℕ → Numbers
+pair y z = (y, z)
+
+module _ {b : Bytes} {start : ℕ} (q : Bytes) (o : Searchable plain b start) where
+  module _ {v m s : ℕ} (a : SpotSays (wordsIn plain b) (asked plain q) v m s) where
+    pub range-short : m < length q → {r : ℕ} → r ≡ place (asked plain q) (wordsIn plain b) → (r, 0) ≡ range (asked plain q) (wordsIn plain b)
+    unfolding range
+    range-short h e =
+        ap₂ pair e
+        (range-none (wordsIn plain b) (asked plain q) (o .rises) m
+        (λ i k. omega (arith, reached-most (asked plain q) (wordsIn plain b) (o .rises) i k, a .located .shares)) (omega (arith, asked-length q)))
+
+    pub range-all : length q ≤ m → {r n : ℕ} → r ≡ place (asked plain q) (wordsIn plain b) → n ≡ node (wordsIn plain b) v .names
+        → (r, n) ≡ range (asked plain q) (wordsIn plain b)
+    unfolding range
+    range-all h {r} {n} e f =
+        let w : m ≡ length (asked plain q) = omega (
+          arith,
+          a .located .shares,
+          asked-length q,
+          shared-le (asked plain q) (nth (wordsIn plain b) (reached (asked plain q) (wordsIn plain b))),
+        ) in
+        let k : n ≡ count (begins (asked plain q)) (wordsIn plain b) =
+        omega (arith, whole-range (wordsIn plain b) (asked plain q) (o .rises) m (from (wordsIn plain b) v) (upto (wordsIn plain b) v) (a .located .found .group) w) in
+        ap₂ pair e k
+
+  module _ {r m s : ℕ} (t : Reached (wordsIn plain b) (asked plain q) r) (e : MetSays (wordsIn plain b) (asked plain q) r m s) where
+    pub nearest-is : (r, m) ≡ nearest (asked plain q) (wordsIn plain b)
+    unfolding nearest
+    nearest-is = ap₂ pair (t .is) (e .shares ∙ ap (λ (i : ℕ). shared (asked plain q) (nth (wordsIn plain b) i)) (t .is))
+
+    positive : Positive (asked plain q)
+    unfolding asked
+    positive = word-positive plain plain-lawful q
+
+    past : length q ≤ m → at (asked plain q) m ≡ 0
+    past h = at-past (asked plain q) m (omega (arith, asked-length q))
+
+    -- a name that is q is the one that is reached
+    not-there : (nth (wordsIn plain b) r ≡ asked plain q → ⊥) → (0, 0) ≡ exact (asked plain q) (wordsIn plain b)
+    not-there n = sym (exact-nowhere (wordsIn plain b) (asked plain q) (o .rises) positive (λ i h f. n (ap (nth (wordsIn plain b)) (sym (t .only i h f)) ∙ f)))
+
+    pub exact-short : m < length q → (0, 0) ≡ exact (asked plain q) (wordsIn plain b)
+    exact-short h = not-there (λ f. lt-irrefl m (omega (arith, e .shares, ap (shared (asked plain q)) f ∙ shared-self (asked plain q), asked-length q)))
+
+    pub exact-longer : length q ≤ m → (s ≡ 0 → ⊥) → (0, 0) ≡ exact (asked plain q) (wordsIn plain b)
+    exact-longer h n = not-there (λ f. n (e .next ∙ ap (λ (w : List ℕ). at w m) f ∙ past h))
+
+    pub exact-found : length q ≤ m → s ≡ 0 → (r, 1) ≡ exact (asked plain q) (wordsIn plain b)
+    exact-found h z =
+        let x : List ℕ = nth (wordsIn plain b) r in
+        let ends : at (asked plain q) m ≡ at x m = past h ∙ sym z ∙ e .next in
+        let same : asked plain q ≡ x = shared-parts (asked plain q) x positive (nth-positive (wordsIn plain b) r (o .rises))
+        (subst (λ (i : ℕ). at (asked plain q) i ≡ at x i) (e .shares) ends) in
+        sym (exact-here (wordsIn plain b) (asked plain q) (o .rises) positive r (t .within) (sym same))
+
+-- ---- by the number of the kind
+
+pub table-at : {b : Bytes} {k start : ℕ} → Askable b k (told b 6) → start ≡ told b 6 → Askable b k start
+table-at {b} {k} a e = subst (Askable b k) (sym e) a
+
+pub by-kind : (q : List ℕ) (ws : Words) {p : Numbers} (kind j : ℕ) → kind ≡ j → p ≡ ask j q ws → p ≡ ask kind q ws
+by-kind q ws {p} kind j e f = subst (λ (i : ℕ). p ≡ ask i q ws) (sym e) f
+
+-- the last kind is what is left
+pub by-rest : (q : List ℕ) (ws : Words) {p : Numbers} (kind : ℕ) → 4 ≤ kind → p ≡ nearest q ws → p ≡ ask kind q ws
+unfolding ask
+by-rest q ws kind h f = by-kind q ws kind (suc (suc (suc (suc (kind - 4))))) (omega arith) f

@@ -1,0 +1,42 @@
+-- `search::seek` meets its contract. The invariant of its loop is `Seeking`: the names before the child at hand have symbols below s.
+-- The measure is the number of records left in the row.
+-- Assumes nothing.
+use Prim.Native.Nat.{_-_}
+use native.Mathlib.Omega.{arith}
+use borrow.Author.Needs.{needs}
+use Rattle.words.specs.Words.{plain}
+use Rattle.descent.specs.Vocabulary.{Seeking, wordsIn}
+use Rattle.descent.proofs.Rows.{seek-end, seek-found, seek-more, seek-some, seek-start, seek-stop}
+use Rattle.search.proofs.seek.Statement.{statement}
+use Rattle.search.proofs.seek.Tie as tie
+
+abbrev Inv-loop : tie.InvT-loop
+Inv-loop book nodes v s end c₀ c = Seeking (wordsIn plain book) v s c
+
+abbrev μ-loop : tie.MeasureT-loop
+μ-loop book nodes v s end c₀ c = end - c
+
+-- the next child lies within the row, and further on
+add-c-2 : tie.Need-add-c-2 Inv-loop μ-loop
+add-c-2 c = omega (arith, seek-stop _ (c .before .before .before .before .before .before .before .pre .searchable .rises) (c .before .before .before .before .loop .inv) (search needs))
+
+loop-less : tie.Need-loop-less Inv-loop μ-loop
+loop-less c = omega (arith, seek-some _ (c .before .before .before .before .before .before .before .pre .searchable .rises) (c .before .before .before .before .loop .inv) (search needs))
+
+pub seek-spec : {M : Type 1} → statement M
+seek-spec =
+    tie.close
+    (tie.spec
+    Inv-loop
+    μ-loop
+    (λ c κs. search needs)
+    (λ c. omega arith)
+    (λ c. omega arith)
+    (λ c. seek-start _ (search needs) (search needs) (search needs))
+    (λ c κs. search needs)
+    (λ c. seek-found _ (search needs) (search needs) (search needs) (search needs))
+    (λ c κs. search needs)
+    add-c-2
+    loop-less
+    (λ c. seek-more _ (search needs) (search needs) (search needs) (search needs) (search needs))
+    (λ c. seek-end _ (search needs) (search needs) (search needs)))

@@ -1,0 +1,93 @@
+-- What the functions of the search ask and give.
+--     Numbered, FieldAsk    a record of the node table; one of its fields
+--     AtNode, AtFork        a node; a node of several names
+--     WayOf                 where a question goes from a node
+--     OnPath                the front of an array holds nodes
+--     NameAsk, MetSays      a name can be read; how it stands to a question
+--     SpotSays, AtSpot      the node whose names share most with a question
+--     Askable, KindAsk      what an accepted book with names is to a search; the kind has a number from 1 on
+--     pairOf                an answer's two numbers
+-- Assumes nothing: these are definitions.
+use Prim.Native.Nat.{ℕ, _<_, _≤_}
+use mathlib.Core.Path.{_≡_}
+use mathlib.Core.List.{List}
+use lib.ListN.{getD, length}
+use Rattle.words.specs.Words.{Bytes, Words, at, nth, plain, shared}
+use Rattle.format.specs.Nodes.{table}
+use Rattle.answers.specs.Questions.{Pair as Numbers, reached}
+use Rattle.descent.specs.Vocabulary.{Halts, Located, Searchable, Sits, Taken, asked, node, wordsIn}
+use Rattle.streams.specs.Streams.{wordsOf}
+use Rattle.accept.specs.Parts.{Parts, told}
+use Rattle.names.specs.Names.{PositionAsk}
+use Rattle.search.specs.declared.Pair.{Pair}
+use Rattle.search.specs.declared.Way.{Way}
+use Rattle.search.specs.declared.Way.the-variants.{Down, Stay}
+
+-- ---- the table of nodes, which starts at `start`
+
+pub record Numbered (b : Bytes) (start v : ℕ) : Type 0 where
+  pub searchable : Searchable plain b start
+  pub inside : v < length (table (wordsIn plain b))
+
+pub record FieldAsk (b : Bytes) (start v j : ℕ) : Type 0 where
+  pub numbered : Numbered b start v
+  pub field : j < 5
+
+pub record AtNode (b : Bytes) (start v : ℕ) : Type 0 where
+  pub searchable : Searchable plain b start
+  pub sits : Sits (wordsIn plain b) v
+
+pub record AtFork (b : Bytes) (start v : ℕ) : Type 0 where
+  pub searchable : Searchable plain b start
+  pub sits : Sits (wordsIn plain b) v
+  pub several : node (wordsIn plain b) v .names ≡ 1 → ⊥
+
+-- ---- the descent
+
+abbrev pub WayOf : Words → List ℕ → ℕ → Way → Type 0
+WayOf ws q v (Down c) = Taken ws q v c
+WayOf ws q v Stay = Halts ws q v
+
+-- the first n numbers of p are nodes
+pub record OnPath (b : Bytes) (start : ℕ) (p : List ℕ) (n : ℕ) : Type 0 where
+  pub searchable : Searchable plain b start
+  pub long : length p ≡ 202
+  pub some : 0 < n
+  pub few : n ≤ 202
+  pub sits : (j : ℕ) → j < n → Sits (wordsIn plain b) (getD p j 0)
+
+-- ---- the name that is reached
+
+-- the names as they are read one by one are those that the book opens to
+pub record NameAsk (b : Bytes) (k position : ℕ) : Type 0 where
+  pub found : PositionAsk b k position
+  pub names : wordsIn plain b ≡ wordsOf b
+
+-- the name at a position shares m symbols with q, and then comes its symbol s
+pub record MetSays (ws : Words) (q : List ℕ) (position m s : ℕ) : Type 0 where
+  pub shares : m ≡ shared q (nth ws position)
+  pub next : s ≡ at (nth ws position) m
+
+-- node v has the names that share most with q, m symbols; in the one that is reached then comes s
+pub record SpotSays (ws : Words) (q : List ℕ) (v m s : ℕ) : Type 0 where
+  pub located : Located ws q m v
+  pub next : s ≡ at (nth ws (reached q ws)) m
+
+pub record AtSpot (b : Bytes) (start : ℕ) (q : Bytes) (v m s : ℕ) : Type 0 where
+  pub searchable : Searchable plain b start
+  pub spot : SpotSays (wordsIn plain b) (asked plain q) v m s
+
+-- ---- the questions
+
+pub record Askable (b : Bytes) (k start : ℕ) : Type 0 where
+  pub parts : Parts b
+  pub block : k ≡ told b 2
+  pub names : wordsIn plain b ≡ wordsOf b
+  pub searchable : Searchable plain b start
+
+pub record KindAsk (b : Bytes) (k kind : ℕ) : Type 0 where
+  pub askable : Askable b k (told b 6)
+  pub some : 1 ≤ kind
+
+abbrev pub pairOf : Pair → Numbers
+pairOf r = (r .first, r .second)

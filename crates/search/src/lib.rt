@@ -1,0 +1,324 @@
+// The four questions, asked of a book that the check has accepted. One descent over the node table, by the numbers of nodes, serves all
+// of them; the name that it reaches is rebuilt and compared, since the descent passes over bytes that it never looks at.
+ghost use mathlib.Core.Path.{_≡_};
+ghost use Prim.Native.Nat.{_≤_};
+ghost use lib.ListN.{getD};
+ghost use Rattle.words.specs.Words.{at, plain};
+ghost use Rattle.format.specs.Book.{fields};
+ghost use Rattle.answers.specs.Questions.{ask, exact, nearest, place, range};
+ghost use Rattle.descent.specs.Vocabulary.{Descended, Highest, Located, Reached, Searchable, Sought, asked, node, wordsIn};
+ghost use Rattle.search.specs.Asks.{AtFork, AtNode, AtSpot, Askable, FieldAsk, KindAsk, MetSays, NameAsk, Numbered, OnPath, SpotSays, WayOf, pairOf};
+
+// An answer's two numbers.
+pub struct Pair {
+    pub first: usize,
+    pub second: usize,
+}
+
+// The nodes that a question passes from the root on, how many they are, and the last of them.
+pub struct Descent {
+    pub path: [u16; 202],
+    pub len: usize,
+    pub last: usize,
+}
+
+// Where a question goes from a node: to a child, or no further.
+pub enum Way {
+    Down(usize),
+    Stay,
+}
+
+// How a name stands to a question: how many symbols they share, and the name's next one.
+pub struct Met {
+    pub shared: usize,
+    pub symbol: usize,
+}
+
+// The node whose names share most with a question: how many symbols, and the next one of the name that is reached.
+pub struct Spot {
+    pub node: usize,
+    pub shared: usize,
+    pub symbol: usize,
+}
+
+// Field number j of node v, in the table at `nodes`.
+fn field(book: &[u8], nodes: usize, v: usize, j: usize) -> usize
+    requires { ⌜ FieldAsk (now book) nodes v j ⌝ }
+    ensures { λ r. ⌜ r ≡ getD (fields (node (wordsIn plain (now (book .entry))) v)) j 0 ⌝ }
+{
+    numbers::number_at(book, nodes + v * 10 + 2 * j)
+}
+
+fn symbol_of(book: &[u8], nodes: usize, v: usize) -> usize
+    requires { ⌜ Numbered (now book) nodes v ⌝ }
+    ensures { λ r. ⌜ r ≡ node (wordsIn plain (now (book .entry))) v .symbol ⌝ }
+{
+    field(book, nodes, v, 0)
+}
+
+fn depth_of(book: &[u8], nodes: usize, v: usize) -> usize
+    requires { ⌜ Numbered (now book) nodes v ⌝ }
+    ensures { λ r. ⌜ r ≡ node (wordsIn plain (now (book .entry))) v .depth ⌝ }
+{
+    field(book, nodes, v, 1)
+}
+
+fn first_of(book: &[u8], nodes: usize, v: usize) -> usize
+    requires { ⌜ Numbered (now book) nodes v ⌝ }
+    ensures { λ r. ⌜ r ≡ node (wordsIn plain (now (book .entry))) v .first ⌝ }
+{
+    field(book, nodes, v, 2)
+}
+
+fn names_of(book: &[u8], nodes: usize, v: usize) -> usize
+    requires { ⌜ Numbered (now book) nodes v ⌝ }
+    ensures { λ r. ⌜ r ≡ node (wordsIn plain (now (book .entry))) v .names ⌝ }
+{
+    field(book, nodes, v, 3)
+}
+
+fn nodes_of(book: &[u8], nodes: usize, v: usize) -> usize
+    requires { ⌜ Numbered (now book) nodes v ⌝ }
+    ensures { λ r. ⌜ r ≡ node (wordsIn plain (now (book .entry))) v .nodes ⌝ }
+{
+    field(book, nodes, v, 4)
+}
+
+// Symbol number d of a name or a question: past its last byte stands the end symbol.
+fn symbol_at(name: &[u8], d: usize) -> usize
+    ensures { λ r. ⌜ r ≡ at (asked plain (now (name .entry))) d ⌝ }
+{
+    if d < name.len() {
+        numbers::wide(name[d]) + 1
+    } else {
+        0
+    }
+}
+
+// The first child of v whose symbol is not below s, or the end of v's row where there is none.
+fn seek(book: &[u8], nodes: usize, v: usize, s: usize) -> usize
+    requires { ⌜ AtFork (now book) nodes v ⌝ }
+    ensures { λ r. ⌜ Sought (wordsIn plain (now (book .entry))) v s r ⌝ }
+{
+    let end = v + nodes_of(book, nodes, v);
+    let mut c = v + 1;
+    while c < end {
+        if s <= symbol_of(book, nodes, c) {
+            return c;
+        }
+        c += nodes_of(book, nodes, c);
+    }
+    c
+}
+
+// Where the question goes from v: to the child with its symbol at v's depth. It stays at a leaf, where the depth exceeds its length, and
+// where no child fits.
+fn child(book: &[u8], nodes: usize, question: &[u8], v: usize) -> Way
+    requires { ⌜ AtNode (now book) nodes v ⌝ }
+    ensures { λ r. ⌜ WayOf (wordsIn plain (now (book .entry))) (asked plain (now (question .entry))) v r ⌝ }
+{
+    if names_of(book, nodes, v) == 1 {
+        return Way::Stay;
+    }
+    let d = depth_of(book, nodes, v);
+    if question.len() < d {
+        return Way::Stay;
+    }
+    let s = symbol_at(question, d);
+    let c = seek(book, nodes, v, s);
+    if v + nodes_of(book, nodes, v) <= c {
+        return Way::Stay;
+    }
+    if symbol_of(book, nodes, c) != s {
+        return Way::Stay;
+    }
+    Way::Down(c)
+}
+
+// The way down from the root.
+fn descend(book: &[u8], nodes: usize, question: &[u8]) -> Descent
+    requires { ⌜ Searchable plain (now book) nodes ⌝ }
+    ensures { λ r. ⌜ Descended (wordsIn plain (now (book .entry))) (asked plain (now (question .entry))) (r .path) (r .len) (r .last) ⌝ }
+{
+    let mut path = [0u16; 202];
+    let mut n: usize = 1;
+    let mut v: usize = 0;
+    loop {
+        match child(book, nodes, question, v) {
+            Way::Down(c) => {
+                path[n] = c as u16;
+                n += 1;
+                v = c;
+            }
+            Way::Stay => {
+                return Descent {
+                    path,
+                    len: n,
+                    last: v,
+                };
+            }
+        }
+    }
+}
+
+// The highest node of the path whose depth is at least `shared`, or the last.
+fn highest(book: &[u8], nodes: usize, way: Descent, shared: usize) -> usize
+    requires { ⌜ OnPath (now book) nodes (way .path) (way .len) ⌝ }
+    ensures { λ r. ⌜ Highest (wordsIn plain (now (book .entry))) (way .path) (way .len) shared r ⌝ }
+{
+    let len = way.len;
+    let mut j: usize = 0;
+    while j + 1 < len {
+        let v = numbers::wide16(way.path[j]);
+        if shared <= depth_of(book, nodes, v) {
+            return v;
+        }
+        j += 1;
+    }
+    numbers::wide16(way.path[j])
+}
+
+// The name at a position, rebuilt, and how it stands to the question.
+fn meet(book: &[u8], k: usize, position: usize, question: &[u8]) -> Met
+    requires { ⌜ NameAsk (now book) k position ⌝ }
+    ensures { λ r. ⌜ MetSays (wordsIn plain (now (book .entry))) (asked plain (now (question .entry))) position (r .shared) (r .symbol) ⌝ }
+{
+    let entry = names::read_name(book, k, position);
+    let name = entry.name;
+    let len = entry.len;
+    let shared = entries::shared_symbols(question, &name[0..len]);
+    let symbol = symbol_at(&name[0..len], shared);
+    Met { shared, symbol }
+}
+
+// The position that the question reaches.
+fn reach(book: &[u8], nodes: usize, question: &[u8]) -> usize
+    requires { ⌜ Searchable plain (now book) nodes ⌝ }
+    ensures { λ r. ⌜ Reached (wordsIn plain (now (book .entry))) (asked plain (now (question .entry))) r ⌝ }
+{
+    let way = descend(book, nodes, question);
+    first_of(book, nodes, way.last)
+}
+
+// The node with the names that share most with the question.
+fn locate(book: &[u8], k: usize, nodes: usize, question: &[u8]) -> Spot
+    requires { ⌜ Askable (now book) k nodes ⌝ }
+    ensures { λ r. ⌜ SpotSays (wordsIn plain (now (book .entry))) (asked plain (now (question .entry))) (r .node) (r .shared) (r .symbol) ⌝ }
+{
+    let way = descend(book, nodes, question);
+    let position = first_of(book, nodes, way.last);
+    let met = meet(book, k, position, question);
+    let node = highest(book, nodes, way, met.shared);
+    Spot {
+        node,
+        shared: met.shared,
+        symbol: met.symbol,
+    }
+}
+
+// How many names are less than the question, once that node is known. Inside its edge the whole group lies to one side; at its fork the
+// question stands before the first child whose symbol is not below its own, or behind the group.
+fn seat(book: &[u8], nodes: usize, question: &[u8], spot: Spot) -> usize
+    requires { ⌜ AtSpot (now book) nodes (now question) (spot .node) (spot .shared) (spot .symbol) ⌝ }
+    ensures { λ r. ⌜ r ≡ place (asked plain (now (question .entry))) (wordsIn plain (now (book .entry))) ⌝ }
+{
+    let v = spot.node;
+    let shared = spot.shared;
+    let s = symbol_at(question, shared);
+    let first = first_of(book, nodes, v);
+    let past = first + names_of(book, nodes, v);
+    if shared < depth_of(book, nodes, v) {
+        if spot.symbol < s {
+            return past;
+        }
+        return first;
+    }
+    let c = seek(book, nodes, v, s);
+    if c < v + nodes_of(book, nodes, v) {
+        return first_of(book, nodes, c);
+    }
+    past
+}
+
+// (position, 1) where a name equals the question, else (0, 0).
+fn ask_exact(book: &[u8], k: usize, nodes: usize, question: &[u8]) -> Pair
+    requires { ⌜ Askable (now book) k nodes ⌝ }
+    ensures { λ r. ⌜ pairOf r ≡ exact (asked plain (now (question .entry))) (wordsIn plain (now (book .entry))) ⌝ }
+{
+    let position = reach(book, nodes, question);
+    let met = meet(book, k, position, question);
+    if met.shared < question.len() {
+        return Pair {
+            first: 0,
+            second: 0,
+        };
+    }
+    if met.symbol != 0 {
+        return Pair {
+            first: 0,
+            second: 0,
+        };
+    }
+    Pair {
+        first: position,
+        second: 1,
+    }
+}
+
+// (how many names are less, 0).
+fn ask_place(book: &[u8], k: usize, nodes: usize, question: &[u8]) -> Pair
+    requires { ⌜ Askable (now book) k nodes ⌝ }
+    ensures { λ r. ⌜ pairOf r ≡ (place (asked plain (now (question .entry))) (wordsIn plain (now (book .entry))), 0) ⌝ }
+{
+    let spot = locate(book, k, nodes, question);
+    Pair {
+        first: seat(book, nodes, question, spot),
+        second: 0,
+    }
+}
+
+// (the question's place, how many names begin with it).
+fn ask_range(book: &[u8], k: usize, nodes: usize, question: &[u8]) -> Pair
+    requires { ⌜ Askable (now book) k nodes ⌝ }
+    ensures { λ r. ⌜ pairOf r ≡ range (asked plain (now (question .entry))) (wordsIn plain (now (book .entry))) ⌝ }
+{
+    let spot = locate(book, k, nodes, question);
+    let first = seat(book, nodes, question, spot);
+    if spot.shared < question.len() {
+        return Pair { first, second: 0 };
+    }
+    let second = names_of(book, nodes, spot.node);
+    Pair { first, second }
+}
+
+// (the position reached, the bytes that its name and the question share).
+fn ask_nearest(book: &[u8], k: usize, nodes: usize, question: &[u8]) -> Pair
+    requires { ⌜ Askable (now book) k nodes ⌝ }
+    ensures { λ r. ⌜ pairOf r ≡ nearest (asked plain (now (question .entry))) (wordsIn plain (now (book .entry))) ⌝ }
+{
+    let position = reach(book, nodes, question);
+    let met = meet(book, k, position, question);
+    Pair {
+        first: position,
+        second: met.shared,
+    }
+}
+
+// A question of a kind by its number, 1 to 4 in this order.
+pub fn answer(book: &[u8], k: usize, kind: usize, question: &[u8]) -> Pair
+    requires { ⌜ KindAsk (now book) k kind ⌝ }
+    ensures { λ r. ⌜ pairOf r ≡ ask kind (asked plain (now (question .entry))) (wordsIn plain (now (book .entry))) ⌝ }
+{
+    let at = book.len() - 16;
+    let nodes = numbers::number_at(book, at + 6);
+    if kind == 1 {
+        return ask_exact(book, k, nodes, question);
+    }
+    if kind == 2 {
+        return ask_place(book, k, nodes, question);
+    }
+    if kind == 3 {
+        return ask_range(book, k, nodes, question);
+    }
+    ask_nearest(book, k, nodes, question)
+}
