@@ -1,3 +1,4 @@
 -- Laws of the public calls.
 pub mod Building
 pub mod Reading
+pub mod Asking

@@ -1,4 +1,5 @@
 -- How a check and a read end, by the ways that the calls go.
+--     no-book           what a refusing check says
 --     check-unsound, check-sound            no book; a book of n names in blocks of k
 --     read-unsound, read-past               no book; no name at the position
 --     position-ask, read-short, read-put    the name can be read; the room is too short; the name stands at its front
@@ -25,7 +26,7 @@ use Rattle.names.specs.Names.{PositionAsk, Put}
 use Rattle.book.specs.Answers.{answered, written}
 use Rattle.book.specs.declared.Answer.{Answer}
 
-no-book : (b : Bytes) → Unsound ≡ checkedOf (opened plain b) → opened plain b ≡ NoBook
+pub no-book : (b : Bytes) → Unsound ≡ checkedOf (opened plain b) → opened plain b ≡ NoBook
 no-book b s = go (opened plain b) s
   where
     go : (o : Opened) → Unsound ≡ checkedOf o → o ≡ NoBook

@@ -3,8 +3,8 @@
 // and Rust; a slice is a pointer and a length.
 ghost use mathlib.Core.Path.{_≡_};
 ghost use Rattle.words.specs.Words.{plain};
-ghost use Rattle.answers.specs.Calls.{build, check, readBack};
-ghost use Rattle.book.specs.Answers.{answered, written};
+ghost use Rattle.answers.specs.Calls.{build, check, question as askedOf, readBack};
+ghost use Rattle.book.specs.Answers.{Asking, KindNumber, answered, written};
 
 // 0 or the number of a refusal, and two numbers beside it.
 #[repr(C)]
@@ -94,4 +94,71 @@ pub extern "C" fn book_read(book: &[u8], position: usize, room: &mut [u8]) -> An
             }
         }
     }
+}
+
+// A question of a kind from 1 to 4 to a book of n names in blocks of k that the check has accepted: whoever has many questions checks
+// once. Refusals: 1, 10.
+pub fn ask(book: &[u8], n: usize, k: usize, kind: usize, question: &[u8]) -> Answer
+    requires { ⌜ Asking (now book) n k kind ⌝ }
+    ensures { λ r. ⌜ answered r ≡ askedOf plain kind (now (book .entry)) (now (question .entry)) ⌝ }
+{
+    if 200 < question.len() {
+        return refuse(1, 0);
+    }
+    if n == 0 {
+        if kind == 4 {
+            return refuse(10, 0);
+        }
+        return refuse(0, 0);
+    }
+    let pair = search::answer(book, k, kind, question);
+    Answer {
+        code: 0,
+        first: pair.first,
+        second: pair.second,
+    }
+}
+
+// A question of a kind from 1 to 4. Refusals: 2, 1, 10.
+fn ask_alone(book: &[u8], kind: usize, question: &[u8]) -> Answer
+    requires { ⌜ KindNumber kind ⌝ }
+    ensures { λ r. ⌜ answered r ≡ askedOf plain kind (now (book .entry)) (now (question .entry)) ⌝ }
+{
+    let checked = accept::check_book(book);
+    match checked {
+        accept::Checked::Unsound => refuse(2, 0),
+        accept::Checked::Sound(n, k) => ask(book, n, k, kind, question),
+    }
+}
+
+// The position of the name that equals the question, and 1; or 0 and 0. Refusals: 2, 1.
+#[no_mangle]
+pub extern "C" fn book_exact(book: &[u8], question: &[u8]) -> Answer
+    ensures { λ r. ⌜ answered r ≡ askedOf plain 1 (now (book .entry)) (now (question .entry)) ⌝ }
+{
+    ask_alone(book, 1, question)
+}
+
+// How many names are less than the question. Refusals: 2, 1.
+#[no_mangle]
+pub extern "C" fn book_place(book: &[u8], question: &[u8]) -> Answer
+    ensures { λ r. ⌜ answered r ≡ askedOf plain 2 (now (book .entry)) (now (question .entry)) ⌝ }
+{
+    ask_alone(book, 2, question)
+}
+
+// The question's place, and how many names begin with it. Refusals: 2, 1.
+#[no_mangle]
+pub extern "C" fn book_range(book: &[u8], question: &[u8]) -> Answer
+    ensures { λ r. ⌜ answered r ≡ askedOf plain 3 (now (book .entry)) (now (question .entry)) ⌝ }
+{
+    ask_alone(book, 3, question)
+}
+
+// The position of a name that is as near as any, and how many leading bytes it shares with the question. Refusals: 2, 1, 10.
+#[no_mangle]
+pub extern "C" fn book_nearest(book: &[u8], question: &[u8]) -> Answer
+    ensures { λ r. ⌜ answered r ≡ askedOf plain 4 (now (book .entry)) (now (question .entry)) ⌝ }
+{
+    ask_alone(book, 4, question)
 }

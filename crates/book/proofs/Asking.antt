@@ -1,0 +1,93 @@
+-- How a question ends, by the ways that the calls go.
+--     ask-unsound       no book
+--     ask-long          the question is too long
+--     ask-none, nearest-none    the book has no names: nothing is found, and nearest is refused
+--     askable, ask-some an accepted book with names can be searched; what the search answers
+-- Assumes nothing.
+use Prim.Native.Nat.{ℕ, zero, suc, _<_, _≤_}
+use native.Mathlib.Nat.{lt-irrefl}
+use native.Mathlib.Omega.{arith}
+use mathlib.Core.Path.{_≡_, _∙_, ap, refl, sym}
+use mathlib.Core.List.{List, [], _∷_, map}
+use lib.ListN.{length}
+use Rattle.words.specs.Words.{Bytes, InBytes, plain, word}
+use Rattle.words.proofs.Words.{plain-lawful}
+use Rattle.format.specs.Book.{Book, Opened, opened}
+use Rattle.format.specs.Records.{longest}
+use Rattle.answers.specs.Calls.{given, question, questionOf, refused}
+use Rattle.answers.proofs.Calls.{question-given, question-long, question-none}
+use Rattle.answers.specs.Questions.{Pair, answer, ask, count, exact, exactFrom, place, range}
+use Rattle.descent.specs.Vocabulary.{asked, namesOf as openedNames, startIn, wordsIn}
+use Rattle.descent.proofs.Bytes.{opened-searchable}
+use Rattle.streams.specs.Streams.{namesOf, wordsOf}
+use Rattle.accept.specs.Parts.{checkedOf}
+use Rattle.accept.specs.declared.Checked.the-variants.{Unsound}
+use Rattle.accept.proofs.Judging.{sound-book}
+use Rattle.search.specs.Asks.{KindAsk}
+use Rattle.book.specs.Answers.{Asking, KindNumber, answered}
+use Rattle.book.specs.declared.Answer.{Answer}
+use Rattle.book.proofs.Reading.{no-book}
+
+pub ask-unsound : (kind : ℕ) (b q : Bytes) (r : Answer) → answered r ≡ refused 2 → Unsound ≡ checkedOf (opened plain b) → answered r ≡ question plain kind b q
+unfolding question questionOf
+ask-unsound kind b q r e s = e ∙ sym (ap (questionOf plain kind q) (no-book b s))
+
+-- an empty list: nothing is found
+none-found : (kind : ℕ) → KindNumber kind → (kind ≡ 4 → ⊥) → (q : List ℕ) → (0, 0) ≡ ask kind q []
+unfolding ask exact exactFrom place range count
+none-found zero h n q = absurd (lt-irrefl 0 (omega (arith, h .low)))
+none-found (suc zero) h n q = refl
+none-found (suc (suc zero)) h n q = refl
+none-found (suc (suc (suc zero))) h n q = refl
+none-found (suc (suc (suc (suc kind)))) h n q = absurd (n (omega (arith, h .high)))
+
+module _ (b q : Bytes) (n k kind : ℕ) (bytes : InBytes b) (s : Asking b n k kind) where
+  asks : question plain kind b q ≡ questionOf plain kind q (Book k (namesOf b))
+  unfolding question
+  asks = ap (questionOf plain kind q) (sound-book b n k bytes (s .checked) .book)
+
+  names : n ≡ length (namesOf b)
+  names = sound-book b n k bytes (s .checked) .count
+
+  pub ask-long : (r : Answer) → answered r ≡ refused 1 → longest < length q → answered r ≡ question plain kind b q
+  ask-long r e h = e ∙ sym (asks ∙ question-long plain kind q k (namesOf b) h)
+
+  module _ (h : length q ≤ longest) where
+    pub nearest-none : (r : Answer) → answered r ≡ refused 10 → n ≡ 0 → kind ≡ 4 → answered r ≡ question plain kind b q
+    nearest-none r e z f = e ∙ sym (asks ∙ question-none plain kind q k (namesOf b) h f (omega (arith, names)))
+
+    gives : (kind ≡ 4 → n ≡ 0 → ⊥) → (a : Pair) → a ≡ answer plain kind q (namesOf b) → given (a .0) (a .1) ≡ question plain kind b q
+    gives f a e = question-given plain kind q k (namesOf b) h (λ g z. f g (names ∙ z)) a e ∙ sym asks
+
+    pub ask-none : (r : Answer) → answered r ≡ given 0 0 → n ≡ 0 → (kind ≡ 4 → ⊥) → answered r ≡ question plain kind b q
+    unfolding answer
+    ask-none r e z f =
+        let empty : namesOf b ≡ [] = none (namesOf b) (omega (arith, names)) in
+        e ∙ gives (λ g _. f g) (0, 0) (none-found kind (s .number) f (word plain q) ∙ ap (λ (xs : List Bytes). answer plain kind q xs) (sym empty))
+      where
+        none : (xs : List Bytes) → length xs ≡ 0 → xs ≡ []
+        none [] l = refl
+        none (x ∷ xs) l = absurd (lt-irrefl 0 (omega arith))
+
+    module _ (some : n ≡ 0 → ⊥) where
+      opens : wordsIn plain b ≡ wordsOf b
+      unfolding wordsIn wordsOf
+      opens = ap (λ (o : Opened). map (word plain) (openedNames o)) (sound-book b n k bytes (s .checked) .book)
+
+      pub askable : KindAsk b k kind
+      unfolding startIn
+      askable =
+          let f = sound-book b n k bytes (s .checked) in
+          record {
+            askable = record {
+              parts = f .parts;
+              block = f .block;
+              names = opens;
+              searchable = opened-searchable plain plain-lawful b k (namesOf b) (f .book) bytes (omega (arith, names));
+            };
+            some = s .number .low;
+          }
+
+      pub ask-some : (a : Pair) → a ≡ ask kind (asked plain q) (wordsIn plain b) → given (a .0) (a .1) ≡ question plain kind b q
+      unfolding answer asked wordsOf
+      ask-some a e = gives (λ _ z. some z) a (e ∙ ap (ask kind (word plain q)) opens)

@@ -1,0 +1,26 @@
+-- `book::ask_alone` meets its contract: the check, and then the question.
+-- Assumes nothing.
+use mathlib.Core.Path.{_∙_, sym}
+use borrow.Author.Needs.{needs}
+use Rattle.book.proofs.Asking.{ask-unsound}
+use Rattle.book.proofs.Building.{answer-is}
+use Rattle.book.proofs.ask_alone.Statement.{statement}
+use Rattle.book.proofs.ask_alone.Tie as tie
+
+ask-requires : tie.Need-ask-requires
+ask-requires c κs = record { checked = sym (c .before .checked .given .1) ∙ c .before .before .before .check-book .ensures; number = search needs }
+
+returns : tie.Need-returns
+returns c = ask-unsound _ _ _ (c .refuse .result) (answer-is _ _ _ (c .refuse .ensures)) (sym (c .before .enum-told .given .1) ∙ c .before .before .before .check-book .ensures)
+
+pub ask-alone-spec : {M : Type 1} → statement M
+ask-alone-spec =
+    tie.close
+    (tie.spec
+    (λ c κs. search needs)
+    (λ c. search needs)
+    (λ c κs. search needs)
+    (λ c. search needs)
+    ask-requires
+    returns
+    (λ c. search needs))
