@@ -2,7 +2,7 @@
 
 mod common;
 
-use common::{built, mar_names, names, no, yes, BOOK_85, EMPTY_BOOK};
+use common::{built, many_names, mar_names, names, no, yes, BOOK_85, EMPTY_BOOK};
 use model::questions::{node_reached, Kind};
 use model::tree::tree;
 use model::{book_exact, book_nearest, book_place, book_range, Answer};
@@ -189,6 +189,90 @@ fn nearest_goes_down_the_longest_path() {
     question.push(b'c');
     // 199 symbols fit; at depth 199 there is no child for c.
     assert_eq!(book_nearest(&book, &question), yes(198, 199));
+}
+
+// Deep and wide trees
+
+#[test]
+fn questions_to_the_chain_a_aa_aaa() {
+    let list: Vec<Vec<u8>> = (1..=200).map(|length| vec![b'a'; length]).collect();
+    let book = built(&list, 64);
+    for length in [1, 2, 63, 64, 65, 128, 199, 200] {
+        let at = length - 1;
+        let expected = [
+            yes(at, 1),
+            yes(at, 0),
+            yes(at, 201 - length),
+            yes(at, length),
+        ];
+        assert_eq!(all_four(&book, &vec![b'a'; length]), expected, "{length}");
+    }
+    for length in [1, 2, 64, 127, 198, 199] {
+        // Every name is below it; at depth `length` no child fits b.
+        let question = [vec![b'a'; length], vec![b'b']].concat();
+        let expected = [yes(0, 0), yes(200, 0), yes(200, 0), yes(length - 1, length)];
+        assert_eq!(all_four(&book, &question), expected, "{length}");
+    }
+}
+
+#[test]
+fn questions_to_the_mirror_of_the_chain() {
+    // 199 a's and b, .., aab, ab, b: the name with so many a's stands at 199
+    // less their number.
+    let with_tail = |length: usize, byte: u8| [vec![b'a'; length], vec![byte]].concat();
+    let list: Vec<Vec<u8>> = (0..200)
+        .rev()
+        .map(|length| with_tail(length, b'b'))
+        .collect();
+    let book = built(&list, 64);
+    for length in [0, 1, 2, 63, 64, 127, 198, 199] {
+        let at = 199 - length;
+        let name = [yes(at, 1), yes(at, 0), yes(at, 1), yes(at, length + 1)];
+        assert_eq!(all_four(&book, &with_tail(length, b'b')), name, "{length}");
+        // All names with as many a's begin with them and stand behind them.
+        let stem = [yes(0, 0), yes(0, 0), yes(0, 200 - length), yes(0, length)];
+        assert_eq!(all_four(&book, &vec![b'a'; length]), stem, "{length}");
+        // The names with as many a's stand before c, the others behind it.
+        let less = at + 1;
+        let above = [yes(0, 0), yes(less, 0), yes(less, 0), yes(0, length)];
+        assert_eq!(all_four(&book, &with_tail(length, b'c')), above, "{length}");
+    }
+}
+
+#[test]
+fn questions_to_256_siblings() {
+    let list: Vec<Vec<u8>> = (0..=255).map(|byte| vec![byte]).collect();
+    let book = built(&list, 16);
+    for byte in 0..=255u8 {
+        let at = usize::from(byte);
+        let name = [yes(at, 1), yes(at, 0), yes(at, 1), yes(at, 1)];
+        assert_eq!(all_four(&book, &[byte]), name, "{byte}");
+        let behind = [yes(0, 0), yes(at + 1, 0), yes(at + 1, 0), yes(at, 1)];
+        assert_eq!(all_four(&book, &[byte, 0]), behind, "{byte}");
+    }
+    let all = [yes(0, 0), yes(0, 0), yes(0, 256), yes(0, 0)];
+    assert_eq!(all_four(&book, b""), all);
+}
+
+#[test]
+fn questions_to_2000_names_of_two_bytes() {
+    // 250 names for each of the first bytes 0 to 7.
+    let book = built(&many_names(2000), 64);
+    for (first, second) in [(0, 0), (0, 249), (3, 100), (7, 0), (7, 249)] {
+        let at = 250 * first + second;
+        let question = [first as u8, second as u8];
+        let name = [yes(at, 1), yes(at, 0), yes(at, 1), yes(at, 2)];
+        assert_eq!(all_four(&book, &question), name, "{question:?}");
+    }
+    for first in 0..8 {
+        let at = 250 * first;
+        let stem = [yes(0, 0), yes(at, 0), yes(at, 250), yes(at, 1)];
+        assert_eq!(all_four(&book, &[first as u8]), stem, "{first}");
+        let above = [yes(0, 0), yes(at + 250, 0), yes(at + 250, 0), yes(at, 1)];
+        assert_eq!(all_four(&book, &[first as u8, 250]), above, "{first}");
+    }
+    let past = [yes(0, 0), yes(2000, 0), yes(2000, 0), yes(0, 0)];
+    assert_eq!(all_four(&book, &[8]), past);
 }
 
 // The empty question
