@@ -1,5 +1,5 @@
 // The cases of `book_build`. A case is a head and then the list: of the head, 4 bytes have the list's length, 8 the block size and 4 the
-// room's length. Nothing is taken on trust: whatever the file holds, the program is safe and ends.
+// room's length.
 ghost use Prim.Native.Nat.{_<_, _≤_};
 ghost use lib.ListN.{length};
 use crate::bytes;
@@ -27,7 +27,7 @@ fn print_build(number: usize, list: &[u8], block: usize, room: &mut [u8]) {
 }
 
 // Runs the case at a place, and gives the place of the next. A case that is cut off, or has too long a room, is the last.
-fn run_one(number: usize, file: &[u8], at: usize) -> usize
+pub fn run_one(number: usize, file: &[u8], at: usize) -> usize
     requires { ⌜ at < length (now file) ⌝ }
     ensures { λ r. ⌜ (at < r) × (r ≤ length (now (file .entry))) ⌝ }
 {
@@ -48,20 +48,4 @@ fn run_one(number: usize, file: &[u8], at: usize) -> usize
     let mut room = [0u8; LONGEST_ROOM];
     print_build(number, &file[start..end], block, &mut room[0..room_size]);
     end
-}
-
-// Runs the cases one after the other.
-fn run_all(file: &[u8]) {
-    let mut at: usize = 0;
-    let mut number: usize = 0;
-    while at < file.len() {
-        at = run_one(number, file, at);
-        number += 1;
-    }
-}
-
-// Prints the lines of all cases. The file is read into the space.
-pub fn run(space: &mut [u8]) {
-    let size = bytes::load(b"build.cases", space);
-    run_all(&space[..size]);
 }

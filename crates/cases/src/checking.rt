@@ -1,5 +1,4 @@
-// The cases of `book_check`. A case is 4 bytes with the length of a book, and then the book. Nothing is taken on trust: whatever the file
-// holds, the program is safe and ends.
+// The cases of `book_check`. A case is 4 bytes with the length of a book, and then the book.
 ghost use Prim.Native.Nat.{_<_, _≤_};
 ghost use lib.ListN.{length};
 use crate::bytes;
@@ -16,7 +15,7 @@ fn print_check(number: usize, book: &[u8]) {
 }
 
 // Runs the case at a place, and gives the place of the next. A case that is cut off is the last.
-fn run_one(number: usize, file: &[u8], at: usize) -> usize
+pub fn run_one(number: usize, file: &[u8], at: usize) -> usize
     requires { ⌜ at < length (now file) ⌝ }
     ensures { λ r. ⌜ (at < r) × (r ≤ length (now (file .entry))) ⌝ }
 {
@@ -31,20 +30,4 @@ fn run_one(number: usize, file: &[u8], at: usize) -> usize
     let end = start + size;
     print_check(number, &file[start..end]);
     end
-}
-
-// Runs the cases one after the other.
-fn run_all(file: &[u8]) {
-    let mut at: usize = 0;
-    let mut number: usize = 0;
-    while at < file.len() {
-        at = run_one(number, file, at);
-        number += 1;
-    }
-}
-
-// Prints the lines of all cases. The file is read into the space.
-pub fn run(space: &mut [u8]) {
-    let size = bytes::load(b"check.cases", space);
-    run_all(&space[..size]);
 }

@@ -1,15 +1,20 @@
 // Runs the cases that the second program wrote and prints what the proved calls give: one line for a case. The gate holds the lines to
-// the file `stdout`, which the second program wrote too. Each kind of call has a file of cases and a module here.
+// the file `stdout`, which the second program wrote too. Each set of cases has a file and a module here.
+mod asking;
 mod building;
 mod bytes;
 mod checking;
 mod lines;
 mod reading;
+mod walk;
+
+use crate::walk::Call;
 
 // The longest file of cases has less than 600,000 bytes. What is past them would not be read, and its lines would be missed.
 fn main() {
     let mut file = [0u8; 600000];
-    building::run(&mut file);
-    checking::run(&mut file);
-    reading::run(&mut file);
+    walk::run(Call::Build, b"build.cases", &mut file);
+    walk::run(Call::Check, b"check.cases", &mut file);
+    walk::run(Call::Read, b"read.cases", &mut file);
+    walk::run(Call::Ask, b"ask.cases", &mut file);
 }

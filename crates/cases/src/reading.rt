@@ -1,21 +1,14 @@
 // The cases of `book_read`. A case is a head and then a book: of the head, 4 bytes have the book's length, 8 the position and 4 the room's
-// length. Where the book's length is 0, the book is that of the case before; before the first case it is empty. Nothing is taken on
-// trust: whatever the file holds, the program is safe and ends.
+// length. Where the book's length is 0, the book is that of the case before.
 ghost use Prim.Native.Nat.{_<_, _≤_};
 ghost use lib.ListN.{length};
 use crate::bytes;
 use crate::lines;
+use crate::walk::Place;
 
 const HEAD: usize = 16;
 
 const LONGEST_ROOM: usize = 1000;
-
-// Where the book of a case stands in the file, and where the next case does.
-struct Place {
-    start: usize,
-    end: usize,
-    next: usize,
-}
 
 // Reads, and prints the case's number, the answer, the checksum of the name, of no bytes where there is none, and that of the whole room.
 fn print_read(number: usize, book: &[u8], position: usize, room: &mut [u8]) {
@@ -36,7 +29,7 @@ fn print_read(number: usize, book: &[u8], position: usize, room: &mut [u8]) {
 
 // Runs the case at a place, where the book of the case before stands from `from` to `to`. A case that is cut off, or has too long a room,
 // is the last.
-fn run_one(number: usize, file: &[u8], at: usize, from: usize, to: usize) -> Place
+pub fn run_one(number: usize, file: &[u8], at: usize, from: usize, to: usize) -> Place
     requires { ⌜ (at < length (now file)) × (from ≤ to) × (to ≤ length (now file)) ⌝ }
     ensures { λ r. ⌜ (at < r .next) × (r .next ≤ length (now (file .entry))) × (r .start ≤ r .end) × (r .end ≤ length (now (file .entry))) ⌝ }
 {
@@ -79,25 +72,4 @@ fn run_one(number: usize, file: &[u8], at: usize, from: usize, to: usize) -> Pla
         end: next,
         next,
     }
-}
-
-// Runs the cases one after the other.
-fn run_all(file: &[u8]) {
-    let mut at: usize = 0;
-    let mut number: usize = 0;
-    let mut from: usize = 0;
-    let mut to: usize = 0;
-    while at < file.len() {
-        let place = run_one(number, file, at, from, to);
-        from = place.start;
-        to = place.end;
-        at = place.next;
-        number += 1;
-    }
-}
-
-// Prints the lines of all cases. The file is read into the space.
-pub fn run(space: &mut [u8]) {
-    let size = bytes::load(b"read.cases", space);
-    run_all(&space[..size]);
 }

@@ -13,8 +13,10 @@
 //! | [`building`] | the set of `book_build`, and the format of its file |
 //! | [`checking`] | the set of `book_check`, and the format of its file |
 //! | [`reading`] | the set of `book_read`, and the format of its file |
+//! | [`asking`] | the set of the four questions, and the format of its file |
 //! | [`checksum`] | two small numbers that stand for many bytes |
 //! | [`lists`] | lists of names by their shape |
+//! | [`questions`] | questions by how they stand to a list's names |
 //! | [`pieces`] | a book in pieces, to be put together wrongly |
 //! | [`damage`] | ways to spoil a list or a book |
 //! | [`rooms`] | rooms before and after a call |
@@ -26,12 +28,14 @@
 #![forbid(unsafe_code)]
 #![warn(missing_docs)]
 
+pub mod asking;
 pub mod building;
 pub mod checking;
 pub mod checksum;
 pub mod damage;
 pub mod lists;
 pub mod pieces;
+pub mod questions;
 pub mod random;
 pub mod reading;
 pub mod rooms;
@@ -56,7 +60,7 @@ pub struct Set {
 }
 
 /// Every set, in the order in which a program runs them.
-pub const SETS: [Set; 3] = [building::SET, checking::SET, reading::SET];
+pub const SETS: [Set; 4] = [building::SET, checking::SET, reading::SET, asking::SET];
 
 impl Set {
     /// The file of cases: one record after the other, from first to last byte.

@@ -1,17 +1,17 @@
--- `cases::checking::run_all` is safe and ends. A case takes at least a byte, so there are no more cases than bytes passed; the measure is what
--- is left of the file.
+-- `cases::walk::run_all` is safe and ends. A case takes at least a byte, so there are no more cases than bytes passed; the book of the case
+-- before stands in the file; the measure is what is left of the file.
 -- Assumes nothing.
 use Prim.Native.Nat.{_-_, _≤_}
 use borrow.Author.Needs.{needs}
 use lib.ListN.{length}
-use Rattle.cases.proofs.checking.run_all.Statement.{statement}
-use Rattle.cases.proofs.checking.run_all.Tie as tie
+use Rattle.cases.proofs.walk.run_all.Statement.{statement}
+use Rattle.cases.proofs.walk.run_all.Tie as tie
 
 abbrev Inv-loop : tie.InvT-loop
-Inv-loop file at₀ number₀ at number = (at ≤ length file) × (number ≤ at)
+Inv-loop call file at₀ number₀ from₀ to₀ at number from to = (at ≤ length file) × (number ≤ at) × (from ≤ to) × (to ≤ length file)
 
 abbrev μ-loop : tie.MeasureT-loop
-μ-loop file at₀ number₀ at number = length file - at
+μ-loop call file at₀ number₀ from₀ to₀ at number from to = length file - at
 
 loop-holds : tie.Need-loop-holds Inv-loop μ-loop
 loop-holds c = search needs

@@ -1,0 +1,63 @@
+// The cases of the four questions. A case is a head, then a book and a question: of the head, 4 bytes have the book's length and 4 the
+// question's. Where the book's length is 0, the book is that of the case before.
+ghost use Prim.Native.Nat.{_<_, _≤_};
+ghost use lib.ListN.{length};
+use crate::bytes;
+use crate::lines;
+use crate::walk::Place;
+
+const HEAD: usize = 8;
+
+// Asks in all four kinds, and prints the case's number and the answers.
+fn print_asked(number: usize, book: &[u8], question: &[u8]) {
+    let exact = book::book_exact(book, question);
+    let place = book::book_place(book, question);
+    let range = book::book_range(book, question);
+    let nearest = book::book_nearest(book, question);
+    lines::begin(number);
+    lines::add_answer(exact);
+    lines::add_answer(place);
+    lines::add_answer(range);
+    lines::add_answer(nearest);
+    lines::end();
+}
+
+// Runs the case at a place, where the book of the case before stands from `from` to `to`. A case that is cut off is the last.
+pub fn run_one(number: usize, file: &[u8], at: usize, from: usize, to: usize) -> Place
+    requires { ⌜ (at < length (now file)) × (from ≤ to) × (to ≤ length (now file)) ⌝ }
+    ensures { λ r. ⌜ (at < r .next) × (r .next ≤ length (now (file .entry))) × (r .start ≤ r .end) × (r .end ≤ length (now (file .entry))) ⌝ }
+{
+    let last = Place {
+        start: from,
+        end: to,
+        next: file.len(),
+    };
+    if file.len() - at < HEAD {
+        return last;
+    }
+    let behind = at + HEAD;
+    let size = bytes::four(file, at);
+    let asked = bytes::four(file, at + 4);
+    if file.len() - behind < size {
+        return last;
+    }
+    let start = behind + size;
+    if file.len() - start < asked {
+        return last;
+    }
+    let next = start + asked;
+    if size == 0 {
+        print_asked(number, &file[from..to], &file[start..next]);
+        return Place {
+            start: from,
+            end: to,
+            next,
+        };
+    }
+    print_asked(number, &file[behind..start], &file[start..next]);
+    Place {
+        start: behind,
+        end: start,
+        next,
+    }
+}

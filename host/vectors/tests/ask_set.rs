@@ -1,0 +1,201 @@
+//! The set of the four questions: its file read back by a reader of its own,
+//! and what must be among its cases.
+
+use model::{book_exact, book_nearest, book_place, book_range};
+use std::collections::BTreeSet;
+use std::sync::LazyLock;
+use vectors::asking;
+use vectors::lists;
+use vectors::Case;
+
+/// The text to be printed. It takes some seconds, so the tests share it.
+static EXPECTED: LazyLock<String> = LazyLock::new(|| asking::SET.expected());
+
+/// A case as it stands in the file.
+struct Asked<'file> {
+    book: &'file [u8],
+    question: &'file [u8],
+}
+
+/// Reads the file as its description says, and asserts that it ends with a
+/// case.
+fn read_file(mut file: &[u8]) -> Vec<Asked<'_>> {
+    let mut cases = Vec::new();
+    let mut book: &[u8] = &[];
+    while !file.is_empty() {
+        let length = u32::from_le_bytes(file[..4].try_into().unwrap()) as usize;
+        let asked = u32::from_le_bytes(file[4..8].try_into().unwrap()) as usize;
+        let start = 8 + length;
+        let end = start + asked;
+        if length > 0 {
+            book = &file[8..start];
+        }
+        let question = &file[start..end];
+        cases.push(Asked { book, question });
+        file = &file[end..];
+    }
+    cases
+}
+
+/// The line that a program prints for this case.
+fn line(number: usize, case: &Asked) -> String {
+    let mut line = number.to_string();
+    for ask in [book_exact, book_place, book_range, book_nearest] {
+        let answer = ask(case.book, case.question);
+        let (code, first, second) = (answer.code, answer.first, answer.second);
+        line.push_str(&format!(" {code} {first} {second}"));
+    }
+    line + "\n"
+}
+
+/// The case with this purpose.
+fn find<'cases>(cases: &'cases [asking::AskCase], purpose: &str) -> &'cases asking::AskCase {
+    let found = cases.iter().find(|case| case.purpose() == purpose);
+    found.unwrap_or_else(|| panic!("no case for {purpose}"))
+}
+
+#[test]
+fn a_program_that_follows_the_description_prints_the_text() {
+    let file = asking::SET.case_file();
+    let cases = read_file(&file);
+    let lines = cases.iter().enumerate();
+    let text: String = lines.map(|(number, case)| line(number, case)).collect();
+    assert_eq!(text, *EXPECTED);
+}
+
+#[test]
+fn the_file_is_small_enough() {
+    let file = asking::SET.case_file();
+    assert!(file.len() < 600_000, "{}", file.len());
+    let cases = read_file(&file);
+    assert!(cases.len() <= 7000, "{}", cases.len());
+}
+
+#[test]
+fn every_refusal_of_a_question_is_among_the_cases() {
+    // The codes of the four answers of a case: a book without names is the only
+    // one where they differ.
+    let mut codes = BTreeSet::new();
+    for line in EXPECTED.lines() {
+        let numbers: Vec<usize> = line.split(' ').map(|word| word.parse().unwrap()).collect();
+        codes.insert([numbers[1], numbers[4], numbers[7], numbers[10]]);
+    }
+    let expected = [[0, 0, 0, 0], [0, 0, 0, 10], [1; 4], [2; 4]];
+    assert_eq!(codes.into_iter().collect::<Vec<_>>(), expected);
+}
+
+#[test]
+fn the_twelve_rows_of_document_01_are_among_the_cases() {
+    let cases = asking::cases();
+    for (kind, question, pair) in [
+        (0, "Marina", "1 1"),
+        (0, "Marin", "0 0"),
+        (1, "", "0 0"),
+        (1, "Mark", "2 0"),
+        (1, "Maxim", "3 0"),
+        (2, "Mar", "0 3"),
+        (2, "Mark", "2 1"),
+        (2, "Mas", "3 0"),
+        (3, "Mango", "0 2"),
+        (3, "Maxim", "1 2"),
+        (3, "Zoo", "0 0"),
+        (3, "M", "0 1"),
+    ] {
+        for book in [85, 80] {
+            let purpose = format!("rows: book {book}, question \"{question}\"");
+            let outcome = find(&cases, &purpose).outcome();
+            let words: Vec<&str> = outcome.split(' ').collect();
+            let answer = words[3 * kind..3 * kind + 3].join(" ");
+            assert_eq!(answer, format!("0 {pair}"), "{purpose}");
+        }
+    }
+}
+
+#[test]
+fn the_edges_of_document_01_are_among_the_cases() {
+    let cases = asking::cases();
+    for (purpose, outcome) in [
+        (
+            "empty input: book 0, question of 201 bytes",
+            "2 0 0 2 0 0 2 0 0 2 0 0",
+        ),
+        (
+            "no names: book 16, question \"\"",
+            "0 0 0 0 0 0 0 0 0 10 0 0",
+        ),
+        (
+            "no names: book 16, question of 200 bytes",
+            "0 0 0 0 0 0 0 0 0 10 0 0",
+        ),
+        (
+            "no names: book 16, question of 201 bytes",
+            "1 0 0 1 0 0 1 0 0 1 0 0",
+        ),
+        (
+            "one name of 200 bytes: book 230, question of 200 bytes",
+            "0 0 1 0 0 0 0 0 1 0 0 200",
+        ),
+        (
+            "one name of 200 bytes: book 230, question of 201 bytes",
+            "1 0 0 1 0 0 1 0 0 1 0 0",
+        ),
+        (
+            "longest question: book 80, question of 65539 bytes",
+            "1 0 0 1 0 0 1 0 0 1 0 0",
+        ),
+        (
+            "2,000 names: book 26209, question \"\\x07\\xf9\"",
+            "0 1999 1 0 1999 0 0 1999 1 0 1999 2",
+        ),
+        (
+            "2,000 names: book 26209, question \"\\x07\\xfa\"",
+            "0 0 0 0 2000 0 0 2000 0 0 1750 1",
+        ),
+        (
+            "2,001 names: book 26223, question \"\"",
+            "2 0 0 2 0 0 2 0 0 2 0 0",
+        ),
+        (
+            "257 children: book 3386, question \"xy\\xff\"",
+            "0 256 1 0 256 0 0 256 1 0 256 3",
+        ),
+        (
+            "255 alone: book 133, question \"\\xff\\xff\"",
+            "0 1 1 0 1 0 0 1 4 0 1 2",
+        ),
+    ] {
+        assert_eq!(find(&cases, purpose).outcome(), outcome, "{purpose}");
+    }
+    let longest = cases
+        .iter()
+        .filter(|case| case.purpose().starts_with("book of 65,535: book 65535, "));
+    assert!(longest.count() > 20);
+}
+
+#[test]
+fn every_name_of_the_small_lists_is_asked_for() {
+    let cases = asking::cases();
+    for (purpose, names) in [
+        ("worked example: book 85", lists::example()),
+        ("seventy stops: book 1536", lists::stops()),
+        ("257 children: book 3386", lists::fan(b"xy")),
+    ] {
+        for (position, name) in names.iter().enumerate() {
+            let purpose = format!("{purpose}, question \"{}\"", name.escape_ascii());
+            let outcome = find(&cases, &purpose).outcome();
+            let found = format!("0 {position} 1 0 {position} 0 0 {position} ");
+            assert!(outcome.starts_with(&found), "{purpose}: {outcome}");
+            let nearest = format!(" 0 {position} {}", name.len());
+            assert!(outcome.ends_with(&nearest), "{purpose}: {outcome}");
+        }
+    }
+}
+
+#[test]
+fn damaged_books_are_asked_questions_of_201_bytes_too() {
+    let file = asking::SET.case_file();
+    let refused = |case: &&Asked| book_exact(case.book, case.question).code == 2;
+    let cases = read_file(&file);
+    let long = cases.iter().filter(|case| case.question.len() > 200);
+    assert!(long.filter(refused).count() > 40);
+}
