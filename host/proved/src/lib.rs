@@ -63,3 +63,35 @@ pub fn book_read(book: &[u8], position: usize, room: &mut [u8]) -> Answer {
         )
     }
 }
+
+/// Asks for the name that equals the question: (0, its position, 1), or
+/// (0, 0, 0) where there is none, or refusal 2 or 1.
+pub fn book_exact(book: &[u8], question: &[u8]) -> Answer {
+    // SAFETY: each pointer comes with the length of its own slice, and nothing
+    // is written.
+    unsafe { raw::book_exact(book.as_ptr(), book.len(), question.as_ptr(), question.len()) }
+}
+
+/// Asks how many names are less than the question: (0, their number, 0), or
+/// refusal 2 or 1.
+pub fn book_place(book: &[u8], question: &[u8]) -> Answer {
+    // SAFETY: each pointer comes with the length of its own slice, and nothing
+    // is written.
+    unsafe { raw::book_place(book.as_ptr(), book.len(), question.as_ptr(), question.len()) }
+}
+
+/// Asks which names begin with the question: (0, the question's place, their
+/// number), or refusal 2 or 1.
+pub fn book_range(book: &[u8], question: &[u8]) -> Answer {
+    // SAFETY: each pointer comes with the length of its own slice, and nothing
+    // is written.
+    unsafe { raw::book_range(book.as_ptr(), book.len(), question.as_ptr(), question.len()) }
+}
+
+/// Asks for a name that shares most with the question: (0, its position, how
+/// many leading bytes they share), or refusal 2, 1 or 10.
+pub fn book_nearest(book: &[u8], question: &[u8]) -> Answer {
+    // SAFETY: each pointer comes with the length of its own slice, and nothing
+    // is written.
+    unsafe { raw::book_nearest(book.as_ptr(), book.len(), question.as_ptr(), question.len()) }
+}

@@ -58,4 +58,12 @@ exported! {
     fn book_check(book: *const u8, book_len: usize);
     /// Reads a name back by its position.
     fn book_read(book: *const u8, book_len: usize, position: usize, room: *mut u8, room_len: usize);
+    /// Asks for the name that equals a question.
+    fn book_exact(book: *const u8, book_len: usize, question: *const u8, question_len: usize);
+    /// Asks how many names are less than a question.
+    fn book_place(book: *const u8, book_len: usize, question: *const u8, question_len: usize);
+    /// Asks which names begin with a question.
+    fn book_range(book: *const u8, book_len: usize, question: *const u8, question_len: usize);
+    /// Asks for a name that shares most with a question.
+    fn book_nearest(book: *const u8, book_len: usize, question: *const u8, question_len: usize);
 }

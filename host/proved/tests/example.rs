@@ -1,7 +1,9 @@
 //! The worked example through the linked archive, so that a wrong convention
 //! or a wrong archive shows at once.
 
-use proved::{book_build, book_check, book_read, Answer};
+use proved::{
+    book_build, book_check, book_exact, book_nearest, book_place, book_range, book_read, Answer,
+};
 
 const LIST: &[u8] = b"\x03Mar\x06Marina\x0DMarket Square";
 
@@ -42,6 +44,13 @@ fn book() -> [u8; 85] {
     room
 }
 
+/// The book of 80 bytes: the same names, in one block.
+fn book_of_80() -> [u8; 80] {
+    let mut room = [0; 80];
+    assert_eq!(book_build(LIST, 4, &mut room), answer(0, 80, 0));
+    room
+}
+
 #[test]
 fn the_book_of_85_bytes_is_checked() {
     assert_eq!(book_check(&book()), answer(0, 3, 2));
@@ -71,4 +80,49 @@ fn a_refused_reading_leaves_the_room_as_it_was() {
     assert_eq!(book_read(&book(), usize::MAX, &mut room), answer(3, 0, 0));
     assert_eq!(book_read(&book(), 2, &mut room), answer(4, 0, 0));
     assert_eq!(room, [0xAA; 12]);
+}
+
+/// A call that asks a question.
+type Ask = fn(&[u8], &[u8]) -> Answer;
+
+#[test]
+fn the_twelve_rows_of_document_01_are_answered() {
+    let rows: [(Ask, &str, usize, usize); 12] = [
+        (book_exact, "Marina", 1, 1),
+        (book_exact, "Marin", 0, 0),
+        (book_place, "", 0, 0),
+        (book_place, "Mark", 2, 0),
+        (book_place, "Maxim", 3, 0),
+        (book_range, "Mar", 0, 3),
+        (book_range, "Mark", 2, 1),
+        (book_range, "Mas", 3, 0),
+        (book_nearest, "Mango", 0, 2),
+        (book_nearest, "Maxim", 1, 2),
+        (book_nearest, "Zoo", 0, 0),
+        (book_nearest, "M", 0, 1),
+    ];
+    for (number, (ask, question, first, second)) in rows.into_iter().enumerate() {
+        for book in [&book()[..], &book_of_80()] {
+            let answered = ask(book, question.as_bytes());
+            assert_eq!(answered, answer(0, first, second), "row {}", number + 1);
+        }
+    }
+}
+
+#[test]
+fn a_question_is_refused_with_2_then_1_then_10() {
+    let asks: [Ask; 4] = [book_exact, book_place, book_range, book_nearest];
+    let mut no_names = [0; 16];
+    assert_eq!(book_build(&[], 2, &mut no_names), answer(0, 16, 0));
+    let long = [b'M'; 201];
+    for ask in asks {
+        assert_eq!(ask(&book()[1..], &long), answer(2, 0, 0));
+        assert_eq!(ask(&book(), &long), answer(1, 0, 0));
+        assert_eq!(ask(&book(), &long[1..]).code, 0);
+        assert_eq!(ask(&no_names, &long), answer(1, 0, 0));
+    }
+    for ask in &asks[..3] {
+        assert_eq!(ask(&no_names, b"Mar"), answer(0, 0, 0));
+    }
+    assert_eq!(book_nearest(&no_names, b"Mar"), answer(10, 0, 0));
 }
