@@ -7,6 +7,7 @@
 //!
 //! Another call is a module with one function, and one more line in [`KINDS`].
 
+mod asking;
 mod books;
 mod building;
 mod checking;
@@ -33,7 +34,7 @@ pub struct Kind {
 }
 
 /// Every kind of call, as often as the others.
-const KINDS: [Kind; 3] = [
+const KINDS: [Kind; 7] = [
     Kind {
         name: "build",
         run: building::run,
@@ -45,6 +46,22 @@ const KINDS: [Kind; 3] = [
     Kind {
         name: "read",
         run: reading::run,
+    },
+    Kind {
+        name: "exact",
+        run: asking::exact,
+    },
+    Kind {
+        name: "place",
+        run: asking::place,
+    },
+    Kind {
+        name: "range",
+        run: asking::range,
+    },
+    Kind {
+        name: "nearest",
+        run: asking::nearest,
     },
 ];
 

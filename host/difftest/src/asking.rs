@@ -1,0 +1,57 @@
+//! Random calls of the four questions.
+
+use crate::books::any_book;
+use crate::lent::hex;
+use crate::same_answer;
+use vectors::questions::any_question;
+use vectors::random::Random;
+
+/// Makes one call of `book_exact` of both programs: the code they agree on, or
+/// the whole case.
+pub fn exact(random: &mut Random) -> Result<usize, String> {
+    run(random, model::book_exact, proved::book_exact)
+}
+
+/// The same of `book_place`.
+pub fn place(random: &mut Random) -> Result<usize, String> {
+    run(random, model::book_place, proved::book_place)
+}
+
+/// The same of `book_range`.
+pub fn range(random: &mut Random) -> Result<usize, String> {
+    run(random, model::book_range, proved::book_range)
+}
+
+/// The same of `book_nearest`.
+pub fn nearest(random: &mut Random) -> Result<usize, String> {
+    run(random, model::book_nearest, proved::book_nearest)
+}
+
+/// A call that asks a question of a book.
+type Ask<Answer> = fn(&[u8], &[u8]) -> Answer;
+
+/// Asks a question near the book's names of both programs.
+fn run(
+    random: &mut Random,
+    model: Ask<model::Answer>,
+    proved: Ask<proved::Answer>,
+) -> Result<usize, String> {
+    let (book, names) = any_book(random);
+    let mut question = any_question(random, &names);
+    if random.once_in(200) {
+        // A length of which the low 16 bits alone would be fine.
+        question.resize(random.between(65_530, 65_750), b'a');
+    }
+    let expected = model(&book, &question);
+    let found = proved(&book, &question);
+    if same_answer(expected, found) {
+        return Ok(expected.code);
+    }
+    Err([
+        format!("question {}", hex(&question)),
+        format!("book {}", hex(&book)),
+        format!("expected {expected:?}"),
+        format!("found    {found:?}"),
+    ]
+    .join("\n"))
+}
