@@ -3,13 +3,16 @@
 //! `bench CALL ..` makes the call once. It is made in a function of its own
 //! (for `build` that is `measured_build`), so that a profiler shows what it
 //! took: see measure.sh. `bench stack CALL ..` tells how deep the stack grew.
-//! Either way the answer is printed, and it has to be the second program's: a
+//! `bench questions BOOKFILE` checks the book and then asks mixed questions. In
+//! each case the answer is printed, and it has to be the second program's: a
 //! wrong answer is not worth measuring.
 //!
 //! Another call is a module with one function, and one more line in [`CALLS`].
 
+mod asking;
 mod building;
 mod checking;
+mod mixed;
 mod reading;
 mod stack;
 
@@ -35,7 +38,7 @@ pub struct Ready {
 }
 
 /// Every call that can be measured.
-const CALLS: [Call; 3] = [
+const CALLS: [Call; 7] = [
     Call {
         name: "build",
         words: "LISTFILE K",
@@ -50,6 +53,26 @@ const CALLS: [Call; 3] = [
         name: "read",
         words: "BOOKFILE POSITION",
         ready: reading::ready,
+    },
+    Call {
+        name: "exact",
+        words: "BOOKFILE QUESTION",
+        ready: asking::exact,
+    },
+    Call {
+        name: "place",
+        words: "BOOKFILE QUESTION",
+        ready: asking::place,
+    },
+    Call {
+        name: "range",
+        words: "BOOKFILE QUESTION",
+        ready: asking::range,
+    },
+    Call {
+        name: "nearest",
+        words: "BOOKFILE QUESTION",
+        ready: asking::nearest,
     },
 ];
 
@@ -73,6 +96,9 @@ fn run(words: &[String]) -> Result<String, String> {
         let Ready { measured, expected } = ready(&words[1..])?;
         let (answer, depth) = stack::deepest(measured)?;
         return Ok(format!("{}, stack {depth}", shown(answer, expected)?));
+    }
+    if words.first().is_some_and(|word| word == "questions") {
+        return mixed::run(&words[1..]);
     }
     let Ready {
         mut measured,
@@ -111,8 +137,9 @@ fn shown(answer: proved::Answer, expected: model::Answer) -> Result<String, Stri
 /// What can be asked of this program.
 fn usage() -> String {
     let calls = CALLS.iter();
-    let lines: Vec<String> = calls
+    let mut lines: Vec<String> = calls
         .map(|call| format!("bench [stack] {} {}", call.name, call.words))
         .collect();
+    lines.push("bench questions BOOKFILE".to_string());
     lines.join("\n")
 }

@@ -1,0 +1,86 @@
+//! Mixed questions to the book in a file.
+//!
+//! The mix is the same each time: a fifth of the questions are names of the
+//! book, a fifth beginnings of names, a fifth extensions, a fifth miss a name by
+//! one byte, and a fifth are strangers. Each is asked in all four kinds.
+
+use crate::asking::{
+    measured_exact, measured_nearest, measured_place, measured_range, shown_question,
+};
+use crate::{checking, read_file, shown};
+use model::names::leading_equal;
+use model::questions::{exact, node_reached, place, range};
+use model::tree::tree;
+use model::{book_check, open, Answer};
+use vectors::lists::Names;
+use vectors::questions::{of_shape, SHAPES};
+use vectors::random::Random;
+
+/// How many questions of each shape are asked.
+const EACH: usize = 20;
+
+/// Checks the book, then asks every question in every kind: a line for each
+/// call, in the order in which they are made.
+pub fn run(words: &[String]) -> Result<String, String> {
+    let [file] = words else {
+        return Err("questions needs the name of a book file".to_string());
+    };
+    let book = read_file(file)?;
+    let (_, names) = open(&book).ok_or_else(|| format!("{file} is no book"))?;
+    // The second program's calls open the book each time, which takes long
+    // under a profiler; so its questions are asked of the names, and the tree
+    // for nearest is made once.
+    let root = tree(&names).ok_or_else(|| format!("{file} has no names"))?;
+    let nearest = |question: &[u8]| {
+        let position = node_reached(&root, question).first;
+        (position, leading_equal(&names[position], question))
+    };
+
+    let checked = shown(checking::measured_check(&book), book_check(&book))?;
+    let mut lines = vec![format!("check {checked}")];
+    for question in questions(&names) {
+        for (kind, answer, expected) in [
+            (
+                "exact",
+                measured_exact(&book, &question),
+                exact(&names, &question),
+            ),
+            (
+                "place",
+                measured_place(&book, &question),
+                place(&names, &question),
+            ),
+            (
+                "range",
+                measured_range(&book, &question),
+                range(&names, &question),
+            ),
+            (
+                "nearest",
+                measured_nearest(&book, &question),
+                nearest(&question),
+            ),
+        ] {
+            let (first, second) = expected;
+            let answer = shown(
+                answer,
+                Answer {
+                    code: 0,
+                    first,
+                    second,
+                },
+            )?;
+            lines.push(format!("{kind} {answer}: {}", shown_question(&question)));
+        }
+    }
+    Ok(lines.join("\n"))
+}
+
+/// The questions of the mix.
+fn questions(names: &Names) -> Names {
+    let mut random = Random::from_seed(1);
+    let shapes = SHAPES.iter().flat_map(|&shape| [shape; EACH]);
+    shapes
+        .map(|shape| of_shape(&mut random, names, shape))
+        .collect()
+}
