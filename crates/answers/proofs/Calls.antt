@@ -3,22 +3,24 @@
 --     read-within       the bytes that a read counts stand in the room; a refused one counts none
 --     check-within      what an accepted check accepts has a trailer, and a block size that is not 0
 --     question-long, question-none, question-given      1 before 10; 10; what the list answers
+--     GoodRow, row-good, row-bad     a batch row that can be asked: what it gets, and what another gets
+--     batch-rows        every row of an accepted batch gets its own answer
 -- Assumes nothing.
-use Prim.Native.Nat.{ℕ, _≤_, _<_}
+use Prim.Native.Nat.{ℕ, _+_, _≤_, _<_}
 use native.Mathlib.Omega.{arith}
 use mathlib.Core.Path.{_≡_, refl, sym, ap, _∙_}
 use mathlib.Core.Bool.{Bool, true, false}
-use mathlib.Core.List.{List, []}
+use mathlib.Core.List.{List, [], map}
 use lib.Dec.{eqb, leb, ltb}
-use lib.ListN.{length, drop, getD, length-append}
-use borrow.Author.Tests.{eq-eqb, eqb-true, le-leb, lt-leb}
+use lib.ListN.{length, drop, getD, length-append, take}
+use borrow.Author.Tests.{eq-eqb, eqb-true, le-leb, leb-true, lt-leb}
 use Rattle.words.specs.Words.{Bytes, Rule, both, pick}
 use Rattle.words.proofs.Words.{both-true}
 use Rattle.format.specs.Records.{Names, Reading, Refused, longest, readList}
 use Rattle.format.specs.Book.{Book, NoBook, Opened, book, goodBlock, longestBook, opened, trailerSize}
 use Rattle.format.proofs.Book.{book-length, book-opened, fits-parts}
 use Rattle.format.proofs.Records.{read-refused}
-use Rattle.answers.specs.Calls.{Answer, Written, build, builtFrom, check, checkOf, given, over, questionOf, readBack, readBackOf, refused, write}
+use Rattle.answers.specs.Calls.{Answer, Batched, Row, Written, batch, batchOf, build, builtFrom, check, checkOf, given, goodRow, over, questionOf, readBack, readBackOf, refused, rowAnswer, write}
 use Rattle.answers.specs.Questions.{Pair, answer}
 
 -- where the code is 0, the number counts bytes that stand in the room
@@ -109,3 +111,40 @@ module _ (ρ : Rule) (kind : ℕ) (q : Bytes) (k : ℕ) (xs : List Bytes) where
         go true f =
             let b = both-true (eqb kind 4) (eqb (length xs) 0) f in
             absurd (n (eqb-true kind 4 (b .0)) (eqb-true (length xs) 0 (b .1)))
+
+-- ---- a batch
+
+pub record GoodRow (buffer : Bytes) (r : Row) : Type 0 where
+  pub low : 1 ≤ r .kind
+  pub high : r .kind ≤ 4
+  pub within : r .start + r .size ≤ length buffer
+
+module _ (ρ : Rule) (o : Opened) (buffer : Bytes) (r : Row) where
+  pub row-good : GoodRow buffer r → rowAnswer ρ o buffer r ≡ questionOf ρ (r .kind) (take (r .size) (drop (r .start) buffer)) o
+  unfolding rowAnswer
+  row-good h = rw (le-leb 1 (r .kind) (h .low), le-leb (r .kind) 4 (h .high), le-leb (r .start + r .size) (length buffer) (h .within)) refl
+
+  pub row-bad : (GoodRow buffer r → ⊥) → rowAnswer ρ o buffer r ≡ refused 11
+  unfolding rowAnswer
+  row-bad h = go (goodRow buffer r) refl
+    where
+      go : (t : Bool) → goodRow buffer r ≡ t → pick t (questionOf ρ (r .kind) (take (r .size) (drop (r .start) buffer)) o) (refused 11) ≡ refused 11
+      go false p = refl
+      go true p =
+          let f = both-true (both (leb 1 (r .kind)) (leb (r .kind) 4)) (leb (r .start + r .size) (length buffer)) p in
+          let g = both-true (leb 1 (r .kind)) (leb (r .kind) 4) (f .0) in
+          absurd (h (record { low = leb-true 1 (r .kind) (g .0); high = leb-true (r .kind) 4 (g .1); within = leb-true (r .start + r .size) (length buffer) (f .1) }))
+
+module _ (ρ : Rule) (s buffer : Bytes) (rows : List Row) (answers : List Answer) where
+  abbrev OwnAnswers : Opened → Batched → Type 0
+  OwnAnswers o b = b .answer .code ≡ 0 → b .rows ≡ map (rowAnswer ρ o buffer) rows
+
+  pub batch-rows : OwnAnswers (opened ρ s) (batch ρ s buffer rows answers)
+  unfolding batch batchOf
+  batch-rows = go (both (leb (length rows) 64) (eqb (length rows) (length answers))) (opened ρ s)
+    where
+      go : (t : Bool) (o : Opened) → OwnAnswers o (pick t (batchOf ρ buffer rows answers o) (record { answer = refused 12; rows = answers }))
+      go true (Book k xs) e = refl
+      go true NoBook e = absurd (omega (arith, e))
+      go false (Book k xs) e = absurd (omega (arith, e))
+      go false NoBook e = absurd (omega (arith, e))

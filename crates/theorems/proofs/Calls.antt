@@ -2,17 +2,20 @@
 -- answer and in every lent byte and row. A statement is the equation of a result with the call's function.
 --     build-settles, check-settles, read-settles, question-settles, batch-settles
 --     read-regardless   what a read leaves at the front of a room does not depend on what the room held
+--     batch-alone       every row of an accepted batch gets what its question alone would get, or 11
+--     batch-regardless  a row's answer does not depend on other rows, or on bytes outside its own span; of these only their number counts
 -- Assumes nothing.
-use Prim.Native.Nat.{ℕ}
-use mathlib.Core.Path.{_≡_, refl, sym, ap, _∙_, subst}
+use Prim.Native.Nat.{ℕ, _+_}
+use mathlib.Core.Path.{_≡_, refl, sym, ap, ap₂, _∙_, subst}
 use mathlib.Core.Bool.{Bool, true, false}
 use mathlib.Core.List.{List, []}
 use lib.Dec.{leb, ltb}
-use lib.ListN.{length, getD, take, drop}
+use lib.ListN.{List·getD-map, length, getD, take, drop}
 use lib.Seq.{take-append-seam}
-use Rattle.words.specs.Words.{Bytes, Rule, pick}
+use Rattle.words.specs.Words.{Bytes, Rule, both, pick}
 use Rattle.format.specs.Book.{Book, NoBook, Opened, opened}
-use Rattle.answers.specs.Calls.{Answer, Batched, Row, Written, batch, build, check, given, over, question, readBack, readBackOf, refused, write}
+use Rattle.answers.specs.Calls.{Answer, Batched, Row, Written, batch, build, check, given, goodRow, over, question, questionOf, readBack, readBackOf, refused, rowAnswer, write}
+use Rattle.answers.proofs.Calls.{batch-rows}
 
 written-settles : (o a b : Written) → a ≡ o → b ≡ o → (a .answer ≡ b .answer) × (a .room ≡ b .room)
 written-settles o a b e f =
@@ -75,3 +78,44 @@ module _ (room other : Bytes) (e : length room ≡ length other) where
               (pick t (write (getD xs position []) other) (record { answer = refused 3; room = other }))
           here true = write-alike (getD xs position [])
           here false = record { answer = refl; front = refl }
+
+-- ---- the rows of a batch
+
+-- a row, and the answer row in its place; past the last one, a row of kind 0, and its answer
+abbrev pub rowAt : List Row → ℕ → Row
+rowAt rows i = getD rows i (record { kind = 0; start = 0; size = 0 })
+
+abbrev pub answerAt : Batched → ℕ → Answer
+answerAt b i = getD (b .rows) i (refused 11)
+
+-- a row's own bytes in the buffer
+abbrev pub spanOf : Bytes → Row → Bytes
+spanOf buffer r = take (r .size) (drop (r .start) buffer)
+
+module _ (ρ : Rule) (s : Bytes) where
+  -- the call is accepted
+  abbrev Accepted : Bytes → List Row → List Answer → Type 0
+  Accepted buffer rows answers = batch ρ s buffer rows answers .answer .code ≡ 0
+
+  module _ (buffer : Bytes) (rows : List Row) (answers : List Answer) (ok : Accepted buffer rows answers) (i : ℕ) where
+    row-is : answerAt (batch ρ s buffer rows answers) i ≡ rowAnswer ρ (opened ρ s) buffer (rowAt rows i)
+    unfolding rowAnswer
+    row-is =
+        ap (λ (l : List Answer). getD l i (refused 11)) (batch-rows ρ s buffer rows answers ok)
+        ∙ List·getD-map (rowAnswer ρ (opened ρ s) buffer) rows i (record { kind = 0; start = 0; size = 0 })
+
+    pub batch-alone : answerAt (batch ρ s buffer rows answers) i
+        ≡ pick (goodRow buffer (rowAt rows i)) (question ρ (rowAt rows i .kind) s (spanOf buffer (rowAt rows i))) (refused 11)
+    unfolding question rowAnswer
+    batch-alone = row-is
+
+  -- another call on the same book, with a buffer of the same length, in which row j is row i, with the same bytes
+  pub batch-regardless : (buffer other : Bytes) (rows others : List Row) (answers places : List Answer) → Accepted buffer rows answers → Accepted other others places
+      → (i j : ℕ) → rowAt rows i ≡ rowAt others j → length buffer ≡ length other → spanOf buffer (rowAt rows i) ≡ spanOf other (rowAt rows i)
+      → answerAt (batch ρ s buffer rows answers) i ≡ answerAt (batch ρ s other others places) j
+  unfolding rowAnswer
+  batch-regardless buffer other rows others answers places ok fine i j same size bytes =
+      let r = rowAt rows i in
+      row-is buffer rows answers ok i
+      ∙ ap₂ (λ (n : ℕ) (q : Bytes). pick (both (both (leb 1 (r .kind)) (leb (r .kind) 4)) (leb (r .start + r .size) n)) (questionOf ρ (r .kind) q (opened ρ s)) (refused 11)) size bytes
+      ∙ ap (rowAnswer ρ (opened ρ s) other) same ∙ sym (row-is other others places fine j)
