@@ -2,3 +2,5 @@
 pub mod Building
 pub mod Reading
 pub mod Asking
+pub mod Batching
+pub mod Walking

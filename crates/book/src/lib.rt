@@ -2,9 +2,11 @@
 // one statement: its answer and all that was lent, as they are when it ends, equal a function of what came in. They are exported for C
 // and Rust; a slice is a pointer and a length.
 ghost use mathlib.Core.Path.{_≡_};
+ghost use mathlib.Core.List.{map};
 ghost use Rattle.words.specs.Words.{plain};
-ghost use Rattle.answers.specs.Calls.{build, check, question as askedOf, readBack};
-ghost use Rattle.book.specs.Answers.{Asking, KindNumber, answered, written};
+ghost use Rattle.format.specs.Book.{opened};
+ghost use Rattle.answers.specs.Calls.{batch, build, check, question as askedOf, readBack, rowAnswer};
+ghost use Rattle.book.specs.Answers.{Accepted, Asking, KindNumber, answered, batched, closedBy, openingOf, rowOf, takesRows, written};
 
 // 0 or the number of a refusal, and two numbers beside it.
 #[repr(C)]
@@ -161,4 +163,109 @@ pub extern "C" fn book_nearest(book: &[u8], question: &[u8]) -> Answer
     ensures { λ r. ⌜ answered r ≡ askedOf plain 4 (now (book .entry)) (now (question .entry)) ⌝ }
 {
     ask_alone(book, 4, question)
+}
+
+// A question of a batch: its kind, and where it stands in the buffer.
+#[repr(C)]
+pub struct Row {
+    pub kind: usize,
+    pub start: usize,
+    pub length: usize,
+}
+
+// How a batch opens: its answer; and where that is no refusal, how many names the book has, in blocks of how many.
+struct Opening {
+    answer: Answer,
+    names: usize,
+    block: usize,
+}
+
+// A batch that is refused.
+fn closed(code: usize) -> Opening
+    ensures { λ r. ⌜ r ≡ closedBy code ⌝ }
+{
+    let answer = refuse(code, 0);
+    Opening {
+        answer,
+        names: 0,
+        block: 0,
+    }
+}
+
+// Whether a batch of so many rows, with so many places for answers, can be asked of these bytes. Refusals: 12, 2.
+fn open_batch(book: &[u8], rows: usize, places: usize) -> Opening
+    ensures { λ r. ⌜ r ≡ openingOf rows (takesRows rows places) (opened plain (now (book .entry))) ⌝ }
+{
+    if 64 < rows {
+        return closed(12);
+    }
+    if rows != places {
+        return closed(12);
+    }
+    let checked = accept::check_book(book);
+    match checked {
+        accept::Checked::Unsound => closed(2),
+        accept::Checked::Sound(n, k) => {
+            let answer = Answer {
+                code: 0,
+                first: rows,
+                second: 0,
+            };
+            Opening {
+                answer,
+                names: n,
+                block: k,
+            }
+        }
+    }
+}
+
+// What a row's question alone would get from a book that the batch's opening has accepted. Refusals: 11, 1, 10.
+fn answer_row(book: &[u8], opening: Opening, questions: &[u8], row: Row) -> Answer
+    requires { ⌜ Accepted (now book) opening ⌝ }
+    ensures { λ r. ⌜ answered r ≡ rowAnswer plain (opened plain (now (book .entry))) (now (questions .entry)) (rowOf row) ⌝ }
+{
+    if row.kind == 0 {
+        return refuse(11, 0);
+    }
+    if 4 < row.kind {
+        return refuse(11, 0);
+    }
+    if questions.len() < row.start {
+        return refuse(11, 0);
+    }
+    if questions.len() - row.start < row.length {
+        return refuse(11, 0);
+    }
+    let start = row.start;
+    let end = start + row.length;
+    ask(
+        book,
+        opening.names,
+        opening.block,
+        row.kind,
+        &questions[start..end],
+    )
+}
+
+// As many answers as rows, each what its row's question alone would get. Refusals: 12, 2; for each row 11, 1, 10, and the others go on.
+#[no_mangle]
+pub extern "C" fn book_batch(
+    book: &[u8],
+    questions: &[u8],
+    rows: &[Row],
+    answers: &mut [Answer],
+) -> Answer
+    ensures { λ r. ⌜ batched r (now (answers .exit)) ≡ batch plain (now (book .entry)) (now (questions .entry)) (map rowOf (now (rows .entry))) (map answered (now (answers .entry))) ⌝ }
+{
+    let opening = open_batch(book, rows.len(), answers.len());
+    if opening.answer.code != 0 {
+        return opening.answer;
+    }
+    let mut i = 0;
+    while i < rows.len() {
+        answers[i] = answer_row(book, opening, questions, rows[i]);
+        i += 1;
+    }
+    opening.answer
 }

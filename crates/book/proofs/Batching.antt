@@ -1,0 +1,171 @@
+-- How a batch goes, by the ways that its parts go.
+--     closed-is                  an opening that refuses
+--     crowded, unsound-opens, sound-opens      too many rows, or unequal numbers; no book; a book of n names in blocks of k
+--     row-refused, row-answered  a row that can't be asked, and one that can
+--     filled, length-filled      the answer rows after i turns: the first i answers are stored, and the rest are as they were; as many as before
+--     opening-accepts            what an opening that refuses nothing has shown
+--     batch-refused, batch-answered      the call's equation, where the opening refuses and where it doesn't
+-- Assumes nothing.
+use Prim.Native.Nat.{ℕ, zero, suc, _+_, _-_, _<_, _≤_}
+use native.Mathlib.Nat.{eq-or-lt-of-le, le-of-suc-le-suc, not-suc-le-zero}
+use native.Mathlib.Omega.{arith}
+use mathlib.Core.Path.{_≡_, _∙_, ap, ap₂, refl, subst, sym}
+use mathlib.Core.Bool.{Bool, false, true}
+use mathlib.Core.List.{List, map, map-map}
+use mathlib.Core.Logic.{⊎-elim}
+use lib.Dec.{eqb, leb}
+use lib.ListN.{List·getD-map, drop, getD, length, length-map, length-set, set, take}
+use lib.Seq.{ext-getD, getD-set-other, getD-set-same}
+use borrow.Author.Tests.{eq-eqb, eqb-true, le-leb, leb-true}
+use Rattle.words.specs.Words.{Bytes, pick, plain}
+use Rattle.words.proofs.Words.{both-true}
+use Rattle.format.specs.Book.{Book, NoBook, Opened, opened}
+use Rattle.answers.specs.Calls.{Answer as Numbers, Batched, Row as Question, batch, batchOf, given, question, questionOf, refused, rowAnswer}
+use Rattle.answers.proofs.Calls.{GoodRow, row-bad, row-good}
+use Rattle.accept.specs.Parts.{checkedOf}
+use Rattle.accept.specs.declared.Checked.the-variants.{Sound, Unsound}
+use Rattle.book.specs.Answers.{Accepted, answered, batched, closedBy, openingOf, rowOf, takesRows}
+use Rattle.book.specs.declared.Answer.{Answer}
+use Rattle.book.specs.declared.Opening.{Opening}
+use Rattle.book.specs.declared.Row.{Row}
+use Rattle.book.proofs.Reading.{no-book}
+
+-- ---- how a batch opens
+
+-- an opening that refuses nothing
+abbrev accepting : ℕ → ℕ → ℕ → Opening
+accepting rows n k = record { answer = record { code = 0; first = rows; second = 0 }; names = n; block = k }
+
+abbrev pub answerOf : Numbers → Answer
+answerOf a = record { code = a .code; first = a .first; second = a .second }
+
+pub closed-is : (r : Answer) (code : ℕ) → answered r ≡ refused code → record { answer = r; names = 0; block = 0 } ≡ closedBy code
+closed-is r code e = ap (λ (a : Numbers). record { answer = answerOf a; names = 0; block = 0 }) e
+
+module _ (b : Bytes) (rows places : ℕ) where
+  pub crowded : (r : Opening) → r ≡ closedBy 12 → (rows ≤ 64 → rows ≡ places → ⊥) → r ≡ openingOf rows (takesRows rows places) (opened plain b)
+  unfolding openingOf
+  crowded r e h = e ∙ go (takesRows rows places) refl (opened plain b)
+    where
+      go : (t : Bool) → takesRows rows places ≡ t → (o : Opened) → closedBy 12 ≡ openingOf rows t o
+      go true p o = let f = both-true (leb rows 64) (eqb rows places) p in absurd (h (leb-true rows 64 (f .0)) (eqb-true rows places (f .1)))
+      go false p NoBook = refl
+      go false p (Book k xs) = refl
+
+  module _ (few : rows ≤ 64) (equal : rows ≡ places) where
+    taken : openingOf rows (takesRows rows places) (opened plain b) ≡ openingOf rows true (opened plain b)
+    taken = rw (le-leb rows 64 few, eq-eqb rows places equal) refl
+
+    pub unsound-opens : (r : Opening) → r ≡ closedBy 2 → Unsound ≡ checkedOf (opened plain b) → r ≡ openingOf rows (takesRows rows places) (opened plain b)
+    unfolding openingOf
+    unsound-opens r e s = e ∙ sym (taken ∙ ap (openingOf rows true) (no-book b s))
+
+    pub sound-opens : (n k : ℕ) → Sound n k ≡ checkedOf (opened plain b) → accepting rows n k ≡ openingOf rows (takesRows rows places) (opened plain b)
+    unfolding openingOf
+    sound-opens n k s = go (opened plain b) s ∙ sym taken
+      where
+        go : (o : Opened) → Sound n k ≡ checkedOf o → accepting rows n k ≡ openingOf rows true o
+        go NoBook q = absurd (let z : _≡_ {A = ℕ} 0 1 = cc in omega arith)
+        go (Book j xs) q = let nx : n ≡ length xs = cc in let kj : k ≡ j = cc in ap₂ (λ (x y : ℕ). accepting rows x y) nx kj
+
+-- ---- what a row gets
+
+module _ (b buffer : Bytes) (row : Question) (r : Answer) where
+  pub row-refused : answered r ≡ refused 11 → (GoodRow buffer row → ⊥) → answered r ≡ rowAnswer plain (opened plain b) buffer row
+  row-refused e h = e ∙ sym (row-bad plain (opened plain b) buffer row h)
+
+  -- its bytes are those from start up to start plus length
+  pub row-answered : GoodRow buffer row → answered r ≡ question plain (row .kind) b (take (row .start + row .size - row .start) (drop (row .start) buffer))
+      → answered r ≡ rowAnswer plain (opened plain b) buffer row
+  unfolding question
+  row-answered h e =
+      let size : row .start + row .size - row .start ≡ row .size = omega arith in
+      e ∙ ap (λ (n : ℕ). questionOf plain (row .kind) (take n (drop (row .start) buffer)) (opened plain b)) size ∙ sym (row-good plain (opened plain b) buffer row h)
+
+-- ---- the answer rows
+
+-- what stands for a row past the last
+abbrev pub noRow : Row
+noRow = record { kind = 0; start = 0; length = 0 }
+
+module _ (f : Row → Answer) (rows : List Row) (old : List Answer) where
+  abbrev pub filled : ℕ → List Answer
+  filled zero = old
+  filled (suc i) = set (filled i) i (f (getD rows i noRow))
+
+  pub length-filled : (i : ℕ) → length (filled i) ≡ length old
+  length-filled zero = refl
+  length-filled (suc i) = length-set (filled i) i (f (getD rows i noRow)) ∙ length-filled i
+
+  -- each answer that is stored is its row's
+  stored : (i j : ℕ) → j < i → i ≤ length old → getD (filled i) j (f noRow) ≡ f (getD rows j noRow)
+  stored zero j lt le = absurd (not-suc-le-zero lt)
+  stored (suc i) j lt le =
+      let x = f (getD rows i noRow) in
+      ⊎-elim
+      (λ (e : j ≡ i). subst (λ (m : ℕ). getD (filled (suc i)) m (f noRow) ≡ f (getD rows m noRow)) (sym e) (getD-set-same (filled i) i x (f noRow) (omega (arith, length-filled i))))
+      (λ (less : j < i). getD-set-other (filled i) i j x (f noRow) (λ e. omega arith) ∙ stored i j less (omega arith))
+      (eq-or-lt-of-le (le-of-suc-le-suc lt))
+
+  filled-all : length rows ≡ length old → filled (length rows) ≡ map f rows
+  filled-all e =
+      ext-getD (f noRow) (filled (length rows)) (map f rows) (length-filled (length rows) ∙ sym e ∙ sym (length-map rows f))
+      (λ i lt. stored (length rows) i (omega (arith, length-filled (length rows))) (omega arith) ∙ sym (List·getD-map f rows i noRow))
+
+-- ---- the call
+
+-- what `answer_row` gives, and what `open_batch` gives
+abbrev pub gets : Bytes → Bytes → Row → Answer
+gets b buffer row = answerOf (rowAnswer plain (opened plain b) buffer (rowOf row))
+
+abbrev pub opening : Bytes → List Row → List Answer → Opening
+opening b rows old = openingOf (length rows) (takesRows (length rows) (length old)) (opened plain b)
+
+module _ (b buffer : Bytes) (rows : List Row) (old : List Answer) where
+  abbrev outcome : Batched
+  outcome = batch plain b buffer (map rowOf rows) (map answered old)
+
+  -- the outcome by whether the rows are taken
+  abbrev decided : Bool → Opened → Batched
+  decided t o = pick t (batchOf plain buffer (map rowOf rows) (map answered old) o) (record { answer = refused 12; rows = map answered old })
+
+  decides : outcome ≡ decided (takesRows (length rows) (length old)) (opened plain b)
+  unfolding batch
+  decides = rw (length-map rows rowOf, length-map old answered) refl
+
+  pub batch-refused : (opening b rows old .answer .code ≡ 0 → ⊥) → batched (opening b rows old .answer) old ≡ outcome
+  unfolding batchOf openingOf
+  batch-refused ne = go (takesRows (length rows) (length old)) (opened plain b) ne ∙ sym decides
+    where
+      go : (t : Bool) (o : Opened) → (openingOf (length rows) t o .answer .code ≡ 0 → ⊥) → batched (openingOf (length rows) t o .answer) old ≡ decided t o
+      go false NoBook h = refl
+      go false (Book k xs) h = refl
+      go true NoBook h = refl
+      go true (Book k xs) h = absurd (h refl)
+
+  pub opening-accepts : opening b rows old .answer .code ≡ 0 → Accepted b (opening b rows old) × (length rows ≡ length old)
+  unfolding openingOf
+  opening-accepts z = go (takesRows (length rows) (length old)) refl (opened plain b) refl z
+    where
+      go : (t : Bool) → takesRows (length rows) (length old) ≡ t → (o : Opened) → opened plain b ≡ o → openingOf (length rows) t o .answer .code ≡ 0
+          → Accepted b (openingOf (length rows) t o) × (length rows ≡ length old)
+      go false p NoBook q e = absurd (omega (arith, e))
+      go false p (Book k xs) q e = absurd (omega (arith, e))
+      go true p NoBook q e = absurd (omega (arith, e))
+      go true p (Book k xs) q e = (record { checked = sym (ap checkedOf q) }, eqb-true (length rows) (length old) (both-true (leb (length rows) 64) (eqb (length rows) (length old)) p .1))
+
+  pub batch-answered : opening b rows old .answer .code ≡ 0 → batched (opening b rows old .answer) (filled (gets b buffer) rows old (length rows)) ≡ outcome
+  unfolding batchOf openingOf
+  batch-answered z = go (takesRows (length rows) (length old)) (opened plain b) refl z ∙ sym decides
+    where
+      answers : (o : Opened) → opened plain b ≡ o → map answered (filled (gets b buffer) rows old (length rows)) ≡ map (rowAnswer plain o buffer) (map rowOf rows)
+      answers o q =
+          ap (map answered) (filled-all (gets b buffer) rows old (opening-accepts z .1)) ∙ map-map answered (gets b buffer) rows
+          ∙ ap (λ (x : Opened). map (λ (row : Row). rowAnswer plain x buffer (rowOf row)) rows) q ∙ sym (map-map (rowAnswer plain o buffer) rowOf rows)
+
+      go : (t : Bool) (o : Opened) → opened plain b ≡ o → openingOf (length rows) t o .answer .code ≡ 0
+          → batched (openingOf (length rows) t o .answer) (filled (gets b buffer) rows old (length rows)) ≡ decided t o
+      go false NoBook q e = absurd (omega (arith, e))
+      go false (Book k xs) q e = absurd (omega (arith, e))
+      go true NoBook q e = absurd (omega (arith, e))
+      go true (Book k xs) q e = ap₂ (λ (n : ℕ) (l : List Numbers). record { answer = given n 0; rows = l }) (sym (length-map rows rowOf)) (answers (Book k xs) q)
