@@ -1,0 +1,2 @@
+-- What the walk of `run` uses.
+pub mod Front
