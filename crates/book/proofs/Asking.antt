@@ -17,7 +17,7 @@ use Rattle.format.specs.Records.{longest}
 use Rattle.answers.specs.Calls.{given, question, questionOf, refused}
 use Rattle.answers.proofs.Calls.{question-given, question-long, question-none}
 use Rattle.answers.specs.Questions.{Pair, answer, ask, count, exact, exactFrom, place, range}
-use Rattle.descent.specs.Vocabulary.{asked, namesOf as openedNames, startIn, wordsIn}
+use Rattle.descent.specs.Vocabulary.{asked, openedNames, startIn, wordsIn}
 use Rattle.descent.proofs.Bytes.{opened-searchable}
 use Rattle.streams.specs.Streams.{namesOf, wordsOf}
 use Rattle.accept.specs.Parts.{checkedOf}

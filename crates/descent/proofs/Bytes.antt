@@ -1,6 +1,5 @@
 -- Every book with names meets what a search asks: opening it gives `Searchable`.
 --     book-searchable, opened-searchable
---     asked-name       the word of the name at a position
 -- Assumes nothing.
 use Prim.Native.Nat.{ℕ, _+_, _*_, _≤_, _<_}
 use native.Mathlib.Omega.{arith}
@@ -10,7 +9,6 @@ use mathlib.Core.List.{List, [], _∷_, _++_, map, append-assoc}
 use lib.ListN.{length, getD, length-append, length-map}
 use Rattle.words.specs.Words.{All, Bytes, InBytes, Lawful, Rises, Rule, Words, cons, nil, nth, word}
 use Rattle.words.proofs.Lists.{all-at}
-use Rattle.words.proofs.Rising.{nth-word}
 use Rattle.format.specs.Book.{Book, Opened, allFields, blockPart, book, entryPart, fits, mark, nodePart, nodeSize, number, numbers, opened}
 use Rattle.format.specs.Nodes.{Node, table}
 use Rattle.format.specs.Records.{longest, mostNames, sound}
@@ -19,7 +17,7 @@ use Rattle.format.proofs.Numbers.{number-past, numbers-at, numbers-length, word
 use Rattle.format.proofs.Records.{rising-sizes, sound-few, sound-rises, sound-rising, word-short}
 use Rattle.format.proofs.Small.{Modest, fields-at, names-bytes, table-small}
 use Rattle.format.proofs.Spans.{table-few}
-use Rattle.descent.specs.Vocabulary.{NodesAt, Searchable, asked, namesOf, noNode, node, startIn, wordsIn}
+use Rattle.descent.specs.Vocabulary.{NodesAt, Searchable, openedNames, noNode, node, startIn, wordsIn}
 
 -- names of bytes give words of small symbols
 modest : (ρ : Rule) → Lawful ρ → (xs : List Bytes) → All (λ x. (1 ≤ length x) × (length x ≤ longest)) xs → All (λ x. All (λ b. b < 256) x) xs
@@ -63,7 +61,7 @@ module _ (ρ : Rule) (ok : Lawful ρ) (k : ℕ) (xs : List Bytes) (fit : fits ρ
   pub book-searchable : Searchable ρ (book ρ k xs) (startIn (book ρ k xs))
   unfolding wordsIn startIn
   book-searchable =
-      let names : wordsIn ρ (book ρ k xs) ≡ map (word ρ) xs = ap (λ (o : Opened). map (word ρ) (namesOf o)) (opened-book ρ k xs fit) in
+      let names : wordsIn ρ (book ρ k xs) ≡ map (word ρ) xs = ap (λ (o : Opened). map (word ρ) (openedNames o)) (opened-book ρ k xs fit) in
       let size : length (wordsIn ρ (book ρ k xs)) ≡ length xs = ap length names ∙ count in
       let few : length xs ≤ mostNames = sound-few ρ xs (f .sound) in
       record {
@@ -80,9 +78,3 @@ pub opened-searchable : (ρ : Rule) → Lawful ρ → (s : Bytes) (k : ℕ) (xs 
 opened-searchable ρ ok s k xs e bytes some =
     let b = book-opened ρ s k xs e in
     subst (λ (t : Bytes). Searchable ρ t (startIn t)) (b .1) (book-searchable ρ ok k xs (b .0) (subst InBytes (sym (b .1)) bytes) some)
-
--- ---- the word of the name at a position, for the caller that rebuilds the name
-
-pub asked-name : (ρ : Rule) (s : Bytes) (i : ℕ) → asked ρ (getD (namesOf (opened ρ s)) i []) ≡ nth (wordsIn ρ s) i
-unfolding asked wordsIn
-asked-name ρ s i = sym (nth-word ρ (namesOf (opened ρ s)) i)

@@ -164,12 +164,12 @@ pub record Located (ws : Words) (q : List ℕ) (n v : ℕ) : Type 0 where
 
 -- ---- the bytes
 
-abbrev pub namesOf : Opened → List Bytes
-namesOf (Book k xs) = xs
-namesOf NoBook = []
+abbrev pub openedNames : Opened → List Bytes
+openedNames (Book k xs) = xs
+openedNames NoBook = []
 
 unfoldable pub wordsIn : Rule → Bytes → Words
-wordsIn ρ s = map (word ρ) (namesOf (opened ρ s))
+wordsIn ρ s = map (word ρ) (openedNames (opened ρ s))
 
 unfoldable pub asked : Rule → Bytes → List ℕ
 asked ρ q = word ρ q

@@ -8,7 +8,7 @@
 --     Blank             what the walk asks of the row of steps
 --     ReadAsk, NameIs   reading a name back: names stand there; the one that is asked for
 -- The laws are in proofs/Reading.antt and proofs/Walking.antt. Assumes nothing: these are definitions.
-use Prim.Native.Nat.{ℕ, _+_, _<_, _≤_}
+use Prim.Native.Nat.{ℕ, _<_, _≤_}
 use mathlib.Core.Path.{_≡_}
 use mathlib.Core.Bool.{Bool, true, false}
 use mathlib.Core.List.{List, []}

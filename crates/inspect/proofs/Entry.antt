@@ -4,7 +4,7 @@
 --     here-fits, here-symbol, here-length       the entry of name i: it ends inside, its name's symbol number d, its name's length
 --     here-next, first-low                      the next name's entry; the first one stores 0
 -- Assumes nothing.
-use Prim.Native.Nat.{ℕ, zero, suc, _+_, _-_, _≤_, _<_}
+use Prim.Native.Nat.{ℕ, suc, _+_, _-_, _≤_, _<_}
 use native.Mathlib.Omega.{arith}
 use mathlib.Core.Path.{_≡_, refl, sym, ap, ap₂, _∙_, subst}
 use mathlib.Core.List.{List, [], _∷_, _++_}

@@ -4,7 +4,7 @@
 --     symbol-past, symbol-here      a name's symbol, by a byte of the list
 -- Assumes nothing.
 use Prim.Native.Nat.{ℕ, zero, suc, _+_, _-_, _*_, _/_, _%_, _≤_, _<_, max, zero-le, pred}
-use native.Mathlib.Nat.{lt-irrefl, not-suc-le-zero, le-of-suc-le-suc}
+use native.Mathlib.Nat.{lt-irrefl, not-suc-le-zero}
 use native.Mathlib.Numerals.{add-one}
 use native.Mathlib.Omega.{arith}
 use mathlib.Core.Path.{_≡_, refl, sym, ap, ap₂, _∙_, subst}
@@ -122,9 +122,6 @@ module _ {s : Bytes} {at len j left : ℕ} {depths ends marks : List ℕ} (a : N
       }
 
   module _ {top count end mark places : ℕ} {room₀ : Bytes} (k : Closing s j left depths ends marks top count end mark places room₀) where
-    pub closing-few : count < 4000
-    closing-few = omega (arith, cur-few (words s) (a .rises) depths ends marks (k .cur), k .written .counted, a .few)
-
     module _ (h : left < getD depths top 0) where
       closes : Closes (words s) (a .rises) depths ends marks (k .cur)
       closes = cur-close (words s) (a .rises) depths ends marks (k .cur) (a .sentinel) h

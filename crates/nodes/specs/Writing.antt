@@ -6,7 +6,7 @@
 -- The laws are in proofs/. Assumes nothing: these are definitions.
 use Prim.Native.Nat.{ℕ, suc, pred, _+_, _*_, _≤_, _<_}
 use mathlib.Core.Path.{_≡_}
-use mathlib.Core.List.{List, [], _∷_}
+use mathlib.Core.List.{List, _∷_}
 use lib.ListN.{length, getD, take, drop}
 use Rattle.words.specs.Words.{Bytes, plain, word, nth, Rises}
 use Rattle.format.specs.Nodes.{Node, table}

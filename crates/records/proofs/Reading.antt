@@ -8,8 +8,8 @@
 --     good-list                  how a list is judged that reads well
 --     no-name, long-name, cut-name, new-ends, byte-below, too-many     and one that is refused
 -- Assumes nothing.
-use Prim.Native.Nat.{ℕ, suc, zero, _+_, _-_, _≤_, _<_, zero-le}
-use native.Mathlib.Nat.{le-of-suc-le-suc, not-suc-le-zero}
+use Prim.Native.Nat.{ℕ, suc, _+_, _-_, _≤_, _<_, zero-le}
+use native.Mathlib.Nat.{not-suc-le-zero}
 use native.Mathlib.Decide.{ℕ-discrete}
 use native.Mathlib.Numerals.{add-one}
 use native.Mathlib.Omega.{arith}
@@ -20,7 +20,7 @@ use lib.Dec.{leb, ltb}
 use lib.ListN.{length, length-map, getD, set, take, drop, length-append, length-take, length-drop, length-set, drop-of-length-le, List·getD-append}
 use lib.Seq.{drop-cons, drop-drop, getD-at, getD-take, getD-drop, getD-set-same, getD-set-other}
 use borrow.Author.Tests.{lt-ltb, le-ltb, le-leb, lt-leb}
-use Rattle.words.specs.Words.{Bytes, Rule, at, both, less, pick, plain, shared, word}
+use Rattle.words.specs.Words.{Bytes, at, both, less, pick, plain, shared, word}
 use Rattle.words.proofs.Words.{at-past, less-by, part-at, plain-injective, shared-comm, shared-le, shared-more, shared-word, word-at}
 use Rattle.format.specs.Records.{Names, Reading, Refused, after, goodLength, mostNames, readFrom, readList}
 use Rattle.format.proofs.Records.{read-skip}

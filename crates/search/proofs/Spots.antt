@@ -19,7 +19,7 @@ use Rattle.words.proofs.Words.{apart, at-past, plain-lawful, shared-le, shared-
 use Rattle.format.specs.Nodes.{table}
 use Rattle.answers.specs.Questions.{Pair as Numbers, ask, count, exact, nearest, place, range, reached}
 use Rattle.answers.proofs.Nearest.{reached-most}
-use Rattle.descent.specs.Vocabulary.{Descended, Highest, Located, Reached, Searchable, Sits, Sought, asked, from, node, upto, wordsIn}
+use Rattle.descent.specs.Vocabulary.{Descended, Highest, Reached, Searchable, Sits, Sought, asked, from, node, upto, wordsIn}
 use Rattle.descent.proofs.Cuts.{exact-here, exact-nowhere, range-none, whole-range}
 use Rattle.descent.proofs.Paths.{edge-after, edge-before, fork-child, fork-end, fork-wide, found, only-reached, passed-sits, reached-is}
 use Rattle.streams.specs.Streams.{namesOf, wordsOf}

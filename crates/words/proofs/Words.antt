@@ -54,11 +54,6 @@ pub shared-other : (a b : ℕ) (x y : List ℕ) → (a ≡ b → ⊥) → shared
 unfolding shared
 shared-other a b x y n = rw (ne-eqb a b n)
 
-pub shared-nil : (x : List ℕ) → shared x [] ≡ 0
-unfolding shared
-shared-nil [] = refl
-shared-nil (a ∷ x) = refl
-
 pub less-same : (a b : ℕ) (x y : List ℕ) → a ≡ b → less (a ∷ x) (b ∷ y) ≡ less x y
 unfolding less
 less-same a b x y e = rw (shared-same a b x y e)

@@ -8,7 +8,7 @@
 --     nth, span                  one word of a list; the words from one position up to another
 --     Rises                      words without the end symbol in them, each below all that follow
 -- The laws are in proofs/Words.antt and proofs/Rising.antt. Assumes nothing: these are definitions.
-use Prim.Native.Nat.{ℕ, zero, suc, _≤_, _<_}
+use Prim.Native.Nat.{ℕ, suc, _≤_, _<_}
 use mathlib.Core.Path.{_≡_}
 use mathlib.Core.Bool.{Bool, true, false}
 use mathlib.Core.List.{List, [], _∷_, map}

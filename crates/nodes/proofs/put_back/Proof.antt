@@ -1,3 +1,5 @@
+-- `nodes::put_back` meets its contract: a record in front of those that are written, where there is a place left.
+-- Assumes nothing.
 use Rattle.nodes.proofs.Writing.{back-full, back-more}
 use native.Mathlib.Omega.{arith}
 use mathlib.Core.Path.{refl}

@@ -1,3 +1,5 @@
+-- `nodes::put_node` meets its contract: ten bytes, stored one by one, are the record's five numbers.
+-- Assumes nothing.
 use Rattle.nodes.proofs.Writing.{ten-stored, five-numbers}
 use mathlib.Core.Path.{sym, _∙_}
 use native.Mathlib.Omega.{arith}

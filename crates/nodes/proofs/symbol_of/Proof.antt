@@ -1,3 +1,5 @@
+-- `nodes::symbol_of` meets its contract: a byte's symbol, or the end symbol.
+-- Assumes nothing.
 use Rattle.nodes.proofs.Writing.{symbol-past, symbol-here}
 use native.Mathlib.Omega.{arith}
 use Prim.Native.Nat.{ℕ, _+_}

@@ -3,7 +3,6 @@
 use Prim.Native.Nat.{ℕ, _≤_, _<_}
 use native.Mathlib.Omega.{arith}
 use borrow.Author.Needs.{needs}
-use borrow.Author.Count.{falls}
 use mathlib.Core.Path.{_≡_, refl, subst}
 use lib.ListN.{getD}
 use Rattle.nodes.specs.Writing.{Closing}

@@ -1,12 +1,11 @@
 -- `build::write_nodes` meets its contract. The loop's invariant is `Rowing`: the names from j on are written. The measure is j.
 -- Assumes nothing.
-use Prim.Native.Nat.{ℕ, suc, _+_, _-_, _≤_, _<_}
+use Prim.Native.Nat.{ℕ, _+_, _-_, _≤_, _<_}
 use native.Mathlib.Omega.{arith}
 use borrow.Author.Needs.{needs}
-use mathlib.Core.Path.{_≡_, refl}
+use mathlib.Core.Path.{refl}
 use mathlib.Core.List.{List}
 use lib.ListN.{getD, set}
-use Rattle.records.specs.Lists.{Ready}
 use Rattle.nodes.specs.Writing.{NameAt, Asked, Shut, Rowing}
 use Rattle.nodes.proofs.Writing.{rowing-start, rowing-room, rowing-steps, rowing-back, rowing-name, rowing-ask, rowing-end, rowing-mark, rowing-left, rowing-slot, rowing-keep, rowing-push, rowing-all}
 use Rattle.nodes.proofs.write_nodes.Statement.{statement}

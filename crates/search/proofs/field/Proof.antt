@@ -1,7 +1,6 @@
 -- `search::field` meets its contract: the table of an accepted book stands where its trailer says.
 -- Assumes nothing.
 use mathlib.Core.Path.{_∙_}
-use native.Mathlib.Omega.{arith}
 use borrow.Author.Needs.{needs}
 use Rattle.search.proofs.field.Statement.{statement}
 use Rattle.search.proofs.field.Tie as tie
