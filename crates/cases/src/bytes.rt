@@ -58,20 +58,39 @@ pub fn fill(room: &mut [u8]) {
 
 // A checksum: two sums modulo 65,521.
 pub struct Sums {
-    // of 1 and the bytes
-    pub bytes: usize,
-    // of what that sum was after each byte
+    // of 1 and the numbers
+    pub numbers: usize,
+    // of what that sum was after each number
     pub sums: usize,
 }
 
+// The checksum of no numbers.
+pub fn none() -> Sums
+    ensures { λ r. ⌜ (r .numbers < 65521) × (r .sums < 65521) ⌝ }
+{
+    Sums {
+        numbers: 1,
+        sums: 0,
+    }
+}
+
+// A checksum with one number more.
+pub fn with(before: Sums, number: usize) -> Sums
+    requires { ⌜ (before .numbers < 65521) × (before .sums < 65521) ⌝ }
+    ensures { λ r. ⌜ (r .numbers < 65521) × (r .sums < 65521) ⌝ }
+{
+    let numbers = (before.numbers + number % 65521) % 65521;
+    let sums = (before.sums + numbers) % 65521;
+    Sums { numbers, sums }
+}
+
+// The checksum of bytes.
 pub fn checksum(s: &[u8]) -> Sums {
-    let mut bytes: usize = 1;
-    let mut sums: usize = 0;
+    let mut sums = none();
     let mut i: usize = 0;
     while i < s.len() {
-        bytes = (bytes + numbers::wide(s[i])) % 65521;
-        sums = (sums + bytes) % 65521;
+        sums = with(sums, numbers::wide(s[i]));
         i += 1;
     }
-    Sums { bytes, sums }
+    sums
 }

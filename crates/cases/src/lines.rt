@@ -1,5 +1,6 @@
 // Lines of numbers on standard output, with one space between two.
 use crate::bytes;
+use crate::bytes::Sums;
 use libc::STDOUT_FILENO;
 
 // The first number of a line.
@@ -19,10 +20,14 @@ pub fn add_answer(answer: book::Answer) {
     add(answer.second);
 }
 
+pub fn add_sums(sums: Sums) {
+    add(sums.numbers);
+    add(sums.sums);
+}
+
 pub fn add_checksum(s: &[u8]) {
-    let checksum = bytes::checksum(s);
-    add(checksum.bytes);
-    add(checksum.sums);
+    let sums = bytes::checksum(s);
+    add_sums(sums);
 }
 
 pub fn end() {

@@ -7,10 +7,13 @@ use Rattle.cases.proofs.bytes.checksum.Statement.{statement}
 use Rattle.cases.proofs.bytes.checksum.Tie as tie
 
 abbrev Inv-loop : tie.InvT-loop
-Inv-loop s bytes₀ sums₀ i₀ bytes sums i = (bytes < 65521) × (sums < 65521)
+Inv-loop s sums₀ i₀ sums i = (sums .numbers < 65521) × (sums .sums < 65521)
 
 abbrev μ-loop : tie.MeasureT-loop
-μ-loop s bytes₀ sums₀ i₀ bytes sums i = length s - i
+μ-loop s sums₀ i₀ sums i = length s - i
+
+none-requires : tie.Need-none-requires Inv-loop μ-loop
+none-requires c κs = search needs
 
 loop-holds : tie.Need-loop-holds Inv-loop μ-loop
 loop-holds c = search needs
@@ -21,11 +24,8 @@ shared-slice-read-wide c = search needs
 wide-requires : tie.Need-wide-requires Inv-loop μ-loop
 wide-requires c κs = search needs
 
-add-bytes : tie.Need-add-bytes Inv-loop μ-loop
-add-bytes c = search needs
-
-add-sums : tie.Need-add-sums Inv-loop μ-loop
-add-sums c = search needs
+with-requires : tie.Need-with-requires Inv-loop μ-loop
+with-requires c κs = search needs
 
 add-i : tie.Need-add-i Inv-loop μ-loop
 add-i c = search needs
@@ -45,11 +45,11 @@ checksum-spec =
     (tie.spec
     Inv-loop
     μ-loop
+    none-requires
     loop-holds
     shared-slice-read-wide
     wide-requires
-    add-bytes
-    add-sums
+    with-requires
     add-i
     loop-less
     loop-again
