@@ -1,6 +1,7 @@
 // Runs the cases that the second program wrote and prints what the proved calls give: one line for a case. The gate holds the lines to
 // the file `stdout`, which the second program wrote too. Each set of cases has a file and a module here.
 mod asking;
+mod batching;
 mod building;
 mod bytes;
 mod checking;
@@ -17,4 +18,5 @@ fn main() {
     walk::run(Call::Check, b"check.cases", &mut file);
     walk::run(Call::Read, b"read.cases", &mut file);
     walk::run(Call::Ask, b"ask.cases", &mut file);
+    walk::run(Call::Batch, b"batch.cases", &mut file);
 }

@@ -2,6 +2,7 @@
 ghost use Prim.Native.Nat.{_<_, _≤_};
 ghost use lib.ListN.{length};
 use crate::asking;
+use crate::batching;
 use crate::building;
 use crate::bytes;
 use crate::checking;
@@ -13,6 +14,7 @@ pub enum Call {
     Check,
     Read,
     Ask,
+    Batch,
 }
 
 // Where the book of a case stands in the file, and where the next case does. A case may have no book of its own, but that of the case
@@ -47,6 +49,7 @@ fn run_one(call: Call, number: usize, file: &[u8], at: usize, from: usize, to: u
         }
         Call::Read => reading::run_one(number, file, at, from, to),
         Call::Ask => asking::run_one(number, file, at, from, to),
+        Call::Batch => batching::run_one(number, file, at, from, to),
     }
 }
 

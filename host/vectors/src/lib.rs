@@ -14,9 +14,11 @@
 //! | [`checking`] | the set of `book_check`, and the format of its file |
 //! | [`reading`] | the set of `book_read`, and the format of its file |
 //! | [`asking`] | the set of the four questions, and the format of its file |
-//! | [`checksum`] | two small numbers that stand for many bytes |
+//! | [`batching`] | the set of `book_batch`, and the format of its file |
+//! | [`checksum`] | two small numbers that stand for many |
 //! | [`lists`] | lists of names by their shape |
 //! | [`questions`] | questions by how they stand to a list's names |
+//! | [`batches`] | a buffer of questions, and rows that point into it |
 //! | [`pieces`] | a book in pieces, to be put together wrongly |
 //! | [`damage`] | ways to spoil a list or a book |
 //! | [`rooms`] | rooms before and after a call |
@@ -29,6 +31,8 @@
 #![warn(missing_docs)]
 
 pub mod asking;
+pub mod batches;
+pub mod batching;
 pub mod building;
 pub mod checking;
 pub mod checksum;
@@ -60,7 +64,13 @@ pub struct Set {
 }
 
 /// Every set, in the order in which a program runs them.
-pub const SETS: [Set; 4] = [building::SET, checking::SET, reading::SET, asking::SET];
+pub const SETS: [Set; 5] = [
+    building::SET,
+    checking::SET,
+    reading::SET,
+    asking::SET,
+    batching::SET,
+];
 
 impl Set {
     /// The file of cases: one record after the other, from first to last byte.
