@@ -13,7 +13,8 @@
 
 pub mod raw;
 
-/// What every call gives back, as the archive lays it out.
+/// What every call gives back, and what an answer row of a batch holds, as the
+/// archive lays it out.
 #[repr(C)]
 #[derive(Clone, Copy, Debug, PartialEq, Eq, Default)]
 pub struct Answer {
@@ -23,6 +24,18 @@ pub struct Answer {
     pub first: usize,
     /// The second number of the answer.
     pub second: usize,
+}
+
+/// A question row of a batch, as the archive lays it out.
+#[repr(C)]
+#[derive(Clone, Copy, Debug, PartialEq, Eq, Default)]
+pub struct Row {
+    /// 1 exact, 2 place, 3 range, 4 nearest.
+    pub kind: usize,
+    /// Where the question begins in the buffer.
+    pub start: usize,
+    /// How many bytes the question has.
+    pub length: usize,
 }
 
 /// Builds a book from list records into the room: (0, its length, 0), or a
@@ -94,4 +107,25 @@ pub fn book_nearest(book: &[u8], question: &[u8]) -> Answer {
     // SAFETY: each pointer comes with the length of its own slice, and nothing
     // is written.
     unsafe { raw::book_nearest(book.as_ptr(), book.len(), question.as_ptr(), question.len()) }
+}
+
+/// Asks a batch: (0, how many rows it has, 0), and each answer row is what its
+/// row's question alone would get, or refusal 11; or refusal 12 or 2, and then
+/// the answer rows are as they were.
+pub fn book_batch(book: &[u8], questions: &[u8], rows: &[Row], answers: &mut [Answer]) -> Answer {
+    // SAFETY: each pointer comes with the length of its own slice, and both
+    // structs are laid out as the archive's. The answers are borrowed for this
+    // call alone, so they do not overlap the rest.
+    unsafe {
+        raw::book_batch(
+            book.as_ptr(),
+            book.len(),
+            questions.as_ptr(),
+            questions.len(),
+            rows.as_ptr(),
+            rows.len(),
+            answers.as_mut_ptr(),
+            answers.len(),
+        )
+    }
 }

@@ -36,6 +36,7 @@ macro_rules! exported {
             /// Every pointer must be good for as many items as the length after
             /// it says, and what is written to may overlap nothing else.
             #[inline]
+            #[allow(clippy::too_many_arguments)]
             pub unsafe fn $call($($word: $kind),*) -> Answer {
                 #[cfg(target_arch = "x86_64")]
                 return archive::$call($($word),*);
@@ -66,4 +67,15 @@ exported! {
     fn book_range(book: *const u8, book_len: usize, question: *const u8, question_len: usize);
     /// Asks for a name that shares most with a question.
     fn book_nearest(book: *const u8, book_len: usize, question: *const u8, question_len: usize);
+    /// Asks a batch of questions.
+    fn book_batch(
+        book: *const u8,
+        book_len: usize,
+        questions: *const u8,
+        questions_len: usize,
+        rows: *const crate::Row,
+        rows_len: usize,
+        answers: *mut crate::Answer,
+        answers_len: usize,
+    );
 }

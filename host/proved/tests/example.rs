@@ -2,7 +2,8 @@
 //! or a wrong archive shows at once.
 
 use proved::{
-    book_build, book_check, book_exact, book_nearest, book_place, book_range, book_read, Answer,
+    book_batch, book_build, book_check, book_exact, book_nearest, book_place, book_range,
+    book_read, Answer, Row,
 };
 
 const LIST: &[u8] = b"\x03Mar\x06Marina\x0DMarket Square";
@@ -125,4 +126,83 @@ fn a_question_is_refused_with_2_then_1_then_10() {
         assert_eq!(ask(&no_names, b"Mar"), answer(0, 0, 0));
     }
     assert_eq!(book_nearest(&no_names, b"Mar"), answer(10, 0, 0));
+}
+
+/// A row of a batch.
+fn row(kind: usize, start: usize, length: usize) -> Row {
+    Row {
+        kind,
+        start,
+        length,
+    }
+}
+
+/// What an answer row holds before a call.
+const UNSET: Answer = Answer {
+    code: 77,
+    first: 78,
+    second: 79,
+};
+
+#[test]
+fn the_twelve_rows_of_document_01_are_answered_as_one_batch() {
+    let questions = b"MarinaMarkMaximMangoMasZoo";
+    let rows = [
+        (row(1, 0, 6), 1, 1),  // Marina
+        (row(1, 0, 5), 0, 0),  // Marin
+        (row(2, 0, 0), 0, 0),  // the empty question
+        (row(2, 6, 4), 2, 0),  // Mark
+        (row(2, 10, 5), 3, 0), // Maxim
+        (row(3, 0, 3), 0, 3),  // Mar
+        (row(3, 6, 4), 2, 1),  // Mark
+        (row(3, 20, 3), 3, 0), // Mas
+        (row(4, 15, 5), 0, 2), // Mango
+        (row(4, 10, 5), 1, 2), // Maxim
+        (row(4, 23, 3), 0, 0), // Zoo
+        (row(4, 0, 1), 0, 1),  // M
+    ];
+    let asked = rows.map(|(row, _, _)| row);
+    let expected = rows.map(|(_, first, second)| answer(0, first, second));
+    for book in [&book()[..], &book_of_80()] {
+        let mut answers = [UNSET; 12];
+        let answered = book_batch(book, questions, &asked, &mut answers);
+        assert_eq!(answered, answer(0, 12, 0));
+        assert_eq!(answers, expected);
+    }
+}
+
+#[test]
+fn a_refused_row_does_not_end_its_batch() {
+    let rows = [
+        row(1, 0, 3),
+        row(5, 0, 3),
+        row(3, 3, 1),
+        row(3, usize::MAX, 4),
+        row(2, 3, 0),
+    ];
+    let mut answers = [UNSET; 5];
+    let answered = book_batch(&book(), b"Mar", &rows, &mut answers);
+    assert_eq!(answered, answer(0, 5, 0));
+    let refused = answer(11, 0, 0);
+    let expected = [answer(0, 0, 1), refused, refused, refused, answer(0, 0, 0)];
+    assert_eq!(answers, expected);
+}
+
+#[test]
+fn a_refused_batch_leaves_the_answer_rows_as_they_were() {
+    let mut answers = [UNSET; 65];
+    let rows = [row(1, 0, 3); 65];
+    let batches = [
+        (65, 65, 12),
+        (64, 65, 12),
+        (0, 1, 12),
+        (1, 0, 12),
+        (64, 64, 2),
+    ];
+    for (asked, places, code) in batches {
+        let places = &mut answers[..places];
+        let answered = book_batch(&book()[1..], b"Mar", &rows[..asked], places);
+        assert_eq!(answered, answer(code, 0, 0));
+    }
+    assert_eq!(answers, [UNSET; 65]);
 }
