@@ -1,13 +1,14 @@
 //! The proved library against the second program, on random calls.
 //!
 //! Every case makes one call of both with the same bytes and numbers, and
-//! compares the answer and all lent bytes. The seed is printed first; the same
+//! compares the answer and all lent bytes and rows. The seed is printed first; the same
 //! seed gives the same cases. A difference is printed with the whole case, and
 //! the exit status is then 1.
 //!
 //! Another call is a module with one function, and one more line in [`KINDS`].
 
 mod asking;
+mod batching;
 mod books;
 mod building;
 mod checking;
@@ -34,7 +35,7 @@ pub struct Kind {
 }
 
 /// Every kind of call, as often as the others.
-const KINDS: [Kind; 7] = [
+const KINDS: [Kind; 8] = [
     Kind {
         name: "build",
         run: building::run,
@@ -62,6 +63,10 @@ const KINDS: [Kind; 7] = [
     Kind {
         name: "nearest",
         run: asking::nearest,
+    },
+    Kind {
+        name: "batch",
+        run: batching::run,
     },
 ];
 
