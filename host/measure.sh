@@ -7,6 +7,7 @@
 #   host/measure.sh exact BOOKFILE QUESTION       of book_exact with that question to that book
 #   host/measure.sh place|range|nearest ..        of book_place, book_range, book_nearest, as for exact
 #   host/measure.sh questions BOOKFILE            of mixed questions to that book, less those of its check
+#   host/measure.sh batch BOOKFILE                of book_batch with 64 mixed questions to that book, and of each of them alone
 #
 # A question is a text, or `hex:` and two digits for each byte. `vectors lists FOLDER` and `vectors books FOLDER K` write files to measure
 # with. The words go to the program `bench`. The archive is the one that MISTROGU_ARCHIVE names, or a new one from archive.sh.
@@ -15,6 +16,10 @@
 # name by one byte, and 20 strangers. Each is asked in all four kinds, and every call is counted by itself. Since a call checks the book
 # before it answers, the count of book_check on the same book is taken off. For each kind, and for all, it prints the average of what
 # is left, the most, and the question that took the most.
+#
+# `batch` takes 64 of these questions from all over the mix, 16 in each kind, asks them as one batch, and then each by a call of its own,
+# which checks the book again. It prints the instructions of the batch, those of the others, and how many times the average of the others
+# the batch took.
 set -eu
 [ $# -ge 1 ] || { sed -n '2,/^set /s/^# \{0,1\}//p' "$0" >&2; exit 2; }
 call=book_$1
@@ -44,21 +49,29 @@ one_call() {
         END { if (!found) { print call " is not in the profile" > "/dev/stderr"; exit 1 } }'
 }
 
-# Of mixed questions. Only what is inside the calls is counted, and a profile is written at the end of each: profile.1 for the check, then
-# one for each question, in the order of the lines that `bench` prints.
-mixed_questions() {
+# Of each of many calls: writes the line that `bench` prints for it, behind its instructions, to the file `counts`. Only what is inside the
+# calls is counted, and a profile is written at the end of each: profile.1 for the first, and so on.
+each_call() {
     local number=0 line
     profiled --toggle-collect='book_*' --dump-after='*measured_*' -- "$@" >"$work/calls"
     while IFS= read -r line; do
         number=$((number + 1))
         echo "$(sed -n 's/^totals: //p' "$profile.$number") $line"
-    done <"$work/calls" | awk '
+    done <"$work/calls" >"$work/counts"
+}
+
+# What is done first with such a line.
+counted='$1 !~ /^[1-9][0-9]*$/ { print "a call is not in the profile: " $0 > "/dev/stderr"; failed = 1; exit 1 }'
+
+# Of mixed questions: the check, then each question.
+mixed_questions() {
+    each_call "$@"
+    awk "$counted"'
         # instructions, kind, the word answer, its three numbers and a colon, the question
         function count(kind, cost, question) {
             if (!calls[kind]++ || cost > most[kind]) { most[kind] = cost; dearest[kind] = question }
             sum[kind] += cost
         }
-        $1 !~ /^[1-9][0-9]*$/ { print "a call is not in the profile: " $0 > "/dev/stderr"; failed = 1; exit 1 }
         NR == 1 { check = $1; print "book_check: " check " instructions, which are taken off below"; next }
         {
             question = $0; sub(/^[^:]*: /, "", question)
@@ -73,7 +86,29 @@ mixed_questions() {
                 printf "%s: %d questions, %.0f instructions on average, %d at most, for %s\n",
                     kind, calls[kind], sum[kind] / calls[kind], most[kind], dearest[kind]
             }
-        }'
+        }' "$work/counts"
 }
 
-if [ "$1" = questions ]; then mixed_questions "$@"; else one_call "$@"; fi
+# Of a batch, then each of its questions.
+one_batch() {
+    each_call together "$@"
+    awk "$counted"'
+        NR == 1 { batch = $1; next }
+        NR == 2 { least = $1; most = $1 }
+        $1 < least { least = $1 }
+        $1 > most { most = $1 }
+        { sum += $1 }
+        END {
+            if (failed) exit 1
+            alone = NR - 1
+            printf "book_batch: %d instructions for %d questions\n", batch, alone
+            printf "each alone: %.0f instructions on average, %d to %d\n", sum / alone, least, most
+            printf "the batch takes %.3f times the average of one question, %.3f times the least\n", batch * alone / sum, batch / least
+        }' "$work/counts"
+}
+
+case $1 in
+questions) mixed_questions "$@" ;;
+batch) shift && one_batch "$@" ;;
+*) one_call "$@" ;;
+esac

@@ -3,7 +3,15 @@
 use crate::{read_file, Ready};
 
 /// A call that asks a question of a book.
-type Ask<Answer> = fn(&[u8], &[u8]) -> Answer;
+pub type Ask<Answer> = fn(&[u8], &[u8]) -> Answer;
+
+/// The measured calls with their names, in the order of the kinds' numbers.
+pub const KINDS: [(&str, Ask<proved::Answer>); 4] = [
+    ("exact", measured_exact),
+    ("place", measured_place),
+    ("range", measured_range),
+    ("nearest", measured_nearest),
+];
 
 /// Makes `book_exact` ready from a file's name and a question.
 pub fn exact(words: &[String]) -> Result<Ready, String> {
@@ -76,25 +84,25 @@ pub fn shown_question(question: &[u8]) -> String {
 
 /// The call that is measured, and nothing else.
 #[inline(never)]
-pub fn measured_exact(book: &[u8], question: &[u8]) -> proved::Answer {
+fn measured_exact(book: &[u8], question: &[u8]) -> proved::Answer {
     proved::book_exact(book, question)
 }
 
 /// The same for `book_place`.
 #[inline(never)]
-pub fn measured_place(book: &[u8], question: &[u8]) -> proved::Answer {
+fn measured_place(book: &[u8], question: &[u8]) -> proved::Answer {
     proved::book_place(book, question)
 }
 
 /// The same for `book_range`.
 #[inline(never)]
-pub fn measured_range(book: &[u8], question: &[u8]) -> proved::Answer {
+fn measured_range(book: &[u8], question: &[u8]) -> proved::Answer {
     proved::book_range(book, question)
 }
 
 /// The same for `book_nearest`.
 #[inline(never)]
-pub fn measured_nearest(book: &[u8], question: &[u8]) -> proved::Answer {
+fn measured_nearest(book: &[u8], question: &[u8]) -> proved::Answer {
     proved::book_nearest(book, question)
 }
 

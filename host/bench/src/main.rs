@@ -3,13 +3,15 @@
 //! `bench CALL ..` makes the call once. It is made in a function of its own
 //! (for `build` that is `measured_build`), so that a profiler shows what it
 //! took: see measure.sh. `bench stack CALL ..` tells how deep the stack grew.
-//! `bench questions BOOKFILE` checks the book and then asks mixed questions. In
-//! each case the answer is printed, and it has to be the second program's: a
-//! wrong answer is not worth measuring.
+//! `bench questions BOOKFILE` checks the book and then asks mixed questions;
+//! `bench together BOOKFILE` asks some of them as one batch, and then each of
+//! them alone. In each case the answer is printed, and it has to be the second
+//! program's: a wrong answer is not worth measuring.
 //!
 //! Another call is a module with one function, and one more line in [`CALLS`].
 
 mod asking;
+mod batching;
 mod building;
 mod checking;
 mod mixed;
@@ -38,7 +40,7 @@ pub struct Ready {
 }
 
 /// Every call that can be measured.
-const CALLS: [Call; 7] = [
+const CALLS: [Call; 8] = [
     Call {
         name: "build",
         words: "LISTFILE K",
@@ -74,6 +76,11 @@ const CALLS: [Call; 7] = [
         words: "BOOKFILE QUESTION",
         ready: asking::nearest,
     },
+    Call {
+        name: "batch",
+        words: "BOOKFILE",
+        ready: batching::ready,
+    },
 ];
 
 fn main() -> ExitCode {
@@ -99,6 +106,9 @@ fn run(words: &[String]) -> Result<String, String> {
     }
     if words.first().is_some_and(|word| word == "questions") {
         return mixed::run(&words[1..]);
+    }
+    if words.first().is_some_and(|word| word == "together") {
+        return batching::together(&words[1..]);
     }
     let Ready {
         mut measured,
@@ -141,5 +151,6 @@ fn usage() -> String {
         .map(|call| format!("bench [stack] {} {}", call.name, call.words))
         .collect();
     lines.push("bench questions BOOKFILE".to_string());
+    lines.push("bench together BOOKFILE".to_string());
     lines.join("\n")
 }

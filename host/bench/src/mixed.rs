@@ -4,9 +4,7 @@
 //! book, a fifth beginnings of names, a fifth extensions, a fifth miss a name by
 //! one byte, and a fifth are strangers. Each is asked in all four kinds.
 
-use crate::asking::{
-    measured_exact, measured_nearest, measured_place, measured_range, shown_question,
-};
+use crate::asking::{shown_question, KINDS};
 use crate::{checking, read_file, shown};
 use model::names::leading_equal;
 use model::questions::{exact, node_reached, place, range};
@@ -39,37 +37,19 @@ pub fn run(words: &[String]) -> Result<String, String> {
     let checked = shown(checking::measured_check(&book), book_check(&book))?;
     let mut lines = vec![format!("check {checked}")];
     for question in questions(&names) {
-        for (kind, answer, expected) in [
-            (
-                "exact",
-                measured_exact(&book, &question),
-                exact(&names, &question),
-            ),
-            (
-                "place",
-                measured_place(&book, &question),
-                place(&names, &question),
-            ),
-            (
-                "range",
-                measured_range(&book, &question),
-                range(&names, &question),
-            ),
-            (
-                "nearest",
-                measured_nearest(&book, &question),
-                nearest(&question),
-            ),
-        ] {
-            let (first, second) = expected;
-            let answer = shown(
-                answer,
-                Answer {
-                    code: 0,
-                    first,
-                    second,
-                },
-            )?;
+        let pairs = [
+            exact(&names, &question),
+            place(&names, &question),
+            range(&names, &question),
+            nearest(&question),
+        ];
+        for ((kind, ask), (first, second)) in KINDS.into_iter().zip(pairs) {
+            let expected = Answer {
+                code: 0,
+                first,
+                second,
+            };
+            let answer = shown(ask(&book, &question), expected)?;
             lines.push(format!("{kind} {answer}: {}", shown_question(&question)));
         }
     }
@@ -77,7 +57,7 @@ pub fn run(words: &[String]) -> Result<String, String> {
 }
 
 /// The questions of the mix.
-fn questions(names: &Names) -> Names {
+pub fn questions(names: &Names) -> Names {
     let mut random = Random::from_seed(1);
     let shapes = SHAPES.iter().flat_map(|&shape| [shape; EACH]);
     shapes

@@ -1,0 +1,117 @@
+//! `book_batch`, of the book in a file: 64 of the mixed questions, 16 in each
+//! kind.
+
+use crate::asking::{shown_question, KINDS};
+use crate::{mixed, read_file, shown, Ready};
+use model::calls::MOST_ROWS;
+use model::{book_batch, open, Answer};
+use proved::Row;
+use vectors::batches::Batch;
+use vectors::lists::Names;
+
+/// A batch to a book, and what the second program answers.
+struct Prepared {
+    book: Vec<u8>,
+    questions: Vec<u8>,
+    rows: Vec<Row>,
+    expected: Answer,
+    expected_rows: Vec<Answer>,
+}
+
+impl Prepared {
+    /// As many answer rows as there are rows.
+    fn unset_answers(&self) -> Vec<proved::Answer> {
+        vec![proved::Answer::default(); self.rows.len()]
+    }
+}
+
+/// Makes the call ready from a file's name.
+pub fn ready(words: &[String]) -> Result<Ready, String> {
+    let prepared = prepare(words)?;
+    let expected = prepared.expected;
+    let mut answers = prepared.unset_answers();
+    Ok(Ready {
+        measured: Box::new(move || {
+            ask(&prepared, &mut answers).expect("the answer rows are the second program's")
+        }),
+        expected,
+    })
+}
+
+/// Asks the batch, then each of its questions alone: a line for each call, in
+/// the order in which they are made.
+pub fn together(words: &[String]) -> Result<String, String> {
+    let prepared = prepare(words)?;
+    let answer = ask(&prepared, &mut prepared.unset_answers())?;
+    let answer = shown(answer, prepared.expected)?;
+    let mut lines = vec![format!("batch {answer}")];
+    for (row, &expected) in prepared.rows.iter().zip(&prepared.expected_rows) {
+        let question = &prepared.questions[row.start..row.start + row.length];
+        let (kind, ask) = KINDS[row.kind - 1];
+        let answer = shown(ask(&prepared.book, question), expected)?;
+        lines.push(format!("{kind} {answer}: {}", shown_question(question)));
+    }
+    Ok(lines.join("\n"))
+}
+
+/// Makes the batch for the book in a file, and asks the second program.
+fn prepare(words: &[String]) -> Result<Prepared, String> {
+    let [file] = words else {
+        return Err("a batch needs the name of a book file".to_string());
+    };
+    let book = read_file(file)?;
+    let (_, names) = open(&book).ok_or_else(|| format!("{file} is no book"))?;
+    let batch = mixed_batch(&names);
+    let rows = batch.rows();
+    let mut expected_rows = vec![Answer::default(); rows.len()];
+    let expected = book_batch(&book, &batch.questions, &rows, &mut expected_rows);
+    let rows = rows.iter().map(|row| Row {
+        kind: row.kind,
+        start: row.start,
+        length: row.length,
+    });
+    Ok(Prepared {
+        book,
+        questions: batch.questions,
+        rows: rows.collect(),
+        expected,
+        expected_rows,
+    })
+}
+
+/// Questions from all over the mix, one kind after the other.
+fn mixed_batch(names: &Names) -> Batch {
+    let questions = mixed::questions(names);
+    let rows = (0..MOST_ROWS).map(|number| {
+        let question = &questions[number * questions.len() / MOST_ROWS];
+        let kind = 1 + number % KINDS.len();
+        (kind as u64, &question[..])
+    });
+    Batch::of(rows)
+}
+
+/// Makes the call, and gives its answer where all answer rows are right.
+fn ask(prepared: &Prepared, answers: &mut [proved::Answer]) -> Result<proved::Answer, String> {
+    let Prepared {
+        book,
+        questions,
+        rows,
+        ..
+    } = prepared;
+    let answer = measured_batch(book, questions, rows, answers);
+    for (&answer, &expected) in answers.iter().zip(&prepared.expected_rows) {
+        shown(answer, expected)?;
+    }
+    Ok(answer)
+}
+
+/// The call that is measured, and nothing else.
+#[inline(never)]
+fn measured_batch(
+    book: &[u8],
+    questions: &[u8],
+    rows: &[Row],
+    answers: &mut [proved::Answer],
+) -> proved::Answer {
+    proved::book_batch(book, questions, rows, answers)
+}
