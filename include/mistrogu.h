@@ -1,0 +1,239 @@
+/*
+ * Mistrogu: books of stop names.
+ *
+ * A book keeps a strictly rising list of names in at most 65,535 bytes. These
+ * calls build a book, check it, read its names back and answer questions about
+ * them. They are the functions of the archive that `rt staticlib book` writes
+ * (target/staticlib/libbook.a), and each of them is proved to do what stands
+ * over it here, for any bytes and any numbers: bad input gets a refusal.
+ *
+ * NAMES, QUESTIONS AND LISTS
+ *
+ * A name is 1 to 200 bytes of any value, a question 0 to 200. Order is that of
+ * the first byte in which two names differ; a name stands before its own
+ * extensions. Positions count from 0. A list is a run of records without gaps,
+ * each one byte with the length of a name and then the name; it may be empty.
+ *
+ * WHAT A CALL GIVES
+ *
+ * Every call gives three numbers. The code is 0 where the call was accepted,
+ * else the number of a refusal. The two beside it are 0 where nothing else is
+ * said. Where several refusals would fit, the first in the order that stands
+ * over the call is given.
+ *
+ * A refused call changes nothing that was lent to it. An accepted one writes
+ * its output at the front of the lent room and leaves the rest as it was.
+ *
+ * WHAT A CALLER KEEPS
+ *
+ * A run of bytes is a pointer and how many bytes stand there; rows are a pointer
+ * and how many rows stand there. C checks none of what follows, and the proofs
+ * take it for granted:
+ *
+ * - Each pointer is to that much live memory for the whole call. It is never
+ *   null, not even where the length is 0: any other address will do then.
+ * - Nobody else writes to that memory while the call runs. What a call writes
+ *   to (a room, answer rows) overlaps nothing else that is lent to it. What is
+ *   only read may overlap.
+ * - Rows and answers are aligned as C aligns their structs, to 8 bytes. Bytes
+ *   have no alignment.
+ * - No piece of memory is larger than PTRDIFF_MAX bytes.
+ * - There is stack for the call. Measured, not proved: book_build takes 5,400
+ *   bytes, every other call up to 39,000, which it does for names that are each
+ *   the beginning of the next. Real names take 5,000 to 6,000, but bytes from
+ *   strangers may be any book, so 40 KiB should be free.
+ *
+ * The code is for x86-64 with the calling convention of System V (Linux and its
+ * kin); there a struct of three words comes back through memory, which a C or
+ * C++ compiler does by itself. It keeps nothing between calls, asks for no heap,
+ * and calls memcpy and memset and nothing else, so several threads may call at
+ * a time.
+ */
+#ifndef MISTROGU_H
+#define MISTROGU_H
+
+#include <stddef.h>
+#include <stdint.h>
+
+#ifdef __cplusplus
+extern "C" {
+#endif
+
+/* The most bytes of a name, and of a question. */
+#define MISTROGU_LONGEST_NAME 200
+/* The most names of a book. */
+#define MISTROGU_MOST_NAMES 2000
+/* The most bytes of a book. */
+#define MISTROGU_LONGEST_BOOK 65535
+/* The most names of a block; the least is 1. */
+#define MISTROGU_LARGEST_BLOCK 64
+/* The most rows of a batch. */
+#define MISTROGU_MOST_ROWS 64
+
+/* The numbers given back when a call says no. */
+enum mistrogu_refusal {
+    /* The question is longer than 200 bytes. */
+    MISTROGU_QUESTION_TOO_LONG = 1,
+    /* The bytes are no book. */
+    MISTROGU_NO_BOOK = 2,
+    /* The position is at or above the number of names. */
+    MISTROGU_NO_SUCH_POSITION = 3,
+    /* The lent room is shorter than the output. */
+    MISTROGU_ROOM_TOO_SHORT = 4,
+    /* A record has length 0 or above 200, or runs past the list. */
+    MISTROGU_BAD_RECORD = 5,
+    /* A name is not above the one before it. */
+    MISTROGU_NOT_ABOVE = 6,
+    /* The list has a 2,001st name. */
+    MISTROGU_TOO_MANY_NAMES = 7,
+    /* The block size is not 1 to 64. */
+    MISTROGU_BAD_BLOCK_SIZE = 8,
+    /* The book would be longer than 65,535 bytes. */
+    MISTROGU_BOOK_TOO_LONG = 9,
+    /* The nearest name was asked of a book without names. */
+    MISTROGU_NO_NAMES = 10,
+    /* A row's kind is not 1 to 4, or its start plus length is past the buffer. */
+    MISTROGU_BAD_ROW = 11,
+    /* The batch has over 64 rows, or unequal numbers of rows. */
+    MISTROGU_BAD_BATCH = 12
+};
+
+/* The kinds of question, as a batch row tells them. */
+enum mistrogu_kind {
+    MISTROGU_EXACT = 1,
+    MISTROGU_PLACE = 2,
+    MISTROGU_RANGE = 3,
+    MISTROGU_NEAREST = 4
+};
+
+/* What a call gives: 0 or the number of a refusal, and two numbers beside it. */
+struct mistrogu_answer {
+    size_t code;
+    size_t first;
+    size_t second;
+};
+
+/* A question of a batch: its kind, and the span of the buffer that it is. */
+struct mistrogu_row {
+    size_t kind;
+    size_t start;
+    size_t length;
+};
+
+/* Lets a compiler that knows how warn of a null pointer. */
+#if defined(__GNUC__)
+#define MISTROGU_NEVER_NULL __attribute__((nonnull))
+#else
+#define MISTROGU_NEVER_NULL
+#endif
+
+/*
+ * Builds the book of a list, in blocks of so many names, 1 to 64, at the front
+ * of the room. Small blocks make reading a name cheaper, large ones make the
+ * book shorter; 16 is a good middle. A room of MISTROGU_LONGEST_BOOK bytes is
+ * always long enough.
+ *
+ * Accepted: (0, length of the book, 0).
+ * Refused: 8; then, record by record, 5, 6, 7; then 9; then 4. Beside 5, 6 and 7
+ * stands first the number of the record, counted from 0.
+ */
+struct mistrogu_answer book_build(const uint8_t *list, size_t list_length,
+                                  size_t block,
+                                  uint8_t *room, size_t room_length)
+    MISTROGU_NEVER_NULL;
+
+/*
+ * Tells whether bytes are a book: exactly those that book_build writes for some
+ * list and block size. All of the bytes count, so a book with one byte more is
+ * none.
+ *
+ * Accepted: (0, number of names, block size).
+ * Refused: 2.
+ */
+struct mistrogu_answer book_check(const uint8_t *book, size_t book_length)
+    MISTROGU_NEVER_NULL;
+
+/*
+ * Reads the name at a position back, to the front of the room. A room of
+ * MISTROGU_LONGEST_NAME bytes is always long enough. No byte is put behind the
+ * name; a name may hold bytes of 0 itself.
+ *
+ * Accepted: (0, length of the name, 0).
+ * Refused: 2, 3, 4.
+ */
+struct mistrogu_answer book_read(const uint8_t *book, size_t book_length,
+                                 size_t position,
+                                 uint8_t *room, size_t room_length)
+    MISTROGU_NEVER_NULL;
+
+/*
+ * The four questions. Each checks the whole book before it answers, and nearly
+ * all of its time goes there: whoever has several questions asks a batch.
+ */
+
+/*
+ * Asks for the name that equals the question.
+ *
+ * Accepted: (0, position, 1) where there is one, else (0, 0, 0).
+ * Refused: 2, 1.
+ */
+struct mistrogu_answer book_exact(const uint8_t *book, size_t book_length,
+                                  const uint8_t *question, size_t question_length)
+    MISTROGU_NEVER_NULL;
+
+/*
+ * Asks how many names are less than the question.
+ *
+ * Accepted: (0, their number, 0).
+ * Refused: 2, 1.
+ */
+struct mistrogu_answer book_place(const uint8_t *book, size_t book_length,
+                                  const uint8_t *question, size_t question_length)
+    MISTROGU_NEVER_NULL;
+
+/*
+ * Asks which names begin with the question; they stand side by side. The empty
+ * question begins every name.
+ *
+ * Accepted: (0, the question's place, how many names begin with it).
+ * Refused: 2, 1.
+ */
+struct mistrogu_answer book_range(const uint8_t *book, size_t book_length,
+                                  const uint8_t *question, size_t question_length)
+    MISTROGU_NEVER_NULL;
+
+/*
+ * Asks for a name that shares as many leading bytes with the question as any
+ * name does.
+ *
+ * Accepted: (0, its position, how many leading bytes they share).
+ * Refused: 2, 1, 10.
+ */
+struct mistrogu_answer book_nearest(const uint8_t *book, size_t book_length,
+                                    const uint8_t *question, size_t question_length)
+    MISTROGU_NEVER_NULL;
+
+/*
+ * Asks up to 64 questions of one book, which is checked once. Each row's
+ * question is a span of the buffer `questions`; spans may overlap. There are as
+ * many answer rows as rows, and each gets what its question alone would get: no
+ * other row counts, and of the buffer outside its span only the length.
+ *
+ * Accepted: (0, number of rows, 0), and every answer row is written.
+ * Refused: 12, 2.
+ * A row is refused: 11, 1, 10. Its answer row is then (that number, 0, 0), and
+ * the other rows are answered as ever.
+ */
+struct mistrogu_answer book_batch(const uint8_t *book, size_t book_length,
+                                  const uint8_t *questions, size_t questions_length,
+                                  const struct mistrogu_row *rows, size_t row_count,
+                                  struct mistrogu_answer *answers, size_t answer_count)
+    MISTROGU_NEVER_NULL;
+
+#undef MISTROGU_NEVER_NULL
+
+#ifdef __cplusplus
+}
+#endif
+
+#endif
