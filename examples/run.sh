@@ -1,0 +1,54 @@
+#!/usr/bin/env bash
+# Compiles the example in C, links it with the proved library and runs it; then lets a C++ compiler read the header, where there is one.
+#
+#   examples/run.sh [ARCHIVE]        without ARCHIVE: what `rt staticlib book` writes, made anew
+#
+# Each failure ends it with status 1. The library is for x86-64, and there the system's compilers are used (CC and CXX, else cc and
+# c++). Elsewhere the system's compiler only puts in what the example includes; the kit's compiles it for x86-64, and the kit's emulator
+# runs it with the kit's C library. With MISTROGU_KIT=1 that way is taken on x86-64, too, without the emulator.
+set -eu
+archive=${1:+$(realpath "$1")}
+cd "$(dirname "$0")/.."
+if [ -z "$archive" ]; then
+    rt staticlib book >&2
+    archive=target/staticlib/libbook.a
+fi
+
+machine=$(uname -m)
+strict=(-std=c99 -pedantic -Wall -Wextra -Werror)
+work=$(mktemp -d)
+trap 'rm -rf "$work"' EXIT
+
+fail() {
+    echo "examples: $1" >&2
+    exit 1
+}
+
+with_the_system() {
+    "${CC:-cc}" "${strict[@]}" -Iinclude examples/stops.c "$archive" -o "$work/stops" || fail "stops.c could not be compiled"
+    "$work/stops" || fail "the library does not answer stops.c as document 01 says"
+}
+
+# Both compilers have to read the same headers: GNU C 4 is what the kit's says it is.
+with_the_kit() {
+    local kit tools emulator
+    kit=$(dirname "$(dirname "$(rt doc)")")
+    tools=$kit/on/$machine/toolchain
+    emulator=$tools/bin/qemu-x86_64
+    [ -x "$emulator" ] || emulator=
+
+    "${CC:-cc}" -E -std=c99 -U__GNUC__ -D__GNUC__=4 -Iinclude examples/stops.c -o "$work/stops.i" || fail "stops.c could not be read"
+    "$tools/bin/clang" --target=x86_64-unknown-linux-gnu "${strict[@]}" -fPIE -c -x cpp-output "$work/stops.i" -o "$work/stops.o" ||
+        fail "stops.c could not be compiled"
+    "$tools/bin/ld.lld" -pie --dynamic-linker /lib64/ld-linux-x86-64.so.2 "$tools/lib/Scrt1.o" "$tools/lib/crti.o" \
+        "$tools/lib/crtbeginS.o" "$work/stops.o" "$archive" "$tools/lib/libc.so.6" "$tools/lib/libc_nonshared.a" \
+        "$tools/lib/libgcc.a" "$tools/lib/crtendS.o" "$tools/lib/crtn.o" -o "$work/stops" || fail "stops.c could not be linked"
+    ${emulator:+"$emulator"} "$tools/lib/ld-linux-x86-64.so.2" --library-path "$tools/lib" "$work/stops" ||
+        fail "the library does not answer stops.c as document 01 says"
+}
+
+if [ "$machine" = x86_64 ] && [ "${MISTROGU_KIT:-0}" != 1 ]; then with_the_system; else with_the_kit; fi
+
+if command -v "${CXX:-c++}" >/dev/null; then
+    "${CXX:-c++}" -pedantic -Wall -Wextra -Werror -fsyntax-only -x c++ include/mistrogu.h || fail "mistrogu.h is not good C++"
+fi
