@@ -1,0 +1,284 @@
+//! Books of stop names, for programs in Rust.
+//!
+//! A **book** keeps a strictly rising list of names in at most 65,535 bytes. The
+//! calls that build a book, check it, read its names back and answer questions
+//! about them are proved: each does what its text says, for any bytes and any
+//! numbers. This crate gives them types. It needs no heap and no standard
+//! library, and has no unsafe line of its own.
+//!
+//! | You want to | Call |
+//! |---|---|
+//! | make a book | [`build`], from a [`List`] |
+//! | know whether bytes are a book | [`check`] |
+//! | have the name at a position | [`read`] |
+//! | know whether there is such a stop | [`exact`] |
+//! | know where a name would stand | [`place`] |
+//! | have the stops that begin with some letters | [`range`] |
+//! | have a stop as near as any to what was typed | [`nearest`] |
+//! | ask many questions of one book | [`batch`] |
+//!
+//! ```
+//! use mistrogu::{build, check, nearest, range, read, Checked, Nearest};
+//!
+//! let mut room = [0; 100];
+//! let length = build(b"\x03Mar\x06Marina\x0DMarket Square", 2, &mut room)?;
+//! let book = &room[..length];
+//! assert_eq!(check(book), Ok(Checked { names: 3, block: 2 }));
+//!
+//! let mut name = [0; mistrogu::LONGEST_NAME];
+//! assert_eq!(read(book, 2, &mut name), Ok(&b"Market Square"[..]));
+//! assert_eq!(range(book, b"Mark"), Ok(2..3));
+//! assert_eq!(nearest(book, b"Mango"), Ok(Nearest { position: 0, shared: 2 }));
+//! # Ok::<(), mistrogu::Refused>(())
+//! ```
+//!
+//! # Names and order
+//!
+//! A name is 1 to 200 bytes of any value, a question 0 to 200. Order is that of
+//! byte strings: `[u8]`'s own. Positions count from 0. A list is a run of
+//! records, each one byte with the length of a name and then the name.
+//!
+//! # Refusals
+//!
+//! A call that says no gives a [`Refusal`]; where several would fit, the first
+//! in the order that stands with the call. It has then changed nothing that was
+//! lent to it. A call that is accepted writes its output at the front of the
+//! lent room and leaves the rest as it was.
+//!
+//! # What a call costs
+//!
+//! Every call that takes a book checks all of it before anything else, and
+//! nearly all of its time goes there. A [`batch`] does so once for all of its
+//! rows. Calls take up to 39,000 bytes of stack, [`build`] 5,400.
+//!
+//! # Linking
+//!
+//! Which archive is linked says the variable `MISTROGU_ARCHIVE` while the crate
+//! `proved` is compiled: on x86-64 the whole path of what `rt staticlib book`
+//! writes. `host/archive.sh` makes an archive for the machine at hand and prints
+//! that path.
+
+#![no_std]
+#![forbid(unsafe_code)]
+#![warn(missing_docs)]
+
+mod batch;
+mod list;
+mod refusal;
+
+use core::ops::Range;
+
+pub use batch::{batch, reply, row, Kind, Reply};
+pub use list::List;
+pub use proved::{Answer, Row};
+pub use refusal::{Refusal, Refused};
+
+/// The most bytes of a name, and of a question.
+pub const LONGEST_NAME: usize = 200;
+/// The most names of a book.
+pub const MOST_NAMES: usize = 2000;
+/// The most bytes of a book.
+pub const LONGEST_BOOK: usize = 65_535;
+/// The most rows of a batch.
+pub const MOST_ROWS: usize = 64;
+/// The most names of a block; the least is 1.
+pub const LARGEST_BLOCK: usize = 64;
+
+/// What a check tells of a book.
+#[derive(Clone, Copy, Debug, PartialEq, Eq, Hash)]
+pub struct Checked {
+    /// How many names it has.
+    pub names: usize,
+    /// How many names a block of it has; the last block may have fewer.
+    pub block: usize,
+}
+
+/// A name that shares as many leading bytes with a question as any name does.
+#[derive(Clone, Copy, Debug, PartialEq, Eq, Hash)]
+pub struct Nearest {
+    /// The name's position.
+    pub position: usize,
+    /// How many leading bytes the name and the question share.
+    pub shared: usize,
+}
+
+/// The two numbers of an answer, where its code is 0.
+fn accepted(answer: Answer) -> Result<(usize, usize), Refusal> {
+    match answer.code {
+        0 => Ok((answer.first, answer.second)),
+        code => Err(Refusal::from_number(code).expect("the code is 0 or a refusal's number")),
+    }
+}
+
+/// What exact's two numbers say.
+fn found((position, found): (usize, usize)) -> Option<usize> {
+    (found != 0).then_some(position)
+}
+
+/// What range's two numbers say.
+fn span((place, names): (usize, usize)) -> Range<usize> {
+    place..place.saturating_add(names)
+}
+
+/// What nearest's two numbers say.
+fn near((position, shared): (usize, usize)) -> Nearest {
+    Nearest { position, shared }
+}
+
+/// Builds the book of a list, in blocks of so many names, at the front of the
+/// room, and gives the book's length.
+///
+/// Small blocks make reading a name cheaper, large ones make the book shorter;
+/// 16 is a good middle. A room of [`LONGEST_BOOK`] bytes is always long enough.
+///
+/// Refused, in this order: [`BadBlockSize`](Refusal::BadBlockSize); then,
+/// record by record, [`BadRecord`](Refusal::BadRecord),
+/// [`NotAbove`](Refusal::NotAbove), [`TooManyNames`](Refusal::TooManyNames),
+/// with the record's number; then [`BookTooLong`](Refusal::BookTooLong); then
+/// [`RoomTooShort`](Refusal::RoomTooShort).
+///
+/// ```
+/// use mistrogu::{build, Refusal};
+///
+/// let list = b"\x03Mar\x06Marina\x0DMarket Square";
+/// assert_eq!(build(list, 2, &mut [0; 85]), Ok(85));
+/// assert_eq!(build(list, 4, &mut [0; 85]), Ok(80));
+///
+/// let refused = build(list, 2, &mut [0; 84]).unwrap_err();
+/// assert_eq!(refused.refusal, Refusal::RoomTooShort);
+/// ```
+pub fn build(list: &[u8], block: usize, room: &mut [u8]) -> Result<usize, Refused> {
+    let answer = proved::book_build(list, block, room);
+    let (length, _) = accepted(answer).map_err(|refusal| Refused {
+        refusal,
+        record: answer.first,
+    })?;
+    Ok(length)
+}
+
+/// Tells whether bytes are a book: exactly those that [`build`] writes for some
+/// list and block size. All of the bytes count, so a book with one byte more is
+/// none.
+///
+/// Refused: [`NoBook`](Refusal::NoBook).
+///
+/// ```
+/// use mistrogu::{build, check, Checked, Refusal};
+///
+/// let mut room = [0; 100];
+/// let length = build(b"\x03Mar\x06Marina", 16, &mut room)?;
+/// assert_eq!(check(&room[..length]), Ok(Checked { names: 2, block: 16 }));
+/// assert_eq!(check(&room), Err(Refusal::NoBook));
+/// # Ok::<(), mistrogu::Refused>(())
+/// ```
+pub fn check(book: &[u8]) -> Result<Checked, Refusal> {
+    let (names, block) = accepted(proved::book_check(book))?;
+    Ok(Checked { names, block })
+}
+
+/// Reads the name at a position back, to the front of the room, and gives that
+/// part of the room. A room of [`LONGEST_NAME`] bytes is always long enough.
+///
+/// Refused, in this order: [`NoBook`](Refusal::NoBook),
+/// [`NoSuchPosition`](Refusal::NoSuchPosition),
+/// [`RoomTooShort`](Refusal::RoomTooShort).
+///
+/// ```
+/// use mistrogu::{build, read, Refusal};
+///
+/// let mut room = [0; 100];
+/// let length = build(b"\x03Mar\x06Marina", 16, &mut room)?;
+/// let book = &room[..length];
+///
+/// let mut name = [0; 6];
+/// assert_eq!(read(book, 0, &mut name), Ok(&b"Mar"[..]));
+/// assert_eq!(read(book, 1, &mut name), Ok(&b"Marina"[..]));
+/// assert_eq!(read(book, 2, &mut name), Err(Refusal::NoSuchPosition));
+/// # Ok::<(), mistrogu::Refused>(())
+/// ```
+pub fn read<'room>(
+    book: &[u8],
+    position: usize,
+    room: &'room mut [u8],
+) -> Result<&'room [u8], Refusal> {
+    let (length, _) = accepted(proved::book_read(book, position, room))?;
+    Ok(&room[..length])
+}
+
+/// The position of the name that equals the question, if there is one.
+///
+/// Refused, in this order: [`NoBook`](Refusal::NoBook),
+/// [`QuestionTooLong`](Refusal::QuestionTooLong).
+///
+/// ```
+/// use mistrogu::{build, exact};
+///
+/// let mut room = [0; 100];
+/// let length = build(b"\x03Mar\x06Marina", 16, &mut room)?;
+/// assert_eq!(exact(&room[..length], b"Marina"), Ok(Some(1)));
+/// assert_eq!(exact(&room[..length], b"Marin"), Ok(None));
+/// # Ok::<(), mistrogu::Refused>(())
+/// ```
+pub fn exact(book: &[u8], question: &[u8]) -> Result<Option<usize>, Refusal> {
+    accepted(proved::book_exact(book, question)).map(found)
+}
+
+/// How many names are less than the question: the position that it has, or
+/// would have.
+///
+/// Refused, in this order: [`NoBook`](Refusal::NoBook),
+/// [`QuestionTooLong`](Refusal::QuestionTooLong).
+///
+/// ```
+/// use mistrogu::{build, place};
+///
+/// let mut room = [0; 100];
+/// let length = build(b"\x03Mar\x06Marina", 16, &mut room)?;
+/// assert_eq!(place(&room[..length], b"Marin"), Ok(1));
+/// assert_eq!(place(&room[..length], b"Maxim"), Ok(2));
+/// # Ok::<(), mistrogu::Refused>(())
+/// ```
+pub fn place(book: &[u8], question: &[u8]) -> Result<usize, Refusal> {
+    let (place, _) = accepted(proved::book_place(book, question))?;
+    Ok(place)
+}
+
+/// The positions of the names that begin with the question. Where there are
+/// none, the range is empty and stands at the question's place. An empty
+/// question begins every name.
+///
+/// Refused, in this order: [`NoBook`](Refusal::NoBook),
+/// [`QuestionTooLong`](Refusal::QuestionTooLong).
+///
+/// ```
+/// use mistrogu::{build, range};
+///
+/// let mut room = [0; 100];
+/// let length = build(b"\x03Mar\x06Marina", 16, &mut room)?;
+/// assert_eq!(range(&room[..length], b"Mar"), Ok(0..2));
+/// assert_eq!(range(&room[..length], b"Mas"), Ok(2..2));
+/// # Ok::<(), mistrogu::Refused>(())
+/// ```
+pub fn range(book: &[u8], question: &[u8]) -> Result<Range<usize>, Refusal> {
+    accepted(proved::book_range(book, question)).map(span)
+}
+
+/// A name that shares as many leading bytes with the question as any name does,
+/// and how many those are. They may be none.
+///
+/// Refused, in this order: [`NoBook`](Refusal::NoBook),
+/// [`QuestionTooLong`](Refusal::QuestionTooLong),
+/// [`NoNames`](Refusal::NoNames).
+///
+/// ```
+/// use mistrogu::{build, nearest, Nearest};
+///
+/// let mut room = [0; 100];
+/// let length = build(b"\x03Mar\x06Marina", 16, &mut room)?;
+/// let answer = nearest(&room[..length], b"Marine Parade");
+/// assert_eq!(answer, Ok(Nearest { position: 1, shared: 5 }));
+/// # Ok::<(), mistrogu::Refused>(())
+/// ```
+pub fn nearest(book: &[u8], question: &[u8]) -> Result<Nearest, Refusal> {
+    accepted(proved::book_nearest(book, question)).map(near)
+}

@@ -1,0 +1,143 @@
+//! Why a call says no.
+
+use core::error::Error;
+use core::fmt;
+
+/// Why a call says no. Each has the number that document 01 gives it.
+///
+/// ```
+/// use mistrogu::Refusal;
+///
+/// assert_eq!(Refusal::NoBook.number(), 2);
+/// assert_eq!(Refusal::NoBook.to_string(), "the bytes are no book");
+/// ```
+#[derive(Clone, Copy, Debug, PartialEq, Eq, Hash)]
+pub enum Refusal {
+    /// The question is longer than 200 bytes.
+    QuestionTooLong = 1,
+    /// The bytes are no book.
+    NoBook = 2,
+    /// The position is at or above the number of names.
+    NoSuchPosition = 3,
+    /// The lent room is shorter than the output.
+    RoomTooShort = 4,
+    /// A record has length 0 or above 200, or runs past the list.
+    BadRecord = 5,
+    /// A name is not above the one before it.
+    NotAbove = 6,
+    /// The list has a 2,001st name.
+    TooManyNames = 7,
+    /// The block size is not 1 to 64.
+    BadBlockSize = 8,
+    /// The book would be longer than 65,535 bytes.
+    BookTooLong = 9,
+    /// The nearest name was asked of a book without names.
+    NoNames = 10,
+    /// A row's kind is not 1 to 4, or its start plus length is past the buffer.
+    BadRow = 11,
+    /// The batch has over 64 rows, or unequal numbers of rows.
+    BadBatch = 12,
+}
+
+impl Refusal {
+    /// Every refusal, in the order of their numbers.
+    pub const ALL: [Refusal; 12] = [
+        Refusal::QuestionTooLong,
+        Refusal::NoBook,
+        Refusal::NoSuchPosition,
+        Refusal::RoomTooShort,
+        Refusal::BadRecord,
+        Refusal::NotAbove,
+        Refusal::TooManyNames,
+        Refusal::BadBlockSize,
+        Refusal::BookTooLong,
+        Refusal::NoNames,
+        Refusal::BadRow,
+        Refusal::BadBatch,
+    ];
+
+    /// Its number, 1 to 12.
+    pub const fn number(self) -> usize {
+        self as usize
+    }
+
+    /// The refusal of this number, if there is one.
+    ///
+    /// ```
+    /// use mistrogu::Refusal;
+    ///
+    /// assert_eq!(Refusal::from_number(10), Some(Refusal::NoNames));
+    /// assert_eq!(Refusal::from_number(0), None);
+    /// assert_eq!(Refusal::from_number(13), None);
+    /// ```
+    pub fn from_number(number: usize) -> Option<Self> {
+        Self::ALL.get(number.checked_sub(1)?).copied()
+    }
+
+    /// When it is given, as a sentence without capital and full stop.
+    pub const fn sentence(self) -> &'static str {
+        match self {
+            Refusal::QuestionTooLong => "the question is longer than 200 bytes",
+            Refusal::NoBook => "the bytes are no book",
+            Refusal::NoSuchPosition => "the position is at or above the number of names",
+            Refusal::RoomTooShort => "the lent room is shorter than the output",
+            Refusal::BadRecord => "a record has length 0 or above 200, or runs past the list",
+            Refusal::NotAbove => "a name is not above the one before it",
+            Refusal::TooManyNames => "the list has a 2,001st name",
+            Refusal::BadBlockSize => "the block size is not 1 to 64",
+            Refusal::BookTooLong => "the book would be longer than 65,535 bytes",
+            Refusal::NoNames => "the nearest name was asked of a book without names",
+            Refusal::BadRow => {
+                "a row's kind is not 1 to 4, or its start plus length is past the buffer"
+            }
+            Refusal::BadBatch => "the batch has over 64 rows, or unequal numbers of rows",
+        }
+    }
+}
+
+impl fmt::Display for Refusal {
+    fn fmt(&self, out: &mut fmt::Formatter<'_>) -> fmt::Result {
+        out.pad(self.sentence())
+    }
+}
+
+impl Error for Refusal {}
+
+/// What a build says no with.
+///
+/// ```
+/// use mistrogu::{build, Refusal, Refused};
+///
+/// let refused = build(b"\x06Marina\x03Mar", 16, &mut [0; 100]).unwrap_err();
+/// assert_eq!(refused, Refused { refusal: Refusal::NotAbove, record: 1 });
+/// assert_eq!(refused.to_string(), "record 1: a name is not above the one before it");
+/// ```
+#[derive(Clone, Copy, Debug, PartialEq, Eq, Hash)]
+pub struct Refused {
+    /// Why.
+    pub refusal: Refusal,
+    /// The number of the record that is refused, counted from 0. It is told for
+    /// [`Refusal::BadRecord`], [`Refusal::NotAbove`] and
+    /// [`Refusal::TooManyNames`], and 0 for all others.
+    pub record: usize,
+}
+
+impl fmt::Display for Refused {
+    fn fmt(&self, out: &mut fmt::Formatter<'_>) -> fmt::Result {
+        match self.refusal {
+            Refusal::BadRecord | Refusal::NotAbove | Refusal::TooManyNames => {
+                write!(out, "record {}: {}", self.record, self.refusal)
+            }
+            refusal => refusal.fmt(out),
+        }
+    }
+}
+
+impl Error for Refused {}
+
+impl From<Refused> for Refusal {
+    /// The refusal alone, without the record.
+    fn from(refused: Refused) -> Self {
+        refused.refusal
+    }
+}

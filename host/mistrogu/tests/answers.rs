@@ -1,0 +1,175 @@
+//! Document 01's book through the typed calls, one by one and in a batch.
+
+use mistrogu::{
+    batch, build, check, exact, nearest, place, range, read, reply, row, Answer, Checked, Kind,
+    List, Nearest, Refusal, Reply,
+};
+
+const STOPS: [&str; 3] = ["Mar", "Marina", "Market Square"];
+
+/// Document 01's book, of 85 bytes.
+fn book() -> Vec<u8> {
+    let mut lent = [0; 100];
+    let mut list = List::new(&mut lent);
+    for stop in STOPS {
+        list.push(stop.as_bytes()).unwrap();
+    }
+    let mut room = vec![0; 100];
+    let length = build(list.records(), 2, &mut room).unwrap();
+    room.truncate(length);
+    room
+}
+
+/// The book without names.
+fn no_names() -> Vec<u8> {
+    let mut room = vec![0; 16];
+    assert_eq!(build(&[], 64, &mut room), Ok(16));
+    room
+}
+
+/// Document 01's twelve questions and what they get.
+fn asked() -> [(&'static str, Reply); 12] {
+    let near = |position, shared| Reply::Nearest(Nearest { position, shared });
+    [
+        ("Marina", Reply::Exact(Some(1))),
+        ("Marin", Reply::Exact(None)),
+        ("", Reply::Place(0)),
+        ("Mark", Reply::Place(2)),
+        ("Maxim", Reply::Place(3)),
+        ("Mar", Reply::Range(0..3)),
+        ("Mark", Reply::Range(2..3)),
+        ("Mas", Reply::Range(3..3)),
+        ("Mango", near(0, 2)),
+        ("Maxim", near(1, 2)),
+        ("Zoo", near(0, 0)),
+        ("M", near(0, 1)),
+    ]
+}
+
+/// The kind of question that gets such a reply.
+fn kind(reply: &Reply) -> Kind {
+    match reply {
+        Reply::Exact(_) => Kind::Exact,
+        Reply::Place(_) => Kind::Place,
+        Reply::Range(_) => Kind::Range,
+        Reply::Nearest(_) => Kind::Nearest,
+    }
+}
+
+/// Asks by the call of this kind.
+fn ask(kind: Kind, book: &[u8], question: &[u8]) -> Result<Reply, Refusal> {
+    match kind {
+        Kind::Exact => exact(book, question).map(Reply::Exact),
+        Kind::Place => place(book, question).map(Reply::Place),
+        Kind::Range => range(book, question).map(Reply::Range),
+        Kind::Nearest => nearest(book, question).map(Reply::Nearest),
+    }
+}
+
+#[test]
+fn the_book_is_checked_and_its_names_are_read() {
+    let book = book();
+    assert_eq!(book.len(), 85);
+    let checked = check(&book).unwrap();
+    assert_eq!(checked, Checked { names: 3, block: 2 });
+    for (position, stop) in STOPS.iter().enumerate() {
+        let mut room = [0xAA; 20];
+        assert_eq!(read(&book, position, &mut room), Ok(stop.as_bytes()));
+        assert!(room[stop.len()..].iter().all(|&byte| byte == 0xAA));
+    }
+}
+
+#[test]
+fn the_book_without_names_has_16_bytes() {
+    let book = no_names();
+    let checked = Checked {
+        names: 0,
+        block: 64,
+    };
+    assert_eq!(check(&book), Ok(checked));
+    assert_eq!(exact(&book, b"Mar"), Ok(None));
+    assert_eq!(place(&book, b"Mar"), Ok(0));
+    assert_eq!(range(&book, b""), Ok(0..0));
+}
+
+#[test]
+fn the_twelve_questions_are_answered_alone_and_in_a_batch() {
+    let book = book();
+    let (mut questions, mut rows) = (Vec::new(), Vec::new());
+    for (question, expected) in asked() {
+        let kind = kind(&expected);
+        assert_eq!(
+            ask(kind, &book, question.as_bytes()),
+            Ok(expected),
+            "{question}"
+        );
+        let start = questions.len();
+        questions.extend_from_slice(question.as_bytes());
+        rows.push(row(kind, start..questions.len()));
+    }
+    let mut answers = [Answer::default(); 12];
+    assert_eq!(batch(&book, &questions, &rows, &mut answers), Ok(12));
+    for (answer, (question, expected)) in answers.into_iter().zip(asked()) {
+        assert_eq!(reply(kind(&expected), answer), Ok(expected), "{question}");
+    }
+}
+
+#[test]
+fn a_batch_may_have_no_rows_and_64_rows() {
+    let book = book();
+    assert_eq!(batch(&book, &[], &[], &mut []), Ok(0));
+    let rows = [row(Kind::Nearest, 0..1); 64];
+    let mut answers = [Answer::default(); 64];
+    assert_eq!(batch(&book, b"Marina", &rows, &mut answers), Ok(64));
+    for answer in answers {
+        let near = Nearest {
+            position: 0,
+            shared: 1,
+        };
+        assert_eq!(reply(Kind::Nearest, answer), Ok(Reply::Nearest(near)));
+    }
+}
+
+#[test]
+fn bytes_from_0_to_255_are_ordinary() {
+    let mut room = [0; 100];
+    let length = build(b"\x01\x00\x02\x00\x00\x01\xFF\x02\xFF\xFF", 16, &mut room).unwrap();
+    let book = &room[..length];
+    assert_eq!(range(book, b"\x00"), Ok(0..2));
+    assert_eq!(range(book, b"\xFF"), Ok(2..4));
+    assert_eq!(place(book, b"\xFF\xFF\xFF"), Ok(4));
+    assert_eq!(read(book, 1, &mut [0; 2]), Ok(&b"\x00\x00"[..]));
+}
+
+#[test]
+fn kinds_have_the_numbers_1_to_4() {
+    let kinds = [Kind::Exact, Kind::Place, Kind::Range, Kind::Nearest];
+    for (kind, number) in kinds.into_iter().zip(1..) {
+        assert_eq!(kind.number(), number);
+        assert_eq!(Kind::from_number(number), Some(kind));
+        let row = row(kind, 3..7);
+        assert_eq!((row.kind, row.start, row.length), (number, 3, 4));
+    }
+    assert_eq!(Kind::from_number(0), None);
+    assert_eq!(Kind::from_number(5), None);
+}
+
+#[test]
+fn a_list_holds_what_was_pushed() {
+    let mut room = [0xAA; 12];
+    let mut list = List::new(&mut room);
+    assert_eq!(list.records(), b"");
+    assert_eq!(list.push(b""), Err(Refusal::BadRecord));
+    assert_eq!(list.push(&[b'M'; 201]), Err(Refusal::BadRecord));
+    assert_eq!(list.push(&[b'M'; 200]), Err(Refusal::RoomTooShort));
+    assert_eq!(list.push(b"Mar"), Ok(()));
+    assert_eq!(list.push(b"Marinas!"), Err(Refusal::RoomTooShort));
+    assert_eq!(list.push(b"Marinas"), Ok(()));
+    assert_eq!(list.push(b"M"), Err(Refusal::RoomTooShort));
+    assert_eq!(list.records(), b"\x03Mar\x07Marinas");
+
+    let mut room = [0; 201];
+    let mut list = List::new(&mut room);
+    assert_eq!(list.push(&[0xFF; 200]), Ok(()));
+    assert_eq!(list.records()[0], 200);
+}

@@ -1,0 +1,74 @@
+//! What C is told is what Rust is told: `include/mistrogu.h` has the same
+//! names, numbers and sentences.
+
+use mistrogu::{Kind, Refusal};
+
+const HEADER: &str = include_str!("../../../include/mistrogu.h");
+
+/// `NotAbove` as C writes it: `MISTROGU_NOT_ABOVE`.
+fn in_c(name: &str) -> String {
+    let mut written = "MISTROGU".to_string();
+    for letter in name.chars() {
+        if letter.is_uppercase() {
+            written.push('_');
+        }
+        written.push(letter.to_ascii_uppercase());
+    }
+    written
+}
+
+/// The line of the header's constant of this name, and the line over it.
+fn constant(name: &str) -> (&'static str, &'static str) {
+    let lines: Vec<&str> = HEADER.lines().map(str::trim).collect();
+    let is_it = |line: &&str| line.split(' ').any(|word| word == name);
+    let number = lines.iter().position(is_it);
+    let number = number.unwrap_or_else(|| panic!("{name} is not in the header"));
+    (lines[number].trim_end_matches(','), lines[number - 1])
+}
+
+/// A sentence with its capital and full stop, as a comment of C.
+fn comment(sentence: &str) -> String {
+    let (first, rest) = sentence.split_at(1);
+    format!("/* {}{rest}. */", first.to_uppercase())
+}
+
+#[test]
+fn refusals() {
+    for refusal in Refusal::ALL {
+        let name = in_c(&format!("{refusal:?}"));
+        let (line, over) = constant(&name);
+        assert_eq!(line, format!("{name} = {}", refusal.number()));
+        assert_eq!(over, comment(refusal.sentence()));
+    }
+}
+
+#[test]
+fn kinds() {
+    for kind in (1..=4).filter_map(Kind::from_number) {
+        let name = in_c(&format!("{kind:?}"));
+        assert_eq!(constant(&name).0, format!("{name} = {}", kind.number()));
+    }
+}
+
+#[test]
+fn limits() {
+    for (name, limit) in [
+        ("MISTROGU_LONGEST_NAME", mistrogu::LONGEST_NAME),
+        ("MISTROGU_MOST_NAMES", mistrogu::MOST_NAMES),
+        ("MISTROGU_LONGEST_BOOK", mistrogu::LONGEST_BOOK),
+        ("MISTROGU_MOST_ROWS", mistrogu::MOST_ROWS),
+        ("MISTROGU_LARGEST_BLOCK", mistrogu::LARGEST_BLOCK),
+    ] {
+        assert_eq!(constant(name).0, format!("#define {name} {limit}"));
+    }
+}
+
+#[test]
+fn calls() {
+    for call in [
+        "build", "check", "read", "exact", "place", "range", "nearest", "batch",
+    ] {
+        let declared = format!("struct mistrogu_answer book_{call}(const uint8_t *");
+        assert_eq!(HEADER.matches(&declared).count(), 1, "{call}");
+    }
+}

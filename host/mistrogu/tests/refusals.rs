@@ -1,0 +1,217 @@
+//! Every refusal: given by the calls that have it, in their order, with nothing
+//! changed.
+
+use mistrogu::{
+    batch, build, check, exact, nearest, place, range, read, reply, row, Answer, Kind, Refusal,
+    Refused, Row,
+};
+
+const LIST: &[u8] = b"\x03Mar\x06Marina\x0DMarket Square";
+const LONG: [u8; 201] = [b'M'; 201];
+
+/// The book of this list, in blocks of 2.
+fn book_of(list: &[u8]) -> Vec<u8> {
+    let mut room = vec![0; mistrogu::LONGEST_BOOK];
+    let length = build(list, 2, &mut room).unwrap();
+    room.truncate(length);
+    room
+}
+
+/// A list of so many names: 0001, 0002 and so on.
+fn numbered(names: usize) -> Vec<u8> {
+    (1..=names)
+        .flat_map(|number| format!("\x04{number:04}").into_bytes())
+        .collect()
+}
+
+/// Asserts that a build is refused so, and leaves the room as it was.
+fn build_refused(list: &[u8], block: usize, room: usize, refusal: Refusal, record: usize) {
+    let mut room = vec![0xAA; room];
+    let refused = build(list, block, &mut room).unwrap_err();
+    assert_eq!(refused, Refused { refusal, record });
+    assert!(room.iter().all(|&byte| byte == 0xAA));
+}
+
+#[test]
+fn a_build_is_refused_with_8_first() {
+    for block in [0, 65, usize::MAX] {
+        build_refused(LIST, block, 100, Refusal::BadBlockSize, 0);
+        build_refused(b"\0", block, 0, Refusal::BadBlockSize, 0);
+    }
+    for block in [1, 64] {
+        assert!(build(LIST, block, &mut [0; 100]).is_ok());
+    }
+}
+
+#[test]
+fn a_build_is_refused_with_5_and_the_record() {
+    build_refused(b"\0", 2, 100, Refusal::BadRecord, 0);
+    build_refused(b"\x01a\x02b", 2, 100, Refusal::BadRecord, 1);
+    let mut list = vec![200];
+    list.extend_from_slice(&LONG[..200]);
+    assert!(build(&list, 2, &mut [0; 300]).is_ok());
+    list[0] = 201;
+    list.push(b'M');
+    build_refused(&list, 2, 300, Refusal::BadRecord, 0);
+}
+
+#[test]
+fn a_build_is_refused_with_6_and_the_record() {
+    build_refused(b"\x01a\x01c\x01b", 2, 100, Refusal::NotAbove, 2);
+    build_refused(b"\x01a\x01a\0", 2, 100, Refusal::NotAbove, 1);
+}
+
+#[test]
+fn a_build_is_refused_with_7_and_the_record() {
+    let mut list = numbered(2001);
+    build_refused(&list, 2, 0, Refusal::TooManyNames, 2000);
+    list.truncate(5 * 2000);
+    let checked = check(&book_of(&list)).unwrap();
+    assert_eq!(checked.names, mistrogu::MOST_NAMES);
+}
+
+#[test]
+fn a_build_is_refused_with_9_then_4() {
+    let long: Vec<u8> = (0..=255)
+        .flat_map(|first| (0..2).map(move |second| (first, second)))
+        .flat_map(|(first, second)| {
+            let mut record = vec![200, first, second];
+            record.resize(201, b'x');
+            record
+        })
+        .collect();
+    build_refused(&long, 2, 0, Refusal::BookTooLong, 0);
+    build_refused(LIST, 2, 84, Refusal::RoomTooShort, 0);
+    assert_eq!(build(LIST, 2, &mut [0; 85]), Ok(85));
+}
+
+#[test]
+fn a_check_is_refused_with_2() {
+    let book = book_of(LIST);
+    let refused = Err(Refusal::NoBook);
+    assert_eq!(check(&[]), refused);
+    assert_eq!(check(&book[1..]), refused);
+    let mut spoilt = book.clone();
+    spoilt[30] = 1;
+    assert_eq!(check(&spoilt), refused);
+    let mut longer = book;
+    longer.push(0);
+    assert_eq!(check(&longer), refused);
+}
+
+#[test]
+fn a_reading_is_refused_with_2_then_3_then_4() {
+    let book = book_of(LIST);
+    let mut room = [0xAA; 12];
+    assert_eq!(read(&[], 3, &mut room), Err(Refusal::NoBook));
+    for position in [3, usize::MAX] {
+        let refused = Err(Refusal::NoSuchPosition);
+        assert_eq!(read(&book, position, &mut room), refused);
+        assert_eq!(read(&book, position, &mut []), refused);
+    }
+    assert_eq!(read(&book, 2, &mut room), Err(Refusal::RoomTooShort));
+    assert_eq!(room, [0xAA; 12]);
+}
+
+#[test]
+fn a_question_is_refused_with_2_then_1_then_10() {
+    let (book, no_names) = (book_of(LIST), book_of(&[]));
+
+    let refused = Refusal::NoBook;
+    assert_eq!(exact(&book[1..], &LONG), Err(refused));
+    assert_eq!(place(&book[1..], &LONG), Err(refused));
+    assert_eq!(range(&book[1..], &LONG), Err(refused));
+    assert_eq!(nearest(&book[1..], &LONG), Err(refused));
+
+    let refused = Refusal::QuestionTooLong;
+    for book in [&book, &no_names] {
+        assert_eq!(exact(book, &LONG), Err(refused));
+        assert_eq!(place(book, &LONG), Err(refused));
+        assert_eq!(range(book, &LONG), Err(refused));
+        assert_eq!(nearest(book, &LONG), Err(refused));
+    }
+    assert_eq!(exact(&book, &LONG[1..]), Ok(None));
+
+    assert_eq!(nearest(&no_names, b"Mar"), Err(Refusal::NoNames));
+    assert_eq!(exact(&no_names, b"Mar"), Ok(None));
+}
+
+#[test]
+fn a_batch_is_refused_with_12_then_2() {
+    let book = book_of(LIST);
+    let unasked = Answer {
+        code: 77,
+        first: 78,
+        second: 79,
+    };
+    let rows = [row(Kind::Exact, 0..0); 65];
+    let mut answers = [unasked; 65];
+
+    let refused = Err(Refusal::BadBatch);
+    assert_eq!(batch(&book, &[], &rows, &mut answers), refused);
+    assert_eq!(batch(&book, &[], &rows[..2], &mut answers[..1]), refused);
+    assert_eq!(batch(&[], &[], &rows[..1], &mut answers[..2]), refused);
+    assert_eq!(
+        batch(&[], &[], &rows[..2], &mut answers[..2]),
+        Err(Refusal::NoBook)
+    );
+    assert_eq!(answers, [unasked; 65]);
+}
+
+#[test]
+fn a_row_is_refused_with_11_then_1_then_10_and_the_others_go_on() {
+    let no_names = book_of(&[]);
+    let raw = |kind, start, length| Row {
+        kind,
+        start,
+        length,
+    };
+    let cases = [
+        (raw(0, 0, 0), Err(11)),
+        (raw(5, 0, 0), Err(11)),
+        (raw(usize::MAX, 0, 0), Err(11)),
+        (raw(4, 0, 202), Err(11)),
+        (raw(1, 202, 0), Err(11)),
+        (raw(1, usize::MAX, 1), Err(11)),
+        (raw(1, 1, usize::MAX), Err(11)),
+        (raw(4, 0, 201), Err(1)),
+        (raw(1, 0, 201), Err(1)),
+        (raw(4, 0, 200), Err(10)),
+        (raw(4, 201, 0), Err(10)),
+        (raw(1, 0, 200), Ok(())),
+        (raw(3, 201, 0), Ok(())),
+    ];
+    let rows = cases.map(|(row, _)| row);
+    let mut answers = [Answer::default(); 13];
+    assert_eq!(batch(&no_names, &LONG, &rows, &mut answers), Ok(13));
+    for ((row, expected), answer) in cases.into_iter().zip(answers) {
+        let kind = Kind::from_number(row.kind).unwrap_or(Kind::Exact);
+        let replied = reply(kind, answer).map(|_| ());
+        assert_eq!(replied.map_err(Refusal::number), expected, "{row:?}");
+        assert_eq!((answer.first, answer.second), (0, 0), "{row:?}");
+    }
+}
+
+#[test]
+fn refusals_have_the_numbers_1_to_12() {
+    for (refusal, number) in Refusal::ALL.into_iter().zip(1..) {
+        assert_eq!(refusal.number(), number);
+        assert_eq!(Refusal::from_number(number), Some(refusal));
+        assert_eq!(refusal.to_string(), refusal.sentence());
+    }
+    for number in [0, 13, usize::MAX] {
+        assert_eq!(Refusal::from_number(number), None);
+    }
+}
+
+#[test]
+fn a_record_is_told_just_where_it_is_known() {
+    for refusal in Refusal::ALL {
+        let refused = Refused { refusal, record: 7 };
+        let told = refused.to_string();
+        let known = (5..=7).contains(&refusal.number());
+        assert_eq!(told.starts_with("record 7: "), known);
+        assert!(told.ends_with(refusal.sentence()));
+        assert_eq!(Refusal::from(refused), refusal);
+    }
+}
