@@ -204,7 +204,8 @@ struct mistrogu_answer book_range(const uint8_t *book, size_t book_length,
 
 /*
  * Asks for a name that shares as many leading bytes with the question as any
- * name does.
+ * name does. Of several such names the book's nodes lead to one, always the
+ * same, and not always the first: docs/STATEMENTS.md says which.
  *
  * Accepted: (0, its position, how many leading bytes they share).
  * Refused: 2, 1, 10.

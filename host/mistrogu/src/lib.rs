@@ -264,7 +264,9 @@ pub fn range(book: &[u8], question: &[u8]) -> Result<Range<usize>, Refusal> {
 }
 
 /// A name that shares as many leading bytes with the question as any name does,
-/// and how many those are. They may be none.
+/// and how many those are. They may be none. Of several such names the book's
+/// nodes lead to one, always the same, and not always the first:
+/// docs/STATEMENTS.md says which.
 ///
 /// Refused, in this order: [`NoBook`](Refusal::NoBook),
 /// [`QuestionTooLong`](Refusal::QuestionTooLong),
