@@ -23,6 +23,21 @@ impl Prepared {
     fn unset_answers(&self) -> Vec<proved::Answer> {
         vec![proved::Answer::default(); self.rows.len()]
     }
+
+    /// Makes the call.
+    fn ask(&self, answers: &mut [proved::Answer]) -> proved::Answer {
+        measured_batch(&self.book, &self.questions, &self.rows, answers)
+    }
+
+    /// Whether all answer rows are the second program's. It is never inlined, so
+    /// that its frame is not taken for a part of the call's stack.
+    #[inline(never)]
+    fn compare(&self, answers: &[proved::Answer]) -> Result<(), String> {
+        for (&answer, &expected) in answers.iter().zip(&self.expected_rows) {
+            shown(answer, expected)?;
+        }
+        Ok(())
+    }
 }
 
 /// Makes the call ready from a file's name.
@@ -32,7 +47,9 @@ pub fn ready(words: &[String]) -> Result<Ready, String> {
     let mut answers = prepared.unset_answers();
     Ok(Ready {
         measured: Box::new(move || {
-            ask(&prepared, &mut answers).expect("the answer rows are the second program's")
+            let answer = prepared.ask(&mut answers);
+            prepared.compare(&answers).expect("the second program's");
+            answer
         }),
         expected,
     })
@@ -42,8 +59,9 @@ pub fn ready(words: &[String]) -> Result<Ready, String> {
 /// the order in which they are made.
 pub fn together(words: &[String]) -> Result<String, String> {
     let prepared = prepare(words)?;
-    let answer = ask(&prepared, &mut prepared.unset_answers())?;
-    let answer = shown(answer, prepared.expected)?;
+    let mut answers = prepared.unset_answers();
+    let answer = shown(prepared.ask(&mut answers), prepared.expected)?;
+    prepared.compare(&answers)?;
     let mut lines = vec![format!("batch {answer}")];
     for (row, &expected) in prepared.rows.iter().zip(&prepared.expected_rows) {
         let question = &prepared.questions[row.start..row.start + row.length];
@@ -88,21 +106,6 @@ fn mixed_batch(names: &Names) -> Batch {
         (kind as u64, &question[..])
     });
     Batch::of(rows)
-}
-
-/// Makes the call, and gives its answer where all answer rows are right.
-fn ask(prepared: &Prepared, answers: &mut [proved::Answer]) -> Result<proved::Answer, String> {
-    let Prepared {
-        book,
-        questions,
-        rows,
-        ..
-    } = prepared;
-    let answer = measured_batch(book, questions, rows, answers);
-    for (&answer, &expected) in answers.iter().zip(&prepared.expected_rows) {
-        shown(answer, expected)?;
-    }
-    Ok(answer)
 }
 
 /// The call that is measured, and nothing else.
