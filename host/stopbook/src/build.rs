@@ -1,0 +1,295 @@
+//! `stopbook build`: a book from a file with a name on each line.
+
+use crate::args::{Shape, Words};
+use crate::book::Book;
+use crate::files;
+use crate::layout::{LARGEST_BLOCK, LONGEST_BOOK, MOST_NAMES};
+use crate::names::{self, Bad, Double, Names};
+use crate::outcome::{Failure, Outcome, Status, Streams};
+use crate::size::{self, Size};
+use crate::text::{counted, grouped, named};
+use crate::{help, Command};
+use std::ffi::{OsStr, OsString};
+use std::os::unix::ffi::OsStrExt;
+
+/// The command.
+pub const COMMAND: Command = Command {
+    name: "build",
+    shape: Shape {
+        valued: &["-o", "--output", "--block"],
+        flags: &[],
+    },
+    help: help::BUILD,
+    run,
+};
+
+/// The block size where none is given.
+const USUAL_BLOCK: usize = 16;
+/// So much of a names file is read, and no more.
+const LONGEST_FILE: u64 = 64 << 20;
+/// So many lines of a kind are told one by one.
+const MOST_TOLD: usize = 20;
+
+/// Builds a book.
+fn run(words: &Words, streams: &mut Streams) -> Outcome {
+    let input = match words.plain.as_slice() {
+        [input] => input,
+        [] => return Err(Failure::usage("give the file with the names, or -")),
+        [_, extra, ..] => return Err(extra_word(extra)),
+    };
+    let block = read_block(words)?;
+    let output = read_output(words, input)?;
+    files::spare_terminal(&output)?;
+    files::spare_input(input, &output)?;
+    let source = files::input_name(input);
+    let names = read_names(input, &source, streams)?;
+    let book = build(&names, block, &source)?;
+    files::write(&output, book.bytes(), streams)?;
+    let summary = summary(&names, &book, &files::output_name(&output));
+    if files::is_standard(&output) {
+        let _ = streams.err.write_all(summary.as_bytes());
+    } else {
+        streams.out.write_all(summary.as_bytes())?;
+    }
+    Ok(Status::Done)
+}
+
+/// A word too many.
+fn extra_word(word: &OsStr) -> Failure {
+    Failure::usage(format!(
+        "one file of names makes one book; {} is too many",
+        crate::text::shown_os(word)
+    ))
+}
+
+/// The block size.
+fn read_block(words: &Words) -> Result<usize, Failure> {
+    let block = words.number("--block").map_err(Failure::Usage)?;
+    match block.unwrap_or(USUAL_BLOCK) {
+        block @ 1..=LARGEST_BLOCK => Ok(block),
+        other => Err(Failure::usage(format!(
+            "--block takes 1 to 64, not {other}"
+        ))),
+    }
+}
+
+/// Where the book goes.
+fn read_output(words: &Words, input: &OsStr) -> Result<OsString, Failure> {
+    match (words.value("-o"), words.value("--output")) {
+        (Some(_), Some(_)) => Err(Failure::usage("-o and --output are the same; give one")),
+        (Some(output), None) | (None, Some(output)) => Ok(output.to_os_string()),
+        (None, None) => Ok(usual_output(input)),
+    }
+}
+
+/// Without a word on it: `stops.book` for `stops.txt`, and standard output for
+/// standard input.
+fn usual_output(input: &OsStr) -> OsString {
+    if files::is_standard(input) {
+        return input.to_os_string();
+    }
+    let bytes = input.as_bytes();
+    let stem = bytes.strip_suffix(b".txt").unwrap_or(bytes);
+    let mut output = OsStr::from_bytes(stem).to_os_string();
+    output.push(".book");
+    output
+}
+
+/// Reads the names, tells of doubles, and refuses bad lines.
+fn read_names(input: &OsStr, source: &str, streams: &mut Streams) -> Result<Vec<Vec<u8>>, Failure> {
+    let bytes = files::read(input, LONGEST_FILE + 1)?;
+    if bytes.len() as u64 > LONGEST_FILE {
+        let text = format!("{source} has more than 64 MiB, too much for a list of names");
+        return Err(Failure::refused(text));
+    }
+    if names::is_utf16(&bytes) {
+        let text = format!("{source} is UTF-16; save it as UTF-8 and build again");
+        return Err(Failure::refused(text));
+    }
+    let names = names::parse(&bytes);
+    tell_bad(&names.bad, source, streams);
+    tell_doubles(&names.doubles, source, streams);
+    accept(names, source)
+}
+
+/// Names the bad lines.
+fn tell_bad(bad: &[Bad], source: &str, streams: &mut Streams) {
+    for line in bad.iter().take(MOST_TOLD) {
+        streams.note(&format!("{source}, line {}: {}", line.number, line.why));
+    }
+    tell_rest(bad.len(), "bad line", source, streams);
+}
+
+/// Names the doubles, and says how many there are.
+fn tell_doubles(doubles: &[Double], source: &str, streams: &mut Streams) {
+    for double in doubles.iter().take(MOST_TOLD) {
+        let (number, first) = (double.line.number, double.first);
+        let name = named(&double.line.name);
+        streams.note(&format!(
+            "{source}, line {number}: {name} again, as in line {first}; dropped"
+        ));
+    }
+    tell_rest(doubles.len(), "double", source, streams);
+    if !doubles.is_empty() {
+        let count = counted(doubles.len(), "double");
+        streams.note(&format!("{source}: {count} dropped"));
+    }
+}
+
+/// Says how many more there are than were told.
+fn tell_rest(count: usize, noun: &str, source: &str, streams: &mut Streams) {
+    if count > MOST_TOLD {
+        let more = counted(count - MOST_TOLD, &format!("more {noun}"));
+        streams.note(&format!("{source}: and {more}"));
+    }
+}
+
+/// The names, unless a line is bad or there are too many.
+fn accept(names: Names, source: &str) -> Result<Vec<Vec<u8>>, Failure> {
+    if !names.bad.is_empty() {
+        let count = counted(names.bad.len(), "bad line");
+        let text = format!("{source}: {count}, so no book is written; mend them and build again");
+        return Err(Failure::refused(text));
+    }
+    let count = names.rising.len();
+    if count > MOST_NAMES {
+        let (count, over) = (grouped(count), grouped(count - MOST_NAMES));
+        let text = format!(
+            "{source} has {count} names, and 2,000 are the most: {over} too many; \
+             take some out or make two books"
+        );
+        return Err(Failure::refused(text));
+    }
+    Ok(names.rising)
+}
+
+/// Builds the book of these names, and checks it.
+fn build(names: &[Vec<u8>], block: usize, source: &str) -> Result<Book, Failure> {
+    let size = size::size(names, block);
+    let list = names::records(names);
+    let mut room = vec![0; LONGEST_BOOK];
+    let length = match mistrogu::build(&list, block, &mut room) {
+        Ok(length) => length,
+        Err(refused) => {
+            let text = match refused.refusal.number() {
+                9 => too_long(&size, size::fitting_block(names, block)),
+                _ => refused.refusal.to_string(),
+            };
+            return Err(Failure::refused(format!("{source}: {text}")));
+        }
+    };
+    room.truncate(length);
+    Book::of(room, source.to_string())
+        .map_err(|why| Failure::refused(format!("{source}: what was built is no book: {why}")))
+}
+
+/// By how much a book is too long, and what would help.
+fn too_long(size: &Size, fitting: Option<usize>) -> String {
+    let total = size.total();
+    let over = grouped(total.saturating_sub(LONGEST_BOOK));
+    let help = match fitting {
+        Some(block) => format!("it fits with --block {block}"),
+        None => "no block size makes it fit: take names out or make two books".to_string(),
+    };
+    let total = grouped(total);
+    format!("the book would have {total} bytes, and 65,535 are the most: {over} too many; {help}")
+}
+
+/// What is said of a book that was built.
+fn summary(names: &[Vec<u8>], book: &Book, output: &str) -> String {
+    let plain: usize = names.iter().map(|name| 1 + name.len()).sum();
+    let size = size::size(names, book.block());
+    let nodes = book.trailer().nodes;
+    [
+        format!("{output}\n"),
+        format!("  names  {} in blocks of {}\n", names.len(), book.block()),
+        format!(
+            "  bytes  {}: entries {}, tables {}\n",
+            book.bytes().len(),
+            size.entries,
+            size.tables()
+        ),
+        format!("  nodes  {nodes}\n"),
+        format!("  saved  {}\n", saved(plain, &size)),
+    ]
+    .concat()
+}
+
+/// How the entries and the whole book compare with the plain list.
+fn saved(plain: usize, size: &Size) -> String {
+    let (entries, total) = (size.entries, size.total());
+    let first = match plain.checked_sub(entries) {
+        Some(less) => format!(
+            "{less} of the plain list's {plain} bytes{}",
+            percent(less, plain)
+        ),
+        None => format!(
+            "nothing: entries have {} bytes more than the plain list's {plain}",
+            entries - plain
+        ),
+    };
+    let second = match plain.checked_sub(total) {
+        Some(less) => format!("with its tables the book is {less} shorter"),
+        None => format!("with its tables the book is {} longer", total - plain),
+    };
+    format!("{first}; {second}")
+}
+
+/// A part of a whole in percent, in parentheses.
+fn percent(part: usize, whole: usize) -> String {
+    match (100 * part).checked_div(whole) {
+        Some(percent) => format!(" ({percent} %)"),
+        None => String::new(),
+    }
+}
+
+#[cfg(test)]
+mod tests {
+    use super::*;
+
+    #[test]
+    fn the_usual_output_is_never_the_input() {
+        let cases = [
+            ("stops.txt", "stops.book"),
+            ("a/b.c/stops.v2.txt", "a/b.c/stops.v2.book"),
+            ("stops", "stops.book"),
+            ("stops.csv", "stops.csv.book"),
+            ("stops.book", "stops.book.book"),
+            ("-", "-"),
+        ];
+        for (input, output) in cases {
+            assert_eq!(usual_output(OsStr::new(input)), output);
+        }
+    }
+
+    #[test]
+    fn what_is_saved_is_said_both_ways() {
+        let size = Size {
+            entries: 60,
+            blocks: 2,
+            nodes: 10,
+        };
+        let text = saved(100, &size);
+        assert_eq!(
+            text,
+            "40 of the plain list's 100 bytes (40 %); with its tables the book is 12 shorter"
+        );
+        let text = saved(50, &size);
+        assert!(text.starts_with("nothing: entries have 10 bytes more"));
+        assert!(text.ends_with("38 longer"));
+        assert!(!saved(0, &size).contains('%'));
+    }
+
+    #[test]
+    fn a_book_too_long_says_by_how_much() {
+        let size = Size {
+            entries: 65_000,
+            blocks: 500,
+            nodes: 1_000,
+        };
+        let text = too_long(&size, Some(30));
+        assert!(text.contains("66,516 bytes, and 65,535 are the most: 981 too many"));
+        assert!(text.ends_with("--block 30"));
+        assert!(too_long(&size, None).contains("take names out"));
+    }
+}

@@ -1,0 +1,113 @@
+//! What `--help` prints.
+
+/// Where no command is given.
+pub const NO_COMMAND: &str = "give a command: build, list, ask, check, tree; see: stopbook --help";
+
+/// The help of the tool.
+pub const TOOL: &str = "\
+stopbook: books of stop names, built, checked, listed and asked by the proved library
+
+  stopbook build NAMES.txt [-o BOOK] [--block K]   make a book from a list of names
+  stopbook list BOOK [--from N] [--count N]        print its names with their numbers
+  stopbook ask BOOK [KIND QUESTION]                ask it: exact, place, range, nearest
+  stopbook check BOOK                              say whether it is a book
+  stopbook tree BOOK [--svg FILE | --dot FILE]     draw its tree
+
+  stopbook COMMAND --help                          more on a command, with an example
+  stopbook --version
+
+A lone - is standard input, or standard output where something is written. After -- no
+word is an option. Names print as text; a backslash, control characters and bytes that
+are no UTF-8 print as \\ and two hex digits for each byte.
+
+Exit status: 0 done; 1 refused, or not found where that is the question; 2 wrong usage,
+or a file that cannot be read or written.
+";
+
+/// The help of `build`.
+pub const BUILD: &str = "\
+stopbook build NAMES.txt [-o BOOK] [--block K]
+
+Makes a book from a text in UTF-8 with a name on each line, in any order. Empty lines are
+skipped. Names are sorted by their bytes; doubles are dropped, and told. Bad lines (over
+200 bytes, not UTF-8) are told by number, and then no book is written. A book has at most
+2,000 names and 65,535 bytes; with larger blocks it is shorter.
+
+  -o BOOK, --output BOOK   where the book goes; without it NAMES.book, and standard output
+                           where the names come from standard input
+  --block K                names in a block, 1 to 64; without it 16
+
+Example:
+
+  stopbook build sample/stops.txt -o stops.book
+";
+
+/// The help of `list`.
+pub const LIST: &str = "\
+stopbook list BOOK [--from N] [--count N] [--plain]
+
+Prints how many names, names in a block, nodes and bytes a book has, then a line for each
+name: position, block, stored shared count, length in bytes, name. Positions begin at 0.
+
+  --from N    begin with the name at this position
+  --count N   print so many names at most
+  --plain     print only the names, as `stopbook build` reads them
+
+Example:
+
+  stopbook list stops.book --from 11 --count 3
+";
+
+/// The help of `ask`.
+pub const ASK: &str = "\
+stopbook ask BOOK KIND QUESTION [--limit N]
+stopbook ask BOOK [--limit N]
+
+Asks a book one question of at most 200 bytes:
+
+  exact     is this a stop, and which?
+  place     where does it stand, or where would it?
+  range     which names begin with it?
+  nearest   which name shares the longest beginning with it? The shared part is in brackets.
+
+Without a question, lines of standard input are asked, a kind, a blank and a question on
+each: 64 at a time, or each at once from a terminal.
+
+  --limit N   of a range, print so many names at most; without it 20
+
+The exit status is 1 where exact or range find nothing or the question is refused; for
+lines of standard input, where a line is refused.
+
+Examples:
+
+  stopbook ask stops.book nearest \"Market Sq\"
+  printf 'exact Mar\\nrange Harb\\n' | stopbook ask stops.book
+";
+
+/// The help of `check`.
+pub const CHECK: &str = "\
+stopbook check BOOK
+
+Says whether the bytes are a book, and if so how many names, names in a block, nodes and
+bytes it has. The exit status is 1 where they are none.
+
+Example:
+
+  stopbook check stops.book
+";
+
+/// The help of `tree`.
+pub const TREE: &str = "\
+stopbook tree BOOK [--svg FILE | --dot FILE] [--limit N]
+
+Draws the node table of a book: the letters that lead to each node, its number, its depth
+and its names. Without a file it is indented text on standard output.
+
+  --svg FILE   a picture, for a light or a dark page
+  --dot FILE   the same in the DOT language
+  --limit N    draw so many nodes at most, in the order of the table; without it 100
+
+Example:
+
+  printf 'Mar\\nMarina\\nMarket Square\\n' | stopbook build - --block 2 | stopbook tree - --svg mar-tree.svg
+";

@@ -1,0 +1,193 @@
+//! Document 01's layout, read from the bytes of a book.
+//!
+//! Here stands what no call of the library gives: the numbers of the trailer,
+//! the stored counts of the entries, and the node table. It is meant for bytes
+//! that the library has accepted. Given others, a function gives `None` or
+//! numbers without meaning, and never fails.
+
+/// The most names of a book.
+pub const MOST_NAMES: usize = 2_000;
+/// The most bytes of a name, and of a question.
+pub const LONGEST_NAME: usize = 200;
+/// The largest block size.
+pub const LARGEST_BLOCK: usize = 64;
+/// The most bytes of a book.
+pub const LONGEST_BOOK: usize = 65_535;
+/// The bytes of a trailer.
+pub const TRAILER: usize = 16;
+/// The bytes of a node.
+pub const NODE: usize = 10;
+/// The last four bytes of a book.
+const MARK: [u8; 4] = [0x4E, 0x42, 0x4B, 0x31];
+
+/// The numbers of a trailer but for n and k, which the check gives.
+#[derive(Clone, Copy, Debug, PartialEq, Eq)]
+pub struct Trailer {
+    /// Where the block table starts.
+    pub blocks_at: usize,
+    /// Where the node table starts.
+    pub nodes_at: usize,
+    /// How many nodes there are.
+    pub nodes: usize,
+    /// How long the book is.
+    pub total: usize,
+}
+
+/// A node as it is stored.
+#[derive(Clone, Copy, Debug, PartialEq, Eq)]
+pub struct Node {
+    /// The symbol that leads to it.
+    pub symbol: usize,
+    /// A leaf: the name's length plus 1. Else how many symbols all names share.
+    pub depth: usize,
+    /// The position of its first name.
+    pub first: usize,
+    /// How many names it has.
+    pub names: usize,
+    /// How many nodes stand from it on, itself and all below.
+    pub nodes: usize,
+}
+
+/// The number of two bytes at an offset.
+fn number(bytes: &[u8], at: usize) -> Option<usize> {
+    let pair = bytes.get(at..at.checked_add(2)?)?;
+    Some(usize::from(pair[0]) + 256 * usize::from(pair[1]))
+}
+
+/// The trailer at the end of these bytes.
+pub fn trailer(bytes: &[u8]) -> Option<Trailer> {
+    let at = bytes.len().checked_sub(TRAILER)?;
+    Some(Trailer {
+        blocks_at: number(bytes, at + 4)?,
+        nodes_at: number(bytes, at + 6)?,
+        nodes: number(bytes, at + 8)?,
+        total: number(bytes, at + 10)?,
+    })
+}
+
+/// The stored count of each of so many entries.
+pub fn stored_counts(bytes: &[u8], names: usize) -> Option<Vec<usize>> {
+    let mut counts = Vec::new();
+    let mut at = 0;
+    for _ in 0..names {
+        let head = bytes.get(at..at + 2)?;
+        counts.push(usize::from(head[0]));
+        at += 2 + usize::from(head[1]);
+    }
+    Some(counts)
+}
+
+/// The whole node table.
+pub fn nodes(bytes: &[u8], trailer: &Trailer) -> Option<Vec<Node>> {
+    (0..trailer.nodes)
+        .map(|index| node(bytes, trailer.nodes_at + NODE * index))
+        .collect()
+}
+
+/// The node at an offset.
+fn node(bytes: &[u8], at: usize) -> Option<Node> {
+    Some(Node {
+        symbol: number(bytes, at)?,
+        depth: number(bytes, at + 2)?,
+        first: number(bytes, at + 4)?,
+        names: number(bytes, at + 6)?,
+        nodes: number(bytes, at + 8)?,
+    })
+}
+
+/// What can be said at a glance of bytes that are no book, and what to do.
+pub fn why_no_book(bytes: &[u8]) -> String {
+    let length = bytes.len();
+    let told = trailer(bytes).map_or(0, |trailer| trailer.total);
+    if length < TRAILER {
+        format!("it has {length} bytes, and a book has 16 or more")
+    } else if length > LONGEST_BOOK {
+        "it has more than 65,535 bytes, the most of a book".to_string()
+    } else if !bytes.ends_with(&MARK) {
+        "it does not end with a book's mark; stopbook build makes a book of names".to_string()
+    } else if told != length {
+        format!("its trailer tells of {told} bytes, and it has {length}; copy it again, whole")
+    } else {
+        "its parts do not fit together, so it was damaged; build it again".to_string()
+    }
+}
+
+#[cfg(test)]
+pub mod tests {
+    use super::*;
+
+    /// The 85 bytes of document 01.
+    pub const EXAMPLE: &[u8] = b"\x00\x03Mar\x03\x03ina\x00\x0DMarket Square\
+        \x00\x00\x0A\x00\
+        \x00\x00\x03\x00\x00\x00\x03\x00\x04\x00\
+        \x00\x00\x04\x00\x00\x00\x01\x00\x01\x00\
+        \x6A\x00\x07\x00\x01\x00\x01\x00\x01\x00\
+        \x6C\x00\x0E\x00\x02\x00\x01\x00\x01\x00\
+        \x03\x00\x02\x00\x19\x00\x1D\x00\x04\x00\x55\x00\x4E\x42\x4B\x31";
+
+    #[test]
+    fn the_trailer_of_document_01_is_read() {
+        let expected = Trailer {
+            blocks_at: 25,
+            nodes_at: 29,
+            nodes: 4,
+            total: 85,
+        };
+        assert_eq!(trailer(EXAMPLE), Some(expected));
+    }
+
+    #[test]
+    fn the_stored_counts_of_document_01_are_read() {
+        assert_eq!(stored_counts(EXAMPLE, 3), Some(vec![0, 3, 0]));
+    }
+
+    #[test]
+    fn the_nodes_of_document_01_are_read() {
+        let rows = [
+            (0, 3, 0, 3, 4),
+            (0, 4, 0, 1, 1),
+            (106, 7, 1, 1, 1),
+            (108, 14, 2, 1, 1),
+        ];
+        let expected = rows.map(|(symbol, depth, first, names, nodes)| Node {
+            symbol,
+            depth,
+            first,
+            names,
+            nodes,
+        });
+        let trailer = trailer(EXAMPLE).unwrap();
+        assert_eq!(nodes(EXAMPLE, &trailer), Some(expected.to_vec()));
+    }
+
+    #[test]
+    fn bytes_that_are_cut_short_give_nothing() {
+        assert_eq!(trailer(&EXAMPLE[70..]), None);
+        assert_eq!(stored_counts(&EXAMPLE[..11], 3), None);
+        let trailer = trailer(EXAMPLE).unwrap();
+        assert_eq!(nodes(&EXAMPLE[..68], &trailer), None);
+    }
+
+    #[test]
+    fn no_bytes_make_a_reading_fail() {
+        for length in 0..200 {
+            let bytes = vec![0xFF; length];
+            if let Some(trailer) = trailer(&bytes) {
+                let _ = nodes(&bytes, &trailer);
+            }
+            let _ = stored_counts(&bytes, 2_000);
+            assert!(!why_no_book(&bytes).is_empty());
+        }
+    }
+
+    #[test]
+    fn what_is_wrong_at_a_glance_is_said() {
+        assert!(why_no_book(b"Mar").contains("3 bytes"));
+        assert!(why_no_book(&[0; 65_536]).contains("65,535"));
+        assert!(why_no_book(&[0; 20]).contains("mark"));
+        assert!(why_no_book(&EXAMPLE[1..]).contains("85 bytes, and it has 84"));
+        let mut changed = EXAMPLE.to_vec();
+        changed[30] = 1;
+        assert!(why_no_book(&changed).contains("damaged"));
+    }
+}

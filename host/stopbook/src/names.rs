@@ -1,0 +1,200 @@
+//! A file with a name on each line.
+//!
+//! Lines end with a line feed; a carriage return before it is no part of the
+//! name, and neither is a byte order mark at the start of the file. Empty
+//! lines are skipped. Lines are counted from 1, the empty ones too.
+
+use crate::layout::LONGEST_NAME;
+use crate::text::counted;
+
+/// The byte order mark in UTF-8.
+const MARK: &[u8] = b"\xEF\xBB\xBF";
+
+/// A name and the line where it stands.
+#[derive(Clone, Debug, PartialEq, Eq)]
+pub struct Line {
+    /// Counted from 1.
+    pub number: usize,
+    /// The name.
+    pub name: Vec<u8>,
+}
+
+/// A line that repeats a name.
+#[derive(Clone, Debug, PartialEq, Eq)]
+pub struct Double {
+    /// The line.
+    pub line: Line,
+    /// The line where the same name stands first.
+    pub first: usize,
+}
+
+/// A line that cannot be a name.
+#[derive(Clone, Debug, PartialEq, Eq)]
+pub struct Bad {
+    /// Counted from 1.
+    pub number: usize,
+    /// What is wrong, and what to do.
+    pub why: String,
+}
+
+/// What stands in a file of names.
+#[derive(Debug, Default)]
+pub struct Names {
+    /// The names, rising, each once.
+    pub rising: Vec<Vec<u8>>,
+    /// The lines that repeat a name, in the order of the file.
+    pub doubles: Vec<Double>,
+    /// The lines that cannot be a name, in the order of the file.
+    pub bad: Vec<Bad>,
+}
+
+/// Reads the bytes of a file.
+pub fn parse(bytes: &[u8]) -> Names {
+    let bytes = bytes.strip_prefix(MARK).unwrap_or(bytes);
+    let mut names = Names::default();
+    let mut lines = Vec::new();
+    for (index, line) in bytes.split(|&byte| byte == b'\n').enumerate() {
+        let number = index + 1;
+        let name = line.strip_suffix(b"\r").unwrap_or(line);
+        if name.is_empty() {
+            continue;
+        }
+        match why_bad(name) {
+            Some(why) => names.bad.push(Bad { number, why }),
+            None => lines.push(Line {
+                number,
+                name: name.to_vec(),
+            }),
+        }
+    }
+    sort(lines, &mut names);
+    names
+}
+
+/// Sorts the lines by bytes, and parts the doubles from the first of each name.
+fn sort(mut lines: Vec<Line>, names: &mut Names) {
+    // A stable sort, so that of equal names the first line stays in front.
+    lines.sort_by(|one, other| one.name.cmp(&other.name));
+    let mut first = 0;
+    for line in lines {
+        if names.rising.last() == Some(&line.name) {
+            names.doubles.push(Double { line, first });
+        } else {
+            first = line.number;
+            names.rising.push(line.name);
+        }
+    }
+    names.doubles.sort_by_key(|double| double.line.number);
+}
+
+/// Why these bytes cannot be a name, and what to do.
+fn why_bad(name: &[u8]) -> Option<String> {
+    if let Err(error) = std::str::from_utf8(name) {
+        let at = error.valid_up_to();
+        let byte = name.get(at).copied().unwrap_or_default();
+        return Some(format!(
+            "not UTF-8 at byte {} ({byte:02X}); save the file as UTF-8",
+            at + 1
+        ));
+    }
+    if name.len() > LONGEST_NAME {
+        let over = name.len() - LONGEST_NAME;
+        return Some(format!(
+            "the name has {}, and 200 are the most; shorten it by {over}",
+            counted(name.len(), "byte")
+        ));
+    }
+    None
+}
+
+/// Whether these bytes look like UTF-16, the other thing that editors save.
+pub fn is_utf16(bytes: &[u8]) -> bool {
+    bytes.starts_with(b"\xFF\xFE") || bytes.starts_with(b"\xFE\xFF")
+}
+
+/// The list of document 01: each name behind its length. The names have at
+/// most 200 bytes each.
+pub fn records(names: &[Vec<u8>]) -> Vec<u8> {
+    let mut list = Vec::new();
+    for name in names {
+        list.push(name.len() as u8);
+        list.extend_from_slice(name);
+    }
+    list
+}
+
+#[cfg(test)]
+mod tests {
+    use super::*;
+
+    /// The names of a text.
+    fn rising(text: &[u8]) -> Vec<String> {
+        let names = parse(text);
+        assert_eq!(names.bad, []);
+        let text = |name| String::from_utf8(name).expect("names are UTF-8");
+        names.rising.into_iter().map(text).collect()
+    }
+
+    #[test]
+    fn names_are_sorted_by_their_bytes() {
+        let text = "École\nMarina\nmar\nMarket Square\nMar\n";
+        let expected = ["Mar", "Marina", "Market Square", "mar", "École"];
+        assert_eq!(rising(text.as_bytes()), expected);
+    }
+
+    #[test]
+    fn a_mark_carriage_returns_and_empty_lines_are_no_names() {
+        assert_eq!(
+            rising(b"\xEF\xBB\xBFMarina\r\n\r\n\nMar"),
+            ["Mar", "Marina"]
+        );
+        assert!(rising(b"").is_empty());
+        assert!(rising(b"\n\r\n\n").is_empty());
+        assert!(rising(b"\xEF\xBB\xBF").is_empty());
+        // Only one carriage return belongs to the end of a line.
+        assert_eq!(rising(b"a\r\r\n"), ["a\r"]);
+    }
+
+    #[test]
+    fn doubles_are_told_with_both_lines() {
+        let names = parse(b"b\na\n\nb\na\nb\n");
+        assert_eq!(names.rising, [b"a", b"b"]);
+        let told: Vec<(usize, usize)> = names
+            .doubles
+            .iter()
+            .map(|double| (double.line.number, double.first))
+            .collect();
+        assert_eq!(told, [(4, 1), (5, 2), (6, 1)]);
+        assert_eq!(names.doubles[0].line.name, b"b");
+    }
+
+    #[test]
+    fn bad_lines_are_told_by_number() {
+        let mut text = b"Mar\n\nca\xE9\n".to_vec();
+        text.extend([b'x'; 200]);
+        text.push(b'\n');
+        text.extend([b'y'; 201]);
+        let names = parse(&text);
+        let numbers: Vec<usize> = names.bad.iter().map(|bad| bad.number).collect();
+        assert_eq!(numbers, [3, 5]);
+        assert!(names.bad[0].why.contains("byte 3 (E9)"));
+        assert!(names.bad[1].why.contains("201 bytes"));
+        assert!(names.bad[1].why.contains("by 1"));
+        assert_eq!(names.rising, [b"Mar".to_vec(), vec![b'x'; 200]]);
+    }
+
+    #[test]
+    fn a_length_is_counted_in_bytes() {
+        let mut text = "é".repeat(100).into_bytes();
+        assert!(parse(&text).bad.is_empty());
+        text.push(b'e');
+        assert_eq!(parse(&text).bad.len(), 1);
+    }
+
+    #[test]
+    fn records_have_their_length_in_front() {
+        let names = [b"Mar".to_vec(), b"Marina".to_vec()];
+        assert_eq!(records(&names), b"\x03Mar\x06Marina");
+        assert!(records(&[]).is_empty());
+    }
+}

@@ -1,0 +1,150 @@
+//! How long the book of some names will be.
+//!
+//! The library says only that a book would pass 65,535 bytes; here is by how
+//! much, and which block size would help. Document 01's layout decides:
+//! entries, two bytes for each block, ten for each node, and 16.
+
+use crate::layout::{LARGEST_BLOCK, LONGEST_BOOK, NODE, TRAILER};
+
+/// The sizes of a book's parts.
+#[derive(Clone, Copy, Debug, PartialEq, Eq)]
+pub struct Size {
+    /// Bytes of all entries.
+    pub entries: usize,
+    /// Bytes of the block table.
+    pub blocks: usize,
+    /// Bytes of the node table.
+    pub nodes: usize,
+}
+
+impl Size {
+    /// The whole book.
+    pub fn total(&self) -> usize {
+        self.entries + self.tables()
+    }
+
+    /// All but the entries.
+    pub fn tables(&self) -> usize {
+        self.blocks + self.nodes + TRAILER
+    }
+}
+
+/// What each name shares with the one before it; the first shares nothing.
+pub fn shared(names: &[Vec<u8>]) -> Vec<usize> {
+    let pairs = names.windows(2).map(|pair| {
+        let both = pair[0].iter().zip(&pair[1]);
+        both.take_while(|(one, other)| one == other).count()
+    });
+    names.iter().take(1).map(|_| 0).chain(pairs).collect()
+}
+
+/// The sizes of the book of rising names, in blocks of so many.
+pub fn size(names: &[Vec<u8>], block: usize) -> Size {
+    let shared = shared(names);
+    let block = block.max(1);
+    let rests = names.iter().zip(&shared).enumerate();
+    let entries = rests.map(|(position, (name, &shared))| {
+        let stored = if position.is_multiple_of(block) {
+            0
+        } else {
+            shared
+        };
+        2 + name.len() - stored
+    });
+    Size {
+        entries: entries.sum(),
+        blocks: 2 * names.len().div_ceil(block),
+        nodes: NODE * nodes(&shared),
+    }
+}
+
+/// How many nodes the names have, by what neighbours share.
+///
+/// Each name is a leaf. A fork is a stretch of names that share so many bytes
+/// and no more; it opens where neighbours first share that much and closes
+/// where they share less.
+fn nodes(shared: &[usize]) -> usize {
+    let mut open: Vec<usize> = Vec::new();
+    let mut forks = 0;
+    for &count in shared.iter().skip(1) {
+        while open.last().is_some_and(|&depth| depth > count) {
+            open.pop();
+        }
+        if open.last() != Some(&count) {
+            open.push(count);
+            forks += 1;
+        }
+    }
+    shared.len() + forks
+}
+
+/// The least block size above this one with which the book fits.
+pub fn fitting_block(names: &[Vec<u8>], above: usize) -> Option<usize> {
+    (above + 1..=LARGEST_BLOCK).find(|&block| size(names, block).total() <= LONGEST_BOOK)
+}
+
+#[cfg(test)]
+mod tests {
+    use super::*;
+
+    /// Names from texts.
+    fn names(texts: &[&str]) -> Vec<Vec<u8>> {
+        texts.iter().map(|text| text.as_bytes().to_vec()).collect()
+    }
+
+    #[test]
+    fn the_books_of_document_01_have_85_and_80_bytes() {
+        let example = names(&["Mar", "Marina", "Market Square"]);
+        let expected = Size {
+            entries: 25,
+            blocks: 4,
+            nodes: 40,
+        };
+        assert_eq!(size(&example, 2), expected);
+        assert_eq!(size(&example, 2).total(), 85);
+        assert_eq!(size(&example, 4).total(), 80);
+    }
+
+    #[test]
+    fn no_names_and_one_name() {
+        assert_eq!(size(&[], 2).total(), 16);
+        assert_eq!(size(&names(&["A"]), 1).total(), 31);
+    }
+
+    #[test]
+    fn nodes_are_counted_as_the_format_page_does() {
+        let four = names(&["Mar", "Marina", "Marine", "Market Square"]);
+        assert_eq!(size(&four, 4).nodes, 60);
+        let bytes = vec![vec![0], vec![0, 0], vec![255]];
+        assert_eq!(size(&bytes, 3).total(), 77);
+    }
+
+    /// 0 to 1999 spelled with 11 letters a and b: the most nodes.
+    fn binary() -> Vec<Vec<u8>> {
+        let letter = |number: usize, bit: usize| b'a' + (number >> bit & 1) as u8;
+        let spell = |number| (0..11).rev().map(|bit| letter(number, bit)).collect();
+        (0..2_000).map(spell).collect()
+    }
+
+    #[test]
+    fn the_book_with_the_most_nodes_fits_with_large_blocks_only() {
+        let names = binary();
+        assert_eq!(size(&names, 64).nodes, 39_990);
+        assert_eq!(size(&names, 64).total(), 48_168);
+        assert_eq!(size(&names, 1).total(), 70_006);
+        let fitting = fitting_block(&names, 1).expect("64 fits");
+        assert!(size(&names, fitting).total() <= LONGEST_BOOK);
+        assert!(size(&names, fitting - 1).total() > LONGEST_BOOK);
+    }
+
+    #[test]
+    fn where_nothing_fits_no_block_size_is_given() {
+        let long = |number: usize| {
+            let mut name = number.to_be_bytes()[6..].to_vec();
+            name.resize(200, b'x');
+            name
+        };
+        let names: Vec<Vec<u8>> = (0..400).map(long).collect();
+        assert_eq!(fitting_block(&names, 1), None);
+    }
+}
