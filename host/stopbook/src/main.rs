@@ -17,7 +17,7 @@
 //! | [`names`] | a file with a name on each line |
 //! | [`size`] | how long the book of some names will be |
 //! | [`progress`] | how far a long reading is |
-//! | [`build`], [`check`] | the commands |
+//! | [`build`], [`list`], [`check`] | the commands |
 
 #![forbid(unsafe_code)]
 #![warn(missing_docs)]
@@ -29,6 +29,7 @@ mod check;
 mod files;
 mod help;
 mod layout;
+mod list;
 mod names;
 mod outcome;
 mod progress;
@@ -55,8 +56,9 @@ pub struct Command {
 }
 
 /// Every command, in the order of the help.
-const COMMANDS: [Command; 2] = [
+const COMMANDS: [Command; 3] = [
     build::COMMAND,
+    list::COMMAND,
     check::COMMAND,
 ];
 

@@ -1,0 +1,92 @@
+//! `stopbook list`: the names of a book with their numbers.
+
+use crate::args::{Shape, Words};
+use crate::book::Book;
+use crate::outcome::{Failure, Outcome, Status, Streams};
+use crate::text::{counted, is_line, shown};
+use crate::{help, Command};
+use std::ops::Range;
+
+/// The command.
+pub const COMMAND: Command = Command {
+    name: "list",
+    shape: Shape {
+        valued: &["--from", "--count"],
+        flags: &["--plain"],
+    },
+    help: help::LIST,
+    run,
+};
+
+/// Lists a book.
+fn run(words: &Words, streams: &mut Streams) -> Outcome {
+    let [path] = words.plain.as_slice() else {
+        return Err(Failure::usage("give one book, or -"));
+    };
+    let from = words.number("--from").map_err(Failure::Usage)?;
+    let count = words.number("--count").map_err(Failure::Usage)?;
+    let mut book = Book::open(path)?;
+    let positions = span(&book, from, count)?;
+    book.learn(positions.clone())?;
+    if words.has("--plain") {
+        list_plain(&mut book, positions, streams)
+    } else {
+        list_numbers(&mut book, positions, streams)
+    }
+}
+
+/// Which positions are listed.
+fn span(book: &Book, from: Option<usize>, count: Option<usize>) -> Result<Range<usize>, Failure> {
+    let names = book.names();
+    let start = from.unwrap_or(0);
+    if from.is_some() && start >= names {
+        let source = book.source();
+        let has = match names {
+            0 => "no names".to_string(),
+            _ => format!("{}, at 0 to {}", counted(names, "name"), names - 1),
+        };
+        return Err(Failure::refused(format!(
+            "{source} has {has}; --from {start} is past them"
+        )));
+    }
+    Ok(start..start + count.unwrap_or(names).min(names - start))
+}
+
+/// Only the names. A name that no line of text can hold is escaped, and told.
+fn list_plain(book: &mut Book, positions: Range<usize>, streams: &mut Streams) -> Outcome {
+    let mut escaped = 0;
+    for position in positions {
+        let name = book.name(position)?;
+        if is_line(name) {
+            streams.out.write_all(name)?;
+        } else {
+            escaped += 1;
+            streams.out.write_all(shown(name).as_bytes())?;
+        }
+        streams.out.write_all(b"\n")?;
+    }
+    if escaped > 0 {
+        let count = counted(escaped, "name");
+        let source = book.source();
+        streams.note(&format!(
+            "{source}: {count} with bytes that are no line of text, shown as \\ and hex digits; \
+             a book built from this list would differ"
+        ));
+    }
+    Ok(Status::Done)
+}
+
+/// Document 01's listing, with names as text.
+fn list_numbers(book: &mut Book, positions: Range<usize>, streams: &mut Streams) -> Outcome {
+    writeln!(streams.out, "{}", book.headline())?;
+    let counts = book.stored_counts()?;
+    let block = book.block().max(1);
+    for position in positions {
+        let shared = counts.get(position).copied().unwrap_or_default();
+        let name = book.name(position)?;
+        let (length, text) = (name.len(), shown(name));
+        let number = position / block;
+        writeln!(streams.out, "{position} {number} {shared} {length} {text}")?;
+    }
+    Ok(Status::Done)
+}
