@@ -17,12 +17,13 @@
 //! | [`names`] | a file with a name on each line |
 //! | [`size`] | how long the book of some names will be |
 //! | [`progress`] | how far a long reading is |
-//! | [`build`], [`list`], [`check`] | the commands |
+//! | [`build`], [`list`], [`ask`], [`check`] | the commands |
 
 #![forbid(unsafe_code)]
 #![warn(missing_docs)]
 
 mod args;
+mod ask;
 mod book;
 mod build;
 mod check;
@@ -56,9 +57,10 @@ pub struct Command {
 }
 
 /// Every command, in the order of the help.
-const COMMANDS: [Command; 3] = [
+const COMMANDS: [Command; 4] = [
     build::COMMAND,
     list::COMMAND,
+    ask::COMMAND,
     check::COMMAND,
 ];
 

@@ -1,0 +1,152 @@
+//! Answers as sentences, with the names in them.
+
+use super::question::{Question, Reply};
+use crate::book::Book;
+use crate::outcome::{Failure, Status};
+use crate::text::{counted, marked, named, shown};
+use std::ops::Range;
+
+/// An answer as it is printed, and whether it says yes.
+pub struct Told {
+    /// One line or more.
+    pub text: String,
+    /// `No` where nothing was found.
+    pub status: Status,
+}
+
+/// Tells what a question got. Of a range no more names than the limit.
+pub fn tell(
+    book: &mut Book,
+    question: &Question,
+    reply: &Reply,
+    limit: usize,
+) -> Result<Told, Failure> {
+    let text = &question.text;
+    match reply {
+        Reply::Exact(Some(position)) => done(format!("{} is stop {position}\n", named(text))),
+        Reply::Exact(None) => no_stop(book, text),
+        Reply::Place(place) => tell_place(book, text, *place),
+        Reply::Range(range) if range.is_empty() => no_range(book, text, range.start),
+        Reply::Range(range) => tell_range(book, text, range.clone(), limit),
+        Reply::Nearest(position, shared) => tell_nearest(book, text, *position, *shared),
+    }
+}
+
+/// Why a question was refused.
+pub fn refusal(book: &Book, question: &Question, code: usize) -> Failure {
+    let source = book.source();
+    Failure::refused(match code {
+        1 => format!(
+            "the question has {}, and 200 are the most; shorten it",
+            counted(question.text.len(), "byte")
+        ),
+        10 => format!("{source} has no names, so none is nearest"),
+        _ => format!("{source}: the question is refused with number {code}"),
+    })
+}
+
+/// A yes.
+fn done(text: String) -> Result<Told, Failure> {
+    let status = Status::Done;
+    Ok(Told { text, status })
+}
+
+/// A no.
+fn no(text: String) -> Result<Told, Failure> {
+    let status = Status::No;
+    Ok(Told { text, status })
+}
+
+/// A question that is no stop, and where it would stand.
+fn no_stop(book: &mut Book, text: &[u8]) -> Result<Told, Failure> {
+    let place = mistrogu::place(book.bytes(), text)
+        .map_err(|refusal| Failure::refused(format!("{}: {refusal}", book.source())))?;
+    let between = between(book, place, place)?;
+    no(format!(
+        "{} is no stop; it would stand {between}\n",
+        named(text)
+    ))
+}
+
+/// Where a question stands or would stand. A stop has its place as position.
+fn tell_place(book: &mut Book, text: &[u8], place: usize) -> Result<Told, Failure> {
+    let is_stop = place < book.names() && book.name(place)? == text;
+    let (stands, after) = match is_stop {
+        true => ("stands", place + 1),
+        false => ("would stand", place),
+    };
+    let between = between(book, place, after)?;
+    done(format!("{} {stands} at {place}, {between}\n", named(text)))
+}
+
+/// Between which names something stands that has so many before it, and this
+/// position behind it.
+fn between(book: &mut Book, place: usize, after: usize) -> Result<String, Failure> {
+    let before = match place.checked_sub(1) {
+        Some(position) => Some(shown(book.name(position)?)),
+        None => None,
+    };
+    let behind = match after < book.names() {
+        true => Some(shown(book.name(after)?)),
+        false => None,
+    };
+    Ok(match (before, behind) {
+        (Some(before), Some(behind)) => format!("between {before} and {behind}"),
+        (Some(before), None) => format!("last, after {before}"),
+        (None, Some(behind)) => format!("first, before {behind}"),
+        (None, None) => "alone".to_string(),
+    })
+}
+
+/// A question that begins no name.
+fn no_range(book: &mut Book, text: &[u8], place: usize) -> Result<Told, Failure> {
+    let between = between(book, place, place)?;
+    no(format!(
+        "no name begins with {}; it would stand {between}\n",
+        named(text)
+    ))
+}
+
+/// The names that begin with a question, each with its position.
+fn tell_range(
+    book: &mut Book,
+    text: &[u8],
+    range: Range<usize>,
+    limit: usize,
+) -> Result<Told, Failure> {
+    let begin = match range.len() {
+        1 => "begins",
+        _ => "begin",
+    };
+    let count = counted(range.len(), "name");
+    let mut lines = format!("{count} {begin} with {}\n", named(text));
+    for position in range.clone().take(limit) {
+        let name = shown(book.name(position)?);
+        lines.push_str(&format!("  {position} {name}\n"));
+    }
+    if range.len() > limit {
+        let more = range.len() - limit;
+        lines.push_str(&format!("  and {more} more\n"));
+    }
+    done(lines)
+}
+
+/// The name that shares most, with the shared part in brackets.
+fn tell_nearest(
+    book: &mut Book,
+    text: &[u8],
+    position: usize,
+    shared: usize,
+) -> Result<Told, Failure> {
+    let name = book.name(position)?;
+    let (text, shown) = (named(text), shown(name));
+    if shared == 0 {
+        return done(format!(
+            "no name shares a beginning with {text}; the search ends at {shown}, stop {position}\n"
+        ));
+    }
+    let (marked, bytes) = (marked(name, shared), counted(shared, "byte"));
+    done(format!(
+        "nearest to {text} is {marked}, stop {position}; {bytes} shared\n"
+    ))
+}
