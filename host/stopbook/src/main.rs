@@ -17,7 +17,7 @@
 //! | [`names`] | a file with a name on each line |
 //! | [`size`] | how long the book of some names will be |
 //! | [`progress`] | how far a long reading is |
-//! | [`build`], [`list`], [`ask`], [`check`] | the commands |
+//! | [`build`], [`list`], [`ask`], [`check`], [`tree`] | the commands |
 
 #![forbid(unsafe_code)]
 #![warn(missing_docs)]
@@ -36,6 +36,7 @@ mod outcome;
 mod progress;
 mod size;
 mod text;
+mod tree;
 
 use args::{Shape, Words};
 use outcome::{Failure, Outcome, Status, Streams};
@@ -57,11 +58,12 @@ pub struct Command {
 }
 
 /// Every command, in the order of the help.
-const COMMANDS: [Command; 4] = [
+const COMMANDS: [Command; 5] = [
     build::COMMAND,
     list::COMMAND,
     ask::COMMAND,
     check::COMMAND,
+    tree::COMMAND,
 ];
 
 fn main() -> ExitCode {
