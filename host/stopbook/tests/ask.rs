@@ -1,0 +1,266 @@
+//! `stopbook ask` from end to end.
+
+mod common;
+
+use common::{place, shared, Folder, Numbers, EXAMPLE, NO_NAMES};
+
+#[test]
+fn the_rows_of_document_01_are_answered_in_words() {
+    let folder = Folder::with("mar.book", EXAMPLE);
+    let rows = [
+        ("exact", "Marina", 0, "Marina is stop 1"),
+        (
+            "exact",
+            "Marin",
+            1,
+            "Marin is no stop; it would stand between Mar and Marina",
+        ),
+        ("place", "", 0, "\"\" would stand at 0, first, before Mar"),
+        (
+            "place",
+            "Mark",
+            0,
+            "Mark would stand at 2, between Marina and Market Square",
+        ),
+        (
+            "place",
+            "Maxim",
+            0,
+            "Maxim would stand at 3, last, after Market Square",
+        ),
+        (
+            "place",
+            "Marina",
+            0,
+            "Marina stands at 1, between Mar and Market Square",
+        ),
+        (
+            "range",
+            "Mar",
+            0,
+            "3 names begin with Mar\n  0 Mar\n  1 Marina\n  2 Market Square",
+        ),
+        (
+            "range",
+            "Mark",
+            0,
+            "1 name begins with Mark\n  2 Market Square",
+        ),
+        (
+            "range",
+            "Mas",
+            1,
+            "no name begins with Mas; it would stand last, after Market Square",
+        ),
+        (
+            "nearest",
+            "Mango",
+            0,
+            "nearest to Mango is [Ma]r, stop 0; 2 bytes shared",
+        ),
+        (
+            "nearest",
+            "Maxim",
+            0,
+            "nearest to Maxim is [Ma]rina, stop 1; 2 bytes shared",
+        ),
+        (
+            "nearest",
+            "M",
+            0,
+            "nearest to M is [M]ar, stop 0; 1 byte shared",
+        ),
+    ];
+    for (kind, question, status, answer) in rows {
+        let ran = folder.run(&["ask", "mar.book", kind, question]);
+        ran.assert(status, &format!("{answer}\n"));
+    }
+    let ran = folder.run(&["ask", "mar.book", "nearest", "Zoo"]);
+    ran.assert(
+        0,
+        "no name shares a beginning with Zoo; the search ends at Mar, stop 0\n",
+    );
+}
+
+#[test]
+fn the_same_rows_are_answered_from_standard_input() {
+    let folder = Folder::with("mar.book", EXAMPLE);
+    let lines = "exact Marina\r\nexact Marin\n\nrange\nnearest Maxim\nplace Market Square";
+    let expected = "Marina is stop 1\n\
+                    Marin is no stop; it would stand between Mar and Marina\n\
+                    3 names begin with \"\"\n  0 Mar\n  and 2 more\n\
+                    nearest to Maxim is [Ma]rina, stop 1; 2 bytes shared\n\
+                    Market Square stands at 2, last, after Marina\n";
+    let ran = folder.run_with(&["ask", "mar.book", "--limit", "1"], lines.as_bytes());
+    ran.assert(0, expected);
+}
+
+#[test]
+fn a_bad_line_is_named_and_the_others_are_answered() {
+    let folder = Folder::with("mar.book", EXAMPLE);
+    let lines = format!(
+        "exact Mar\nfind Mar\nplace {}\nexact Marina\n",
+        "x".repeat(201)
+    );
+    let ran = folder.run_with(&["ask", "mar.book"], lines.as_bytes());
+    assert_eq!(
+        (ran.status, ran.out()),
+        (1, "Mar is stop 0\nMarina is stop 1\n")
+    );
+    assert!(ran.err.contains("standard input, line 2: find is no kind"));
+    assert!(ran
+        .err
+        .contains("standard input, line 3: the question has 201 bytes"));
+}
+
+#[test]
+fn questions_have_200_bytes_at_most() {
+    let folder = Folder::with("mar.book", EXAMPLE);
+    let (fine, long) = ("M".repeat(200), "M".repeat(201));
+    assert_eq!(folder.run(&["ask", "mar.book", "place", &fine]).status, 0);
+    for kind in ["exact", "place", "range", "nearest"] {
+        let ran = folder.run(&["ask", "mar.book", kind, &long]);
+        ran.assert_fails(1, &["the question has 201 bytes, and 200 are the most"]);
+    }
+}
+
+#[test]
+fn a_book_without_names_is_asked() {
+    let folder = Folder::with("none.book", NO_NAMES);
+    let run = |kind| folder.run(&["ask", "none.book", kind, "Mar"]);
+    run("exact").assert(1, "Mar is no stop; it would stand alone\n");
+    run("place").assert(0, "Mar would stand at 0, alone\n");
+    run("range").assert(1, "no name begins with Mar; it would stand alone\n");
+    run("nearest").assert_fails(1, &["none.book has no names"]);
+    let ran = folder.run_with(&["ask", "none.book"], b"nearest Mar\nplace Mar\n");
+    assert_eq!(
+        (ran.status, ran.out()),
+        (1, "Mar would stand at 0, alone\n")
+    );
+    assert!(ran.err.contains("line 1: none.book has no names"));
+}
+
+#[test]
+fn a_question_need_not_be_text() {
+    let folder = Folder::with("mar.book", EXAMPLE);
+    let ran = folder.run_with(&["ask", "mar.book"], b"nearest Mar\xFF\nplace Mar\\\n");
+    let expected = "nearest to Mar\\FF is [Mar], stop 0; 3 bytes shared\n\
+                    Mar\\5C would stand at 1, between Mar and Marina\n";
+    ran.assert(0, expected);
+}
+
+/// Where something stands that has so many names before it.
+fn between(names: &[String], before: usize, behind: usize) -> String {
+    let left = before.checked_sub(1).map(|position| &names[position]);
+    match (left, names.get(behind)) {
+        (Some(left), Some(right)) => format!("between {left} and {right}"),
+        (Some(left), None) => format!("last, after {left}"),
+        (None, Some(right)) => format!("first, before {right}"),
+        (None, None) => "alone".to_string(),
+    }
+}
+
+/// What the plain list answers to exact, place and range.
+fn told(names: &[String], kind: &str, question: &str) -> String {
+    let place = place(names, question);
+    let is_stop = names.get(place).is_some_and(|name| name == question);
+    let outside = between(names, place, place);
+    match (kind, is_stop) {
+        ("exact", true) => format!("{question} is stop {place}\n"),
+        ("exact", false) => format!("{question} is no stop; it would stand {outside}\n"),
+        ("place", true) => {
+            let inside = between(names, place, place + 1);
+            format!("{question} stands at {place}, {inside}\n")
+        }
+        ("place", false) => format!("{question} would stand at {place}, {outside}\n"),
+        _ => range(names, question, &outside),
+    }
+}
+
+/// What the plain list answers to range.
+fn range(names: &[String], question: &str, outside: &str) -> String {
+    let found: Vec<(usize, &String)> = names
+        .iter()
+        .enumerate()
+        .filter(|(_, name)| name.starts_with(question))
+        .collect();
+    let mut text = match found.len() {
+        0 => return format!("no name begins with {question}; it would stand {outside}\n"),
+        1 => format!("1 name begins with {question}\n"),
+        count => format!("{count} names begin with {question}\n"),
+    };
+    for (position, name) in found {
+        text.push_str(&format!("  {position} {name}\n"));
+    }
+    text
+}
+
+#[test]
+fn random_questions_get_what_the_plain_list_says() {
+    let mut numbers = Numbers(23);
+    let names = numbers.names(300);
+    let folder = Folder::with("n.txt", names.join("\n").as_bytes());
+    assert_eq!(folder.run(&["build", "n.txt", "--block", "7"]).status, 0);
+    let mut lines = String::new();
+    let mut expected = String::new();
+    for number in 0..400 {
+        let question = match number % 3 {
+            0 => names[numbers.below(names.len())].clone(),
+            _ => numbers.word(6),
+        };
+        let kind = ["exact", "place", "range"][numbers.below(3)];
+        lines.push_str(&format!("{kind} {question}\n"));
+        expected.push_str(&told(&names, kind, &question));
+    }
+    let ran = folder.run_with(&["ask", "n.book", "--limit", "2000"], lines.as_bytes());
+    ran.assert(0, &expected);
+}
+
+#[test]
+fn the_nearest_name_shares_as_much_as_any() {
+    let mut numbers = Numbers(29);
+    let names = numbers.names(200);
+    let folder = Folder::with("n.txt", names.join("\n").as_bytes());
+    assert_eq!(folder.run(&["build", "n.txt"]).status, 0);
+    let questions: Vec<String> = (0..150).map(|_| numbers.word(9)).collect();
+    let lines: String = questions
+        .iter()
+        .map(|text| format!("nearest {text}\n"))
+        .collect();
+    let ran = folder.run_with(&["ask", "n.book"], lines.as_bytes());
+    assert_eq!((ran.status, ran.err.as_str()), (0, ""));
+    assert_eq!(ran.out().lines().count(), questions.len());
+    for (line, question) in ran.out().lines().zip(&questions) {
+        let most = names.iter().map(|name| shared(name, question)).max();
+        let most = most.expect("there are names");
+        let (_, rest) = line.split_once(", stop ").expect("a position is told");
+        let (position, rest) = rest.split_once("; ").unwrap_or((rest, "0 bytes shared"));
+        let name = &names[position.parse::<usize>().expect("it is a number")];
+        assert_eq!(shared(name, question), most, "{line}");
+        assert!(rest.starts_with(&format!("{most} byte")), "{line}");
+    }
+}
+
+#[test]
+fn wrong_usage_is_told() {
+    let folder = Folder::with("mar.book", EXAMPLE);
+    let cases: [(&[&str], &str); 6] = [
+        (&["ask"], "give a book"),
+        (&["ask", "mar.book", "find", "Mar"], "find is no kind"),
+        (&["ask", "mar.book", "exact"], "give a question"),
+        (&["ask", "mar.book", "exact", "Market", "Square"], "quotes"),
+        (&["ask", "-"], "the book must be a file"),
+        (
+            &["ask", "mar.book", "range", "M", "--limit", "few"],
+            "--limit takes a number",
+        ),
+    ];
+    for (words, text) in cases {
+        folder
+            .run(words)
+            .assert_fails(2, &[text, "see: stopbook ask --help"]);
+    }
+    // After two dashes a question may begin with one.
+    let ran = folder.run(&["ask", "mar.book", "exact", "--", "--Mar"]);
+    ran.assert(1, "--Mar is no stop; it would stand first, before Mar\n");
+}

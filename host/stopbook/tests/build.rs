@@ -1,0 +1,230 @@
+//! `stopbook build` from end to end.
+
+mod common;
+
+use common::{Folder, EXAMPLE, NO_NAMES};
+
+#[test]
+fn the_book_of_document_01_is_built_from_unsorted_lines() {
+    let text = b"\xEF\xBB\xBFMarket Square\r\n\nMar\r\nMarina";
+    let folder = Folder::with("mar.txt", text);
+    let ran = folder.run(&["build", "mar.txt", "--block", "2"]);
+    assert_eq!((ran.status, ran.err.as_str()), (0, ""));
+    assert_eq!(folder.read("mar.book"), EXAMPLE);
+    for part in [
+        "mar.book\n",
+        "names  3 in blocks of 2",
+        "bytes  85",
+        "nodes  4",
+    ] {
+        assert!(ran.out().contains(part), "{}", ran.out());
+    }
+    // The plain list has 25 bytes, and so have the entries.
+    assert!(ran.out().contains("saved  0 of the plain list's 25 bytes"));
+}
+
+#[test]
+fn with_larger_blocks_the_book_has_80_bytes() {
+    let folder = Folder::with("mar.txt", b"Mar\nMarina\nMarket Square\n");
+    let ran = folder.run(&["build", "mar.txt", "--block=4", "-o", "b"]);
+    assert_eq!(ran.status, 0);
+    assert_eq!(folder.read("b").len(), 80);
+    // Without a word on it, blocks have 16.
+    assert_eq!(folder.run(&["build", "mar.txt"]).status, 0);
+    assert_eq!(folder.read("mar.book")[66..68], [16, 0]);
+}
+
+#[test]
+fn standard_input_goes_to_standard_output() {
+    let folder = Folder::new();
+    let ran = folder.run_with(
+        &["build", "-", "--block", "2"],
+        b"Mar\nMarina\nMarket Square\n",
+    );
+    assert_eq!(ran.status, 0);
+    assert_eq!(ran.bytes, EXAMPLE);
+    assert!(ran.err.contains("bytes  85"));
+    let ran = folder.run_with(&["build", "-", "--block", "2", "--output", "none"], b"\n");
+    assert_eq!(ran.status, 0);
+    assert_eq!(folder.read("none"), NO_NAMES);
+}
+
+#[test]
+fn doubles_are_dropped_and_told() {
+    let folder = Folder::with("d.txt", b"Mar\nMarina\nMar\nMarket Square\n\nMarina\r\n");
+    let ran = folder.run(&["build", "d.txt", "--block", "2"]);
+    assert_eq!(ran.status, 0);
+    assert_eq!(folder.read("d.book"), EXAMPLE);
+    let expected = "stopbook: d.txt, line 3: Mar again, as in line 1; dropped\n\
+                    stopbook: d.txt, line 6: Marina again, as in line 2; dropped\n\
+                    stopbook: d.txt: 2 doubles dropped\n";
+    assert_eq!(ran.err, expected);
+}
+
+#[test]
+fn many_doubles_are_counted() {
+    let folder = Folder::with("d.txt", "Mar\n".repeat(31).as_bytes());
+    let ran = folder.run(&["build", "d.txt"]);
+    assert_eq!(ran.status, 0);
+    assert_eq!(ran.err.matches("again").count(), 20);
+    assert!(ran.err.contains("and 10 more doubles"));
+    assert!(ran.err.contains("30 doubles dropped"));
+}
+
+#[test]
+fn bad_lines_are_named_and_nothing_is_written() {
+    let mut text = b"Mar\nCaf\xE9\n\n".to_vec();
+    text.extend([b'x'; 201]);
+    text.extend(b"\nMarina\n");
+    let folder = Folder::with("bad.txt", &text);
+    let ran = folder.run(&["build", "bad.txt"]);
+    ran.assert_fails(
+        1,
+        &[
+            "bad.txt, line 2: not UTF-8 at byte 4 (E9)",
+            "bad.txt, line 4: the name has 201 bytes, and 200 are the most",
+            "2 bad lines",
+        ],
+    );
+    assert!(!folder.has("bad.book"));
+}
+
+#[test]
+fn a_name_of_200_bytes_is_built() {
+    let folder = Folder::with("long.txt", &[b'x'; 200]);
+    assert_eq!(folder.run(&["build", "long.txt"]).status, 0);
+    // Entry 202, block table 2, one node 10, trailer 16.
+    assert_eq!(folder.read("long.book").len(), 230);
+}
+
+/// So many names of four digits, a line for each.
+fn digits(count: usize) -> String {
+    (0..count).map(|number| format!("{number:04}\n")).collect()
+}
+
+#[test]
+fn names_2000_are_built_and_2001_refused() {
+    let folder = Folder::with("n.txt", digits(2_000).as_bytes());
+    assert_eq!(folder.run(&["build", "n.txt"]).status, 0);
+    // A double does not count.
+    folder.write("n.txt", (digits(2_000) + "0007\n").as_bytes());
+    assert_eq!(folder.run(&["build", "n.txt"]).status, 0);
+    folder.write("more.txt", digits(2_001).as_bytes());
+    let ran = folder.run(&["build", "more.txt"]);
+    ran.assert_fails(
+        1,
+        &["more.txt has 2,001 names, and 2,000 are the most: 1 too many"],
+    );
+    assert!(!folder.has("more.book"));
+}
+
+/// 0 to 1999 spelled with 11 letters a and b.
+fn binary() -> String {
+    let spell = |number| {
+        format!("{number:011b}\n")
+            .replace('0', "a")
+            .replace('1', "b")
+    };
+    (0..2_000).map(spell).collect()
+}
+
+#[test]
+fn a_book_past_the_limit_says_by_how_much() {
+    // By the format: 48,168 bytes with blocks of 64, 70,006 with blocks of 1.
+    let folder = Folder::with("bin.txt", binary().as_bytes());
+    assert_eq!(folder.run(&["build", "bin.txt", "--block", "64"]).status, 0);
+    assert_eq!(folder.read("bin.book").len(), 48_168);
+    let ran = folder.run(&["build", "bin.txt", "--block", "1", "-o", "no"]);
+    ran.assert_fails(
+        1,
+        &[
+            "70,006 bytes, and 65,535 are the most: 4,471 too many",
+            "--block ",
+        ],
+    );
+    assert!(!folder.has("no"));
+    // The block size that it names does help.
+    let (_, block) = ran
+        .err
+        .trim_end()
+        .rsplit_once(' ')
+        .expect("a block size is last");
+    assert_eq!(
+        folder.run(&["build", "bin.txt", "--block", block]).status,
+        0
+    );
+}
+
+/// So many names with their first letters all different, of so many bytes each;
+/// some at the front have one more.
+fn apart(count: usize, length: usize, longer: usize) -> Vec<u8> {
+    let first = |number: usize| char::from_u32(0x100 + number as u32).expect("a letter");
+    let mut text = String::new();
+    for number in 0..count {
+        let length = length + usize::from(number < longer);
+        text.push(first(number));
+        text.push_str(&"x".repeat(length - 2));
+        text.push('\n');
+    }
+    text.into_bytes()
+}
+
+#[test]
+fn a_book_of_65535_bytes_is_built_and_one_of_65536_refused() {
+    // From U+0100 on a letter has two bytes, and 64 of them share the first:
+    // 310 leaves, the root, and a fork for each 64. In blocks of 1 an entry has
+    // two bytes and the name, and the block table two for each name.
+    let count = 310;
+    let forks = 1 + usize::div_ceil(count, 64);
+    let letters = 65_535 - (16 + 10 * (count + forks) + 2 * count + 2 * count);
+    let (length, longer) = (letters / count, letters % count);
+    let folder = Folder::with("full.txt", &apart(count, length, longer));
+    let ran = folder.run(&["build", "full.txt", "--block", "1"]);
+    assert_eq!(ran.status, 0, "{}", ran.err);
+    assert_eq!(folder.read("full.book").len(), 65_535);
+    folder.write("over.txt", &apart(count, length, longer + 1));
+    let ran = folder.run(&["build", "over.txt", "--block", "1"]);
+    ran.assert_fails(1, &["65,536 bytes, and 65,535 are the most: 1 too many"]);
+}
+
+#[test]
+fn block_sizes_are_1_to_64() {
+    let folder = Folder::with("mar.txt", b"Mar\n");
+    for block in ["1", "64"] {
+        assert_eq!(
+            folder.run(&["build", "mar.txt", "--block", block]).status,
+            0
+        );
+    }
+    for block in ["0", "65", "x", "-1", ""] {
+        let ran = folder.run(&["build", "mar.txt", "--block", block]);
+        ran.assert_fails(2, &["--block takes", "stopbook build --help"]);
+    }
+}
+
+#[test]
+fn the_names_are_never_written_over() {
+    let folder = Folder::with("mar.txt", b"Mar\n");
+    for output in ["mar.txt", "./mar.txt"] {
+        let ran = folder.run(&["build", "mar.txt", "-o", output]);
+        ran.assert_fails(2, &["mar.txt is read and would be written over"]);
+    }
+    assert_eq!(folder.read("mar.txt"), b"Mar\n");
+}
+
+#[test]
+fn files_that_cannot_be_used_are_named() {
+    let folder = Folder::with("mar.txt", b"Mar\n");
+    folder
+        .run(&["build", "gone.txt"])
+        .assert_fails(2, &["gone.txt cannot be read"]);
+    let ran = folder.run(&["build", "mar.txt", "-o", "no/such/folder"]);
+    ran.assert_fails(2, &["no/such/folder cannot be written"]);
+    folder
+        .run(&["build", "."])
+        .assert_fails(2, &[". cannot be read"]);
+    folder.write("wide.txt", b"\xFF\xFEM\0a\0r\0\n\0");
+    folder
+        .run(&["build", "wide.txt"])
+        .assert_fails(1, &["wide.txt is UTF-16"]);
+}

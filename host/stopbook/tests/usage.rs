@@ -1,0 +1,68 @@
+//! Help, version and wrong usage from end to end.
+
+mod common;
+
+use common::{Folder, EXAMPLE};
+
+const COMMANDS: [&str; 5] = ["build", "list", "ask", "check", "tree"];
+
+#[test]
+fn the_help_names_every_command_and_every_exit_status() {
+    let folder = Folder::new();
+    for words in [&["--help"][..], &["-h"], &["help"]] {
+        let ran = folder.run(words);
+        assert_eq!((ran.status, ran.err.as_str()), (0, ""));
+        for command in COMMANDS {
+            assert!(ran.out().contains(&format!("stopbook {command} ")));
+        }
+        assert!(ran.out().contains("Exit status: 0"));
+    }
+}
+
+#[test]
+fn every_command_has_help_with_an_example() {
+    let folder = Folder::new();
+    for command in COMMANDS {
+        let ran = folder.run(&[command, "--help"]);
+        assert_eq!((ran.status, ran.err.as_str()), (0, ""));
+        assert!(ran.out().starts_with(&format!("stopbook {command} ")));
+        assert!(ran.out().contains("Example"));
+        assert_eq!(folder.run(&["help", command]).bytes, ran.bytes);
+        assert!(ran.out().lines().all(|line| line.len() <= 110));
+    }
+}
+
+#[test]
+fn the_version_is_that_of_the_crate() {
+    let version = concat!("stopbook ", env!("CARGO_PKG_VERSION"), "\n");
+    Folder::new().run(&["--version"]).assert(0, version);
+}
+
+#[test]
+fn wrong_usage_has_exit_status_2_and_says_where_to_look() {
+    let folder = Folder::with("mar.book", EXAMPLE);
+    let cases: [(&[&str], &str); 9] = [
+        (&[], "give a command"),
+        (&["bild", "x"], "bild is no command"),
+        (&["help", "bild"], "bild is no command"),
+        (&["build"], "give the file with the names"),
+        (&["build", "a", "b"], "b is too many"),
+        (&["list"], "give one book"),
+        (&["check", "a", "b"], "give one book"),
+        (
+            &["list", "mar.book", "--form", "1"],
+            "there is no option --form",
+        ),
+        (&["tree", "mar.book", "--svg"], "--svg takes a value"),
+    ];
+    for (words, text) in cases {
+        folder
+            .run(words)
+            .assert_fails(2, &["stopbook: ", text, "--help"]);
+    }
+    for command in ["list", "check", "tree", "ask"] {
+        folder
+            .run(&[command, "gone"])
+            .assert_fails(2, &["gone cannot be read"]);
+    }
+}
