@@ -78,9 +78,12 @@ fn nodes(shared: &[usize]) -> usize {
     shared.len() + forks
 }
 
-/// The least block size above this one with which the book fits.
-pub fn fitting_block(names: &[Vec<u8>], above: usize) -> Option<usize> {
-    (above + 1..=LARGEST_BLOCK).find(|&block| size(names, block).total() <= LONGEST_BOOK)
+/// A block size with which the book fits: the next larger one, or where none
+/// does, the next smaller one. Larger blocks mostly make shorter books, but
+/// where blocks begin counts too.
+pub fn fitting_block(names: &[Vec<u8>], block: usize) -> Option<usize> {
+    let mut others = (block + 1..=LARGEST_BLOCK).chain((1..block).rev());
+    others.find(|&other| size(names, other).total() <= LONGEST_BOOK)
 }
 
 #[cfg(test)]
@@ -146,5 +149,27 @@ mod tests {
         };
         let names: Vec<Vec<u8>> = (0..400).map(long).collect();
         assert_eq!(fitting_block(&names, 1), None);
+        assert_eq!(fitting_block(&names, 64), None);
+    }
+
+    /// The name at a position of a list where only every 64th name shares much
+    /// with the one before it: all but its last byte.
+    fn name_at(position: u16) -> Vec<u8> {
+        let (front, rest) = match position % 64 {
+            0 if position > 0 => (position - 1, [vec![b'x'; 197], vec![b'b']].concat()),
+            63 => (position, [vec![b'x'; 197], vec![b'a']].concat()),
+            _ => (position, vec![b'x'; 16]),
+        };
+        [front.to_be_bytes().to_vec(), rest].concat()
+    }
+
+    #[test]
+    fn a_smaller_block_may_fit_where_no_larger_one_does() {
+        // A block of 64 begins where most is shared, and stores it all.
+        let names: Vec<Vec<u8>> = (0..2_000).map(name_at).collect();
+        assert!(names.is_sorted());
+        assert!(size(&names, 64).total() > LONGEST_BOOK);
+        assert!(size(&names, 63).total() <= LONGEST_BOOK);
+        assert_eq!(fitting_block(&names, 64), Some(63));
     }
 }
