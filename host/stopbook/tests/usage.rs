@@ -3,6 +3,8 @@
 mod common;
 
 use common::{Folder, EXAMPLE};
+use std::io::Read;
+use std::process::{Command, Stdio};
 
 const COMMANDS: [&str; 5] = ["build", "list", "ask", "check", "tree"];
 
@@ -65,4 +67,26 @@ fn wrong_usage_has_exit_status_2_and_says_where_to_look() {
             .run(&[command, "gone"])
             .assert_fails(2, &["gone cannot be read"]);
     }
+}
+
+#[test]
+fn a_reader_that_stops_early_is_no_error() {
+    let names: String = (0..2_000).map(|number| format!("{number:04}\n")).collect();
+    let folder = Folder::with("n.txt", names.as_bytes());
+    assert_eq!(folder.run(&["build", "n.txt"]).status, 0);
+    // More than a pipe holds, so that the program is still writing.
+    let mut child = Command::new(env!("CARGO_BIN_EXE_stopbook"))
+        .args(["tree", "n.book", "--limit", "9999", "--svg", "-"])
+        .current_dir(folder.path())
+        .stdout(Stdio::piped())
+        .stderr(Stdio::piped())
+        .spawn()
+        .expect("the program starts");
+    let mut output = child.stdout.take().expect("it has an output");
+    let mut front = [0; 5];
+    output.read_exact(&mut front).expect("it writes");
+    drop(output);
+    let ended = child.wait_with_output().expect("the program ends");
+    assert_eq!(&front, b"<svg ");
+    assert_eq!((ended.status.code(), ended.stderr), (Some(0), Vec::new()));
 }
