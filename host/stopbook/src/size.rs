@@ -172,4 +172,21 @@ mod tests {
         assert!(size(&names, 63).total() <= LONGEST_BOOK);
         assert_eq!(fitting_block(&names, 64), Some(63));
     }
+
+    #[test]
+    fn a_block_size_fits_up_to_the_last_byte() {
+        // 310 names that share one byte with some others; more letters at their
+        // ends make the book longer by as many bytes.
+        let name = |number: u16| [number.to_be_bytes().to_vec(), vec![b'x'; 180]].concat();
+        let mut names: Vec<Vec<u8>> = (0..310).map(name).collect();
+        let short = LONGEST_BOOK - size(&names, 2).total();
+        for number in 0..short {
+            names[number % 310].push(b'x');
+        }
+        assert_eq!(size(&names, 2).total(), LONGEST_BOOK);
+        assert_eq!(fitting_block(&names, 1), Some(2));
+        names[309].push(b'x');
+        assert_eq!(size(&names, 2).total(), LONGEST_BOOK + 1);
+        assert_eq!(fitting_block(&names, 1), Some(3));
+    }
 }
