@@ -7,12 +7,21 @@
 //! | [`stations`](mod@stations) | names like those of stations |
 //! | [`mix`] | the questions and positions |
 //! | [`sorted`] | a plain sorted array, searched by halving |
+//! | [`steps`] | what is measured, and the figures |
+//! | [`tables`] | the figures as a page of Markdown |
+//! | [`plot`] | the figures as a drawing |
+//!
+//! The program over them links the proved library and measures: see
+//! benchmark.sh. Nothing here does, so that it can be tested without.
 
 #![forbid(unsafe_code)]
 #![warn(missing_docs)]
 
 pub mod mix;
+pub mod plot;
 pub mod sorted;
 pub mod stations;
+pub mod steps;
+pub mod tables;
 
 pub use stations::stations;

@@ -1,0 +1,182 @@
+//! What is measured, and the figures that come of it.
+
+use std::collections::BTreeMap;
+
+/// Something that is measured of each way to keep names.
+#[derive(Clone, Copy, Debug, PartialEq, Eq, PartialOrd, Ord)]
+pub enum Step {
+    /// A call that does nothing: what measuring takes.
+    Nothing,
+    /// Building from a list.
+    Build,
+    /// Checking a book.
+    Check,
+    /// Reading a name back, as a call of its own.
+    Read,
+    /// A question of this kind, as a call of its own.
+    Ask(Kind),
+    /// A batch of 64 questions, all kinds mixed.
+    Batch,
+    /// A batch of 64 questions of this kind.
+    BatchOf(Kind),
+    /// Reading a name back, of names that are already at hand.
+    HeldRead,
+    /// A question of this kind, to names that are already at hand.
+    HeldAsk(Kind),
+}
+
+/// The four kinds of question.
+#[derive(Clone, Copy, Debug, PartialEq, Eq, PartialOrd, Ord)]
+pub enum Kind {
+    /// Is there such a name?
+    Exact,
+    /// How many names are less?
+    Place,
+    /// Which names begin with it?
+    Range,
+    /// Which name shares most with it?
+    Nearest,
+}
+
+/// Every kind, in the order of their numbers in a batch row.
+pub const KINDS: [Kind; 4] = [Kind::Exact, Kind::Place, Kind::Range, Kind::Nearest];
+
+impl Kind {
+    /// The kind's name.
+    pub fn name(self) -> &'static str {
+        ["exact", "place", "range", "nearest"][self as usize]
+    }
+
+    /// The kind's number in a batch row.
+    pub fn number(self) -> usize {
+        self as usize + 1
+    }
+}
+
+/// How many rows a batch has here.
+pub const ROWS: usize = 64;
+
+/// A way to keep names.
+#[derive(Clone, Debug)]
+pub struct Subject {
+    /// What it is called.
+    pub name: String,
+    /// How many bytes it keeps the names in.
+    pub size: usize,
+}
+
+/// The subjects by their numbers: the proved library is the first of them.
+pub const LIBRARY: usize = 0;
+/// The second program.
+pub const MODEL: usize = 1;
+/// The plain sorted array.
+pub const SORTED: usize = 2;
+
+/// Average and most of several calls.
+#[derive(Clone, Copy, Debug, PartialEq)]
+pub struct Spread {
+    /// The average.
+    pub mean: f64,
+    /// The most.
+    pub most: f64,
+}
+
+/// All that was measured, by subject and step.
+#[derive(Default)]
+pub struct Figures {
+    /// Instructions of each call.
+    pub instructions: BTreeMap<(usize, Step), Vec<u64>>,
+    /// Nanoseconds of a call, in each round.
+    pub times: BTreeMap<(usize, Step), Vec<f64>>,
+    /// The deepest stack in bytes.
+    pub stacks: BTreeMap<(usize, Step), usize>,
+}
+
+impl Figures {
+    /// Instructions of a call of its own, less what measuring takes.
+    pub fn whole(&self, subject: usize, step: Step) -> Option<Spread> {
+        let counts = self.instructions.get(&(subject, step))?;
+        let nothing = self.nothing();
+        Some(Spread {
+            mean: counts.iter().sum::<u64>() as f64 / counts.len() as f64 - nothing,
+            most: *counts.iter().max()? as f64 - nothing,
+        })
+    }
+
+    /// What measuring takes.
+    fn nothing(&self) -> f64 {
+        let counts = self.instructions.get(&(LIBRARY, Step::Nothing));
+        counts.map_or(0.0, |counts| counts[0] as f64)
+    }
+
+    /// Instructions after the check: of the library what a call takes more than
+    /// its check, of the second program what it takes with the names at hand.
+    /// The others have no check, so it is the call itself.
+    pub fn held(&self, subject: usize, step: Step) -> Option<Spread> {
+        match subject {
+            LIBRARY => {
+                let call = self.whole(subject, step)?;
+                let check = self.whole(subject, Step::Check)?.mean;
+                Some(Spread {
+                    mean: call.mean - check,
+                    most: call.most - check,
+                })
+            }
+            MODEL => self.whole(subject, held_step(step)),
+            _ => self.whole(subject, step),
+        }
+    }
+
+    /// In each round, the time of a call of its own.
+    pub fn whole_times(&self, subject: usize, step: Step) -> Option<Vec<f64>> {
+        self.times.get(&(subject, step)).cloned()
+    }
+
+    /// In each round, the time after the check. Of the library it is a 64th of
+    /// what a batch of that kind takes more than the check, since a question
+    /// is too small beside the check to be seen.
+    pub fn held_times(&self, subject: usize, step: Step) -> Option<Vec<f64>> {
+        match (subject, step) {
+            (LIBRARY, Step::Ask(kind)) => self.row_times(Step::BatchOf(kind)),
+            (LIBRARY, _) => None,
+            (MODEL, _) => self.whole_times(subject, held_step(step)),
+            _ => self.whole_times(subject, step),
+        }
+    }
+
+    /// In each round, a 64th of what this batch takes more than the check.
+    fn row_times(&self, batch: Step) -> Option<Vec<f64>> {
+        let batch = self.times.get(&(LIBRARY, batch))?;
+        let check = self.times.get(&(LIBRARY, Step::Check))?;
+        let rows = batch.iter().zip(check);
+        Some(
+            rows.map(|(batch, check)| (batch - check) / ROWS as f64)
+                .collect(),
+        )
+    }
+}
+
+/// The same with names that are already at hand.
+fn held_step(step: Step) -> Step {
+    match step {
+        Step::Read => Step::HeldRead,
+        Step::Ask(kind) => Step::HeldAsk(kind),
+        other => other,
+    }
+}
+
+/// The middle of these numbers; they must be there.
+pub fn median(mut numbers: Vec<f64>) -> f64 {
+    numbers.sort_by(f64::total_cmp);
+    numbers[numbers.len() / 2]
+}
+
+/// The median of how many times `one` is as much as `other`, round by round.
+pub fn median_ratio(one: &[f64], other: &[f64]) -> f64 {
+    median(
+        one.iter()
+            .zip(other)
+            .map(|(one, other)| one / other)
+            .collect(),
+    )
+}

@@ -1,0 +1,275 @@
+//! The figures as a page of Markdown.
+
+use crate::steps::{
+    median_ratio, Figures, Spread, Step, Subject, KINDS, LIBRARY, MODEL, ROWS, SORTED,
+};
+
+/// What the page says of the names.
+pub struct About {
+    /// How many names there are.
+    pub names: usize,
+    /// How many bytes their list has.
+    pub list: usize,
+    /// How many nodes their tree has.
+    pub nodes: usize,
+    /// How many questions are asked in each kind.
+    pub questions: usize,
+    /// How many times everything was timed.
+    pub rounds: usize,
+    /// What was left out, a sentence each.
+    pub left_out: Vec<String>,
+}
+
+/// Where there is no such call.
+const NONE: &str = "-";
+
+/// A row of a table: its head, and a step.
+type Line = (String, Step);
+
+/// The calls that take bytes which nobody has checked.
+pub fn whole_lines() -> Vec<Line> {
+    let mut lines = vec![
+        ("build".to_string(), Step::Build),
+        ("check".to_string(), Step::Check),
+        ("read".to_string(), Step::Read),
+    ];
+    lines.extend(KINDS.map(|kind| (kind.name().to_string(), Step::Ask(kind))));
+    lines.push((format!("batch of {ROWS}"), Step::Batch));
+    lines
+}
+
+/// What is asked after the check.
+pub fn held_lines() -> Vec<Line> {
+    let mut lines = vec![("read".to_string(), Step::Read)];
+    lines.extend(KINDS.map(|kind| (kind.name().to_string(), Step::Ask(kind))));
+    lines
+}
+
+/// The page.
+pub fn page(about: &About, subjects: &[Subject], figures: &Figures) -> String {
+    let sections = [
+        head(about),
+        sizes(about, subjects),
+        whole_instructions(subjects, figures),
+        held_instructions(subjects, figures),
+        times(about, subjects, figures),
+        stacks(subjects, figures),
+    ];
+    sections.join("\n")
+}
+
+/// What was measured with.
+fn head(about: &About) -> String {
+    let mut text = format!(
+        "# Mistrogu beside other ways to keep names
+
+Measured with {} names like those of stations: {} bytes of list, {} nodes. The {} questions are names, beginnings, extensions, near misses
+and strangers, a fifth each, the same ones on every run. Every answer was compared with the second program's.
+
+- **Mistrogu** is the proved library. It trusts no byte: **a single question checks the whole book before it answers**, and so does a
+  read; nothing is kept between calls. A batch checks once for all its rows.
+- **The second program** is the plain model that tests are made from. It opens the book anew for each call, too, and is not meant to be
+  fast. It was asked one question of each shape.
+- **The sorted array** is the list with an offset for each name, searched by halving. It needs no check because it trusts whoever made
+  it: an array that is out of order gives wrong answers, and a wrong offset stops the program.
+- **marisa** and **fst**, where they are here, trust their bytes as well, and need a heap. marisa numbers names in its own way: its exact
+  question tells whether there is such a name, its range only how many there are, found one by one. fst maps names to positions.
+  Neither has something like nearest.
+
+![Instructions of each call](benchmark.svg)
+",
+        grouped(about.names as f64),
+        grouped(about.list as f64),
+        grouped(about.nodes as f64),
+        about.questions,
+    );
+    if !about.left_out.is_empty() {
+        text += &format!("\n{}\n", about.left_out.join(" "));
+    }
+    text
+}
+
+/// How many bytes the names are kept in.
+fn sizes(about: &About, subjects: &[Subject]) -> String {
+    let mut text = "## Size\n\n| Kept as | Bytes |\n|---|---:|\n".to_string();
+    let mut row = |kept: &str, bytes: usize| {
+        text += &format!("| {kept} | {} |\n", grouped(bytes as f64));
+    };
+    row("plain list: a length byte, then the name", about.list);
+    for (number, subject) in subjects.iter().enumerate() {
+        match number {
+            LIBRARY => row("book, with blocks of 16", subject.size),
+            MODEL => {}
+            SORTED => row("sorted array: list and offsets of four bytes", subject.size),
+            _ => row(&format!("dictionary of {}", subject.name), subject.size),
+        }
+    }
+    text
+}
+
+/// Instructions of single calls.
+fn whole_instructions(subjects: &[Subject], figures: &Figures) -> String {
+    let row = |(name, step): Line| {
+        let cells = (0..subjects.len()).map(|subject| {
+            let spread = figures.whole(subject, step);
+            spread.map_or(NONE.to_string(), |spread| grouped(spread.mean))
+        });
+        [vec![name], cells.collect()].concat()
+    };
+    let rows: Vec<Vec<String>> = whole_lines().into_iter().map(row).collect();
+    format!(
+        "## Instructions of a call of its own\n\nThe average of all inputs, with some ten instructions of the caller. A single question to Mistrogu is \
+         nearly all check; what the question itself takes is in the next table.\n\n{}",
+        table("Call", subjects, &rows)
+    )
+}
+
+/// Instructions after the check.
+fn held_instructions(subjects: &[Subject], figures: &Figures) -> String {
+    let shown = |spread: Spread| format!("{} / {}", grouped(spread.mean), grouped(spread.most));
+    let row = |(name, step): Line| {
+        let cells = (0..subjects.len()).map(|subject| {
+            let spread = figures.held(subject, step);
+            spread.map_or(NONE.to_string(), shown)
+        });
+        [vec![name], cells.collect()].concat()
+    };
+    let mut rows: Vec<Vec<String>> = held_lines().into_iter().map(row).collect();
+    let mut share = vec!["row of a batch, with its 64th of the check".to_string()];
+    let mut alone = vec!["row of a batch, without".to_string()];
+    for subject in 0..subjects.len() {
+        let whole = figures.whole(subject, Step::Batch);
+        let check = figures.whole(subject, Step::Check);
+        let per_row = |all: f64| grouped(all / ROWS as f64);
+        let less = check.map_or(0.0, |check| check.mean);
+        share.push(whole.map_or(NONE.to_string(), |whole| per_row(whole.mean)));
+        alone.push(whole.map_or(NONE.to_string(), |whole| per_row(whole.mean - less)));
+    }
+    rows.extend([share, alone]);
+    format!(
+        "## Instructions after the check: average / most\n\nOf Mistrogu: a single call less the check. Of the second program: the question to \
+         the names, once the book is open. The others have no check, so it is the call itself.\n\n{}",
+        table("Asked", subjects, &rows)
+    )
+}
+
+/// Times as ratios.
+fn times(about: &About, subjects: &[Subject], figures: &Figures) -> String {
+    let check = figures.whole_times(LIBRARY, Step::Check);
+    let row = |name: String, of: &dyn Fn(usize) -> Option<Vec<f64>>| {
+        let library = of(LIBRARY);
+        let cells = (0..subjects.len()).map(|subject| {
+            let base = if subject == LIBRARY { &check } else { &library };
+            match (of(subject), base) {
+                (Some(times), Some(base)) => ratio(median_ratio(&times, base)),
+                _ => NONE.to_string(),
+            }
+        });
+        [vec![name], cells.collect()].concat()
+    };
+    let mut rows = Vec::new();
+    for (name, step) in whole_lines() {
+        rows.push(row(name, &|subject| figures.whole_times(subject, step)));
+    }
+    for (name, step) in held_lines() {
+        let name = format!("{name}, after the check");
+        rows.push(row(name, &|subject| figures.held_times(subject, step)));
+    }
+    rows.retain(|row| row[1] != NONE);
+    format!(
+        "## Time\n\nIn Mistrogu's column its check is 1. In the others Mistrogu's time in the same row is 1: 1/2,000 is the two \
+         thousandth part of it. Processor time; medians of {} rounds in one process. After the check, Mistrogu's time is a 64th of \
+         what a batch of that kind takes more than the check.\n\n{}",
+        about.rounds,
+        table("Call", subjects, &rows)
+    )
+}
+
+/// Stacks.
+fn stacks(subjects: &[Subject], figures: &Figures) -> String {
+    let row = |(name, step): Line| {
+        let cells = (0..subjects.len()).map(|subject| {
+            let depth = figures.stacks.get(&(subject, step));
+            depth.map_or(NONE.to_string(), |&depth| grouped(depth as f64))
+        });
+        [vec![name], cells.collect()].concat()
+    };
+    let rows: Vec<Vec<String>> = whole_lines().into_iter().map(row).collect();
+    format!(
+        "## Stack in bytes\n\nThe deepest of all inputs, with the measuring's own frames, under 100 bytes. What is on the heap is not counted: \
+         Mistrogu and the sorted array use none.\n\n{}",
+        table("Call", subjects, &rows)
+    )
+}
+
+/// A table with a column for each subject.
+fn table(corner: &str, subjects: &[Subject], rows: &[Vec<String>]) -> String {
+    let names = subjects.iter().map(|subject| subject.name.as_str());
+    let head: Vec<&str> = [corner].into_iter().chain(names).collect();
+    let mut text = format!(
+        "| {} |\n|---|{}\n",
+        head.join(" | "),
+        "---:|".repeat(subjects.len())
+    );
+    for row in rows {
+        text += &format!("| {} |\n", row.join(" | "));
+    }
+    text
+}
+
+/// A number without its fraction, in groups of three digits.
+pub fn grouped(number: f64) -> String {
+    let digits = format!("{:.0}", number.abs());
+    let mut text = String::new();
+    for (at, digit) in digits.chars().enumerate() {
+        if at > 0 && (digits.len() - at).is_multiple_of(3) {
+            text.push(',');
+        }
+        text.push(digit);
+    }
+    let sign = if number < 0.0 && digits != "0" {
+        "-"
+    } else {
+        ""
+    };
+    sign.to_string() + &text
+}
+
+/// A ratio with two digits that count; a small one as one part of so many.
+pub fn ratio(ratio: f64) -> String {
+    if ratio >= 9.95 {
+        grouped(two_digits(ratio))
+    } else if ratio >= 0.2 {
+        format!("{ratio:.2}")
+    } else if ratio > 0.0 {
+        format!("1/{}", grouped(two_digits(1.0 / ratio)))
+    } else {
+        NONE.to_string()
+    }
+}
+
+/// The number rounded to its first two digits.
+fn two_digits(number: f64) -> f64 {
+    let unit = 10f64.powf(number.log10().floor() - 1.0).max(1.0);
+    (number / unit).round() * unit
+}
+
+#[cfg(test)]
+mod tests {
+    use super::{grouped, ratio};
+
+    #[test]
+    fn digits_stand_in_groups_of_three() {
+        let shown = [0.0, 999.4, 1000.0, 1_234_567.0, -1234.0, -0.2].map(grouped);
+        assert_eq!(shown, ["0", "999", "1,000", "1,234,567", "-1,234", "0"]);
+    }
+
+    #[test]
+    fn a_ratio_has_two_digits_or_is_one_part_of_so_many() {
+        let shown = [1.0, 0.25, 0.1, 0.0004762, 12.4, 1234.0, 0.0].map(ratio);
+        assert_eq!(
+            shown,
+            ["1.00", "0.25", "1/10", "1/2,100", "12", "1,200", "-"]
+        );
+    }
+}

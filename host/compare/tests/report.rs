@@ -1,0 +1,93 @@
+//! The page and the drawing show what was measured.
+
+use compare::plot::drawing;
+use compare::steps::{
+    median_ratio, Figures, Kind, Step, Subject, KINDS, LIBRARY, MODEL, ROWS, SORTED,
+};
+use compare::tables::{page, About};
+
+/// Three subjects, with figures that are easily told apart.
+fn made_up() -> (Vec<Subject>, Figures) {
+    let names = ["Mistrogu", "second program", "sorted array"];
+    let subjects = names.map(|name| Subject {
+        name: name.to_string(),
+        size: 1000,
+    });
+    let mut figures = Figures::default();
+    let mut note = |subject, step, counts: &[u64], time: f64| {
+        figures
+            .instructions
+            .insert((subject, step), counts.to_vec());
+        figures
+            .times
+            .insert((subject, step), vec![time, 2.0 * time]);
+        figures.stacks.insert((subject, step), 64);
+    };
+    note(LIBRARY, Step::Nothing, &[10], 1.0);
+    note(LIBRARY, Step::Check, &[100_010], 6400.0);
+    note(LIBRARY, Step::Batch, &[164_010], 7040.0);
+    for kind in KINDS {
+        note(LIBRARY, Step::Ask(kind), &[100_410, 100_810], 6401.0);
+        note(LIBRARY, Step::BatchOf(kind), &[164_010], 12_800.0);
+        note(MODEL, Step::Ask(kind), &[5_000_010], 64_010.0);
+        note(MODEL, Step::HeldAsk(kind), &[7_010], 50.0);
+        note(SORTED, Step::Ask(kind), &[710], 20.0);
+    }
+    (subjects.to_vec(), figures)
+}
+
+#[test]
+fn after_the_check_the_librarys_check_is_taken_off() {
+    let (_, figures) = made_up();
+    let step = Step::Ask(Kind::Exact);
+    let held = |subject| {
+        figures
+            .held(subject, step)
+            .map(|spread| (spread.mean, spread.most))
+    };
+    assert_eq!(held(LIBRARY), Some((600.0, 800.0)));
+    assert_eq!(held(MODEL), Some((7000.0, 7000.0)));
+    assert_eq!(held(SORTED), Some((700.0, 700.0)));
+    assert_eq!(figures.held_times(LIBRARY, step), Some(vec![100.0, 200.0]));
+    assert_eq!(figures.held_times(SORTED, step), Some(vec![20.0, 40.0]));
+    assert_eq!(figures.held_times(LIBRARY, Step::Read), None);
+    assert_eq!(median_ratio(&[1.0, 9.0, 6.0], &[2.0, 3.0, 3.0]), 2.0);
+    assert_eq!(ROWS, 64);
+}
+
+#[test]
+fn the_page_has_a_row_for_each_call_and_says_what_is_left_out() {
+    let (subjects, figures) = made_up();
+    let about = About {
+        names: 1960,
+        list: 40_763,
+        nodes: 2667,
+        questions: 100,
+        rounds: 2,
+        left_out: vec!["fst is left out.".to_string()],
+    };
+    let page = page(&about, &subjects, &figures);
+    for line in [
+        "| exact | 100,600 | 5,000,000 | 700 |",
+        "| exact | 600 / 800 | 7,000 / 7,000 | 700 / 700 |",
+        "| exact, after the check | 1/64 | 0.50 | 0.20 |",
+        "| row of a batch, with its 64th of the check | 2,562 | - | - |",
+        "| row of a batch, without | 1,000 | - | - |",
+        "| build | - | - | - |",
+        "| check | 64 | - | - |",
+        "fst is left out.",
+    ] {
+        assert!(page.lines().any(|other| other == line), "{line}\n{page}");
+    }
+}
+
+#[test]
+fn the_drawing_has_a_mark_for_each_figure() {
+    let (subjects, figures) = made_up();
+    let drawing = drawing(&subjects, &figures);
+    // A mark in the legend; then check, batch, its row and four kinds twice.
+    assert_eq!(drawing.matches("<circle").count(), 1 + 3 + 8);
+    assert!(drawing.contains("100,600") && drawing.contains("prefers-color-scheme: dark"));
+    assert!(!drawing.contains("NaN") && !drawing.contains("inf"));
+    assert!(drawing.ends_with("</svg>\n"));
+}
