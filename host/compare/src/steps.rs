@@ -86,7 +86,8 @@ pub struct Spread {
 pub struct Figures {
     /// Instructions of each call.
     pub instructions: BTreeMap<(usize, Step), Vec<u64>>,
-    /// Nanoseconds of a call, in each round.
+    /// Nanoseconds of a call, in each round; of a batch of one kind what it
+    /// takes more than the check.
     pub times: BTreeMap<(usize, Step), Vec<f64>>,
     /// The deepest stack in bytes.
     pub stacks: BTreeMap<(usize, Step), usize>,
@@ -137,22 +138,14 @@ impl Figures {
     /// is too small beside the check to be seen.
     pub fn held_times(&self, subject: usize, step: Step) -> Option<Vec<f64>> {
         match (subject, step) {
-            (LIBRARY, Step::Ask(kind)) => self.row_times(Step::BatchOf(kind)),
+            (LIBRARY, Step::Ask(kind)) => {
+                let more = self.times.get(&(subject, Step::BatchOf(kind)))?;
+                Some(more.iter().map(|more| more / ROWS as f64).collect())
+            }
             (LIBRARY, _) => None,
             (MODEL, _) => self.whole_times(subject, held_step(step)),
             _ => self.whole_times(subject, step),
         }
-    }
-
-    /// In each round, a 64th of what this batch takes more than the check.
-    fn row_times(&self, batch: Step) -> Option<Vec<f64>> {
-        let batch = self.times.get(&(LIBRARY, batch))?;
-        let check = self.times.get(&(LIBRARY, Step::Check))?;
-        let rows = batch.iter().zip(check);
-        Some(
-            rows.map(|(batch, check)| (batch - check) / ROWS as f64)
-                .collect(),
-        )
     }
 }
 

@@ -28,7 +28,7 @@ fn made_up() -> (Vec<Subject>, Figures) {
     note(LIBRARY, Step::Batch, &[164_010], 7040.0);
     for kind in KINDS {
         note(LIBRARY, Step::Ask(kind), &[100_410, 100_810], 6401.0);
-        note(LIBRARY, Step::BatchOf(kind), &[164_010], 12_800.0);
+        note(LIBRARY, Step::BatchOf(kind), &[164_010], 6400.0);
         note(MODEL, Step::Ask(kind), &[5_000_010], 64_010.0);
         note(MODEL, Step::HeldAsk(kind), &[7_010], 50.0);
         note(SORTED, Step::Ask(kind), &[710], 20.0);

@@ -1,0 +1,524 @@
+//! Every call that is measured, with all that goes into it.
+
+use crate::loaded::Loaded;
+use crate::Numbers;
+use compare::mix::{positions, questions, EACH};
+use compare::sorted::Sorted;
+use compare::stations::{stations, BLOCK};
+use compare::steps::{Kind, Step, Subject, KINDS, LIBRARY, MODEL, ROWS, SORTED};
+use model::layout::LONGEST_BOOK;
+use model::names::{leading_equal, LONGEST_NAME, MOST_NAMES};
+use model::questions::node_reached;
+use model::tree::tree;
+use vectors::lists::Names;
+
+/// How many positions are read back.
+const READS: usize = 20;
+
+/// What everything is measured with, and what the second program answers.
+pub struct Data {
+    /// The names.
+    pub names: Names,
+    /// Their list.
+    pub list: Vec<u8>,
+    /// Their book.
+    pub book: Vec<u8>,
+    /// The questions.
+    pub questions: Names,
+    /// The answers to all of them, for each kind.
+    answers: [Vec<Numbers>; 4],
+    /// The positions that are read back.
+    positions: Vec<usize>,
+    /// The questions of a batch, one behind the other.
+    buffer: Vec<u8>,
+    /// For each row of a batch: which question it is, and where it begins.
+    rows: Vec<(usize, usize)>,
+}
+
+impl Data {
+    /// The data, the same on every run. It stays until the program ends.
+    pub fn make() -> &'static Data {
+        let names = stations();
+        let questions = questions(&names);
+        let root = tree(&names).expect("there are names");
+        let nearest = |question: &[u8]| {
+            let position = node_reached(&root, question).first;
+            (position, leading_equal(&names[position], question))
+        };
+        let answers = KINDS.map(|kind| {
+            let answer = |question: &Vec<u8>| match kind {
+                Kind::Nearest => accepted(nearest(question)),
+                _ => accepted(ask_names(&names, kind, question)),
+            };
+            questions.iter().map(answer).collect()
+        });
+        let mut buffer = Vec::new();
+        let mut rows = Vec::new();
+        for row in 0..ROWS {
+            let number = row * questions.len() / ROWS;
+            rows.push((number, buffer.len()));
+            buffer.extend_from_slice(&questions[number]);
+        }
+        Box::leak(Box::new(Data {
+            list: model::write_list(&names),
+            book: model::book_of(BLOCK, &names),
+            positions: positions(&names, READS),
+            names,
+            questions,
+            answers,
+            buffer,
+            rows,
+        }))
+    }
+
+    /// The rows of a batch with these kinds, as `row` makes them of kind number,
+    /// start and length.
+    fn batch<R>(&self, kinds: &[Kind], row: impl Fn(usize, usize, usize) -> R) -> Vec<R> {
+        let rows = kinds.iter().zip(&self.rows);
+        rows.map(|(kind, &(number, start))| row(kind.number(), start, self.questions[number].len()))
+            .collect()
+    }
+}
+
+/// The numbers of an accepted call.
+fn accepted((first, second): (usize, usize)) -> Numbers {
+    [0, first, second]
+}
+
+/// The numbers of the library's answer.
+fn of_library(answer: proved::Answer) -> Numbers {
+    [answer.code, answer.first, answer.second]
+}
+
+/// The numbers of the second program's answer.
+fn of_model(answer: model::Answer) -> Numbers {
+    [answer.code, answer.first, answer.second]
+}
+
+/// A question to the second program, with the names at hand.
+fn ask_names(names: &Names, kind: Kind, question: &[u8]) -> (usize, usize) {
+    match kind {
+        Kind::Exact => model::questions::exact(names, question),
+        Kind::Place => model::questions::place(names, question),
+        Kind::Range => model::questions::range(names, question),
+        Kind::Nearest => model::questions::nearest(names, question).unwrap_or_default(),
+    }
+}
+
+/// A question to the sorted array.
+fn ask_sorted(sorted: Sorted, kind: Kind, question: &[u8]) -> Numbers {
+    accepted(match kind {
+        Kind::Exact => sorted.exact(question),
+        Kind::Place => sorted.place(question),
+        Kind::Range => sorted.range(question),
+        Kind::Nearest => sorted.nearest(question).unwrap_or_default(),
+    })
+}
+
+/// A call that is measured with several inputs, one after the other.
+pub trait Call: Send {
+    /// How many inputs there are.
+    fn turns(&self) -> usize;
+    /// Makes the call with the input of this turn.
+    fn make(&mut self, turn: usize) -> Numbers;
+    /// Whether these are the right numbers.
+    fn is_right(&self, turn: usize, numbers: Numbers) -> bool;
+}
+
+/// Whose call it is, and which.
+pub struct Item {
+    /// The number of the subject.
+    pub subject: usize,
+    /// What the call does.
+    pub step: Step,
+    /// The call.
+    pub call: Box<dyn Call>,
+}
+
+/// A call with one input.
+struct Once<F> {
+    make: F,
+    expected: Numbers,
+}
+
+impl<F: FnMut() -> Numbers + Send> Call for Once<F> {
+    fn turns(&self) -> usize {
+        1
+    }
+
+    fn make(&mut self, _: usize) -> Numbers {
+        (self.make)()
+    }
+
+    fn is_right(&self, _: usize, numbers: Numbers) -> bool {
+        numbers == self.expected
+    }
+}
+
+/// A question, of which every so many are asked.
+struct Asking<F> {
+    data: &'static Data,
+    kind: Kind,
+    every: usize,
+    /// Whether the first number is a position or a place, as it should be.
+    whole: bool,
+    ask: F,
+}
+
+impl<F: FnMut(&[u8]) -> Numbers + Send> Call for Asking<F> {
+    fn turns(&self) -> usize {
+        self.data.questions.len() / self.every
+    }
+
+    fn make(&mut self, turn: usize) -> Numbers {
+        (self.ask)(&self.data.questions[turn * self.every])
+    }
+
+    fn is_right(&self, turn: usize, numbers: Numbers) -> bool {
+        let expected = self.data.answers[self.kind as usize][turn * self.every];
+        numbers == expected || (!self.whole && numbers[2] == expected[2])
+    }
+}
+
+/// Reading back.
+struct Reading<F> {
+    data: &'static Data,
+    every: usize,
+    /// Whether the number of a name is its position.
+    in_order: bool,
+    room: Vec<u8>,
+    read: F,
+}
+
+impl<F: FnMut(usize, &mut [u8]) -> Numbers + Send> Call for Reading<F> {
+    fn turns(&self) -> usize {
+        self.data.positions.len() / self.every
+    }
+
+    fn make(&mut self, turn: usize) -> Numbers {
+        (self.read)(self.data.positions[turn * self.every], &mut self.room)
+    }
+
+    fn is_right(&self, turn: usize, numbers: Numbers) -> bool {
+        let name = &self.room[..numbers[1]];
+        let found = self
+            .data
+            .names
+            .binary_search_by(|other| other[..].cmp(name));
+        let position = self.data.positions[turn * self.every];
+        numbers[0] == 0 && found.is_ok_and(|found| !self.in_order || found == position)
+    }
+}
+
+/// A batch, with answer rows of a kind of their own.
+struct Batching<A, F> {
+    data: &'static Data,
+    kinds: Vec<Kind>,
+    answers: Vec<A>,
+    ask: F,
+    tell: fn(A) -> Numbers,
+}
+
+impl<A: Copy + Send, F: FnMut(&mut [A]) -> Numbers + Send> Call for Batching<A, F> {
+    fn turns(&self) -> usize {
+        1
+    }
+
+    fn make(&mut self, _: usize) -> Numbers {
+        (self.ask)(&mut self.answers)
+    }
+
+    fn is_right(&self, _: usize, numbers: Numbers) -> bool {
+        let rows = self.kinds.iter().zip(&self.data.rows);
+        let expected = rows.map(|(&kind, &(number, _))| self.data.answers[kind as usize][number]);
+        numbers == [0, ROWS, 0] && self.answers.iter().copied().map(self.tell).eq(expected)
+    }
+}
+
+/// The subjects, and every call of theirs.
+pub fn items(data: &'static Data, peers: &[(String, Loaded)]) -> (Vec<Subject>, Vec<Item>) {
+    let mut subjects = vec![
+        subject("Mistrogu", data.book.len()),
+        subject("second program", data.book.len()),
+    ];
+    let mut items = library_items(data);
+    items.extend(model_items(data));
+
+    let starts = Box::leak(Box::new([0; MOST_NAMES]));
+    let sorted = Sorted::build(&data.list, starts).expect("the list is sound");
+    subjects.push(subject("sorted array", sorted.size()));
+    items.extend(sorted_items(data, sorted));
+
+    for (name, loaded) in peers {
+        let size = loaded.build(&data.list).size();
+        items.extend(loaded_items(data, subjects.len(), *loaded, size));
+        subjects.push(subject(name, size));
+    }
+    (subjects, items)
+}
+
+/// A subject of this name.
+fn subject(name: &str, size: usize) -> Subject {
+    Subject {
+        name: name.to_string(),
+        size,
+    }
+}
+
+/// An item of this subject.
+fn item(subject: usize, step: Step, call: impl Call + 'static) -> Item {
+    Item {
+        subject,
+        step,
+        call: Box::new(call),
+    }
+}
+
+/// A call of the library that asks a question.
+type AskBook = fn(&[u8], &[u8]) -> proved::Answer;
+
+/// The proved library's calls.
+fn library_items(data: &'static Data) -> Vec<Item> {
+    let mut room = vec![0; LONGEST_BOOK];
+    let length = proved::book_build(&data.list, BLOCK, &mut room).first;
+    assert_eq!(&room[..length], data.book, "the library's book");
+
+    let nothing = Once {
+        make: || Numbers::default(),
+        expected: Numbers::default(),
+    };
+    let build = Once {
+        make: move || of_library(proved::book_build(&data.list, BLOCK, &mut room)),
+        expected: [0, data.book.len(), 0],
+    };
+    let check = Once {
+        make: || of_library(proved::book_check(&data.book)),
+        expected: [0, data.names.len(), BLOCK],
+    };
+    let read = Reading {
+        data,
+        every: 1,
+        in_order: true,
+        room: vec![0; LONGEST_NAME],
+        read: |position, room: &mut [u8]| of_library(proved::book_read(&data.book, position, room)),
+    };
+    let mut items = vec![
+        item(LIBRARY, Step::Nothing, nothing),
+        item(LIBRARY, Step::Build, build),
+        item(LIBRARY, Step::Check, check),
+        item(LIBRARY, Step::Read, read),
+    ];
+    let calls: [AskBook; 4] = [
+        proved::book_exact,
+        proved::book_place,
+        proved::book_range,
+        proved::book_nearest,
+    ];
+    for (kind, ask_book) in KINDS.into_iter().zip(calls) {
+        let ask = Asking {
+            data,
+            kind,
+            every: 1,
+            whole: true,
+            ask: move |question: &[u8]| of_library(ask_book(&data.book, question)),
+        };
+        items.push(item(LIBRARY, Step::Ask(kind), ask));
+    }
+    let batch = |kinds: Vec<Kind>| {
+        let rows = data.batch(&kinds, |kind, start, length| proved::Row {
+            kind,
+            start,
+            length,
+        });
+        Batching {
+            data,
+            kinds,
+            answers: vec![proved::Answer::default(); ROWS],
+            ask: move |answers: &mut [proved::Answer]| {
+                of_library(proved::book_batch(&data.book, &data.buffer, &rows, answers))
+            },
+            tell: of_library,
+        }
+    };
+    items.push(item(LIBRARY, Step::Batch, batch(mixed_kinds())));
+    for kind in KINDS {
+        let batch = batch(vec![kind; ROWS]);
+        items.push(item(LIBRARY, Step::BatchOf(kind), batch));
+    }
+    items
+}
+
+/// The kinds of a mixed batch.
+fn mixed_kinds() -> Vec<Kind> {
+    KINDS.into_iter().cycle().take(ROWS).collect()
+}
+
+/// A call of the second program that asks a question.
+type AskModel = fn(&[u8], &[u8]) -> model::Answer;
+
+/// The second program's calls: one question of each shape, and two names read.
+fn model_items(data: &'static Data) -> Vec<Item> {
+    let mut room = vec![0; LONGEST_BOOK];
+    let build = Once {
+        make: move || of_model(model::book_build(&data.list, BLOCK, &mut room)),
+        expected: [0, data.book.len(), 0],
+    };
+    let check = Once {
+        make: || of_model(model::book_check(&data.book)),
+        expected: [0, data.names.len(), BLOCK],
+    };
+    let read = Reading {
+        data,
+        every: READS / 2,
+        in_order: true,
+        room: vec![0; LONGEST_NAME],
+        read: |position, room: &mut [u8]| of_model(model::book_read(&data.book, position, room)),
+    };
+    let held_read = Reading {
+        data,
+        every: 1,
+        in_order: true,
+        room: vec![0; LONGEST_NAME],
+        read: |position: usize, room: &mut [u8]| {
+            let name = &data.names[position];
+            room[..name.len()].copy_from_slice(name);
+            [0, name.len(), 0]
+        },
+    };
+    let mut items = vec![
+        item(MODEL, Step::Build, build),
+        item(MODEL, Step::Check, check),
+        item(MODEL, Step::Read, read),
+        item(MODEL, Step::HeldRead, held_read),
+    ];
+    let calls: [AskModel; 4] = [
+        model::book_exact,
+        model::book_place,
+        model::book_range,
+        model::book_nearest,
+    ];
+    for (kind, ask_book) in KINDS.into_iter().zip(calls) {
+        let ask = Asking {
+            data,
+            kind,
+            every: EACH,
+            whole: true,
+            ask: move |question: &[u8]| of_model(ask_book(&data.book, question)),
+        };
+        let held = Asking {
+            data,
+            kind,
+            every: EACH,
+            whole: true,
+            ask: move |question: &[u8]| accepted(ask_names(&data.names, kind, question)),
+        };
+        items.push(item(MODEL, Step::Ask(kind), ask));
+        items.push(item(MODEL, Step::HeldAsk(kind), held));
+    }
+    let kinds = mixed_kinds();
+    let rows = data.batch(&kinds, |kind, start, length| model::Row {
+        kind,
+        start,
+        length,
+    });
+    let batch = Batching {
+        data,
+        kinds,
+        answers: vec![model::Answer::default(); ROWS],
+        ask: move |answers: &mut [model::Answer]| {
+            of_model(model::book_batch(&data.book, &data.buffer, &rows, answers))
+        },
+        tell: of_model,
+    };
+    items.push(item(MODEL, Step::Batch, batch));
+    items
+}
+
+/// The sorted array's calls.
+fn sorted_items(data: &'static Data, sorted: Sorted<'static>) -> Vec<Item> {
+    let mut starts = vec![0; MOST_NAMES];
+    let build = Once {
+        make: move || {
+            let built = Sorted::build(&data.list, &mut starts);
+            built.map_or([1, 0, 0], |built| [0, built.size(), 0])
+        },
+        expected: [0, sorted.size(), 0],
+    };
+    let read = Reading {
+        data,
+        every: 1,
+        in_order: true,
+        room: vec![0; LONGEST_NAME],
+        read: move |position, room: &mut [u8]| {
+            let length = sorted.read(position, room);
+            length.map_or([1, 0, 0], |length| [0, length, 0])
+        },
+    };
+    let mut items = vec![
+        item(SORTED, Step::Build, build),
+        item(SORTED, Step::Read, read),
+    ];
+    for kind in KINDS {
+        let ask = Asking {
+            data,
+            kind,
+            every: 1,
+            whole: true,
+            ask: move |question: &[u8]| ask_sorted(sorted, kind, question),
+        };
+        items.push(item(SORTED, Step::Ask(kind), ask));
+    }
+    let kinds = mixed_kinds();
+    let rows = data.batch(&kinds, |kind, start, length| (kind, start, length));
+    let batch = Batching {
+        data,
+        kinds,
+        answers: vec![Numbers::default(); ROWS],
+        ask: move |answers: &mut [Numbers]| {
+            for (&(kind, start, length), answer) in rows.iter().zip(answers) {
+                let question = &data.buffer[start..start + length];
+                *answer = ask_sorted(sorted, KINDS[kind - 1], question);
+            }
+            [0, rows.len(), 0]
+        },
+        tell: |numbers| numbers,
+    };
+    items.push(item(SORTED, Step::Batch, batch));
+    items
+}
+
+/// The calls of a library that was loaded, as far as it has them.
+fn loaded_items(data: &'static Data, subject: usize, loaded: Loaded, size: usize) -> Vec<Item> {
+    let build = Once {
+        make: move || [0, loaded.build(&data.list).size(), 0],
+        expected: [0, size, 0],
+    };
+    let mut items = vec![item(subject, Step::Build, build)];
+    // Who knows a place knows positions.
+    let whole = loaded.asks(Kind::Place as usize);
+    if loaded.reads() {
+        let mut names = loaded.build(&data.list);
+        let read = Reading {
+            data,
+            every: 1,
+            in_order: whole,
+            room: vec![0; LONGEST_NAME],
+            read: move |number, room: &mut [u8]| names.read(number, room),
+        };
+        items.push(item(subject, Step::Read, read));
+    }
+    for kind in KINDS {
+        if loaded.asks(kind as usize) {
+            let mut names = loaded.build(&data.list);
+            let ask = Asking {
+                data,
+                kind,
+                every: 1,
+                whole,
+                ask: move |question: &[u8]| names.ask(kind as usize, question),
+            };
+            items.push(item(subject, Step::Ask(kind), ask));
+        }
+    }
+    items
+}
