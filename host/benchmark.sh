@@ -5,8 +5,11 @@
 #   host/benchmark.sh FOLDER
 #
 # writes FOLDER/benchmark.md, which it also prints, and FOLDER/benchmark.svg, a drawing of the instructions; and FOLDER/stations.list and
-# FOLDER/stations.book, for measure.sh. It takes about a minute once the archive is there. Instructions are counted by valgrind's
-# callgrind, stay the same from run to run, and do not depend on the machine's load; times are ratios within the run.
+# FOLDER/stations.book, for measure.sh. It takes about a minute once the archive is there.
+#
+# Instructions are counted by valgrind's callgrind and do not depend on the machine's load. Those of the proved library are the same on
+# every run; those of the others, which call the C library, may move by a percent or two with the addresses that they get. Times are
+# ratios within the run.
 #
 # The others are the second program, a plain sorted array and, where Debian's packages libmarisa-dev and librust-fst-dev are installed,
 # marisa and fst. These two are compiled here, from compare/peers and from the packages, and loaded while the program runs; nothing

@@ -64,7 +64,8 @@ fn head(about: &About) -> String {
         "# Mistrogu beside other ways to keep names
 
 Measured with {} names like those of stations: {} bytes of list, {} nodes. The {} questions are names, beginnings, extensions, near misses
-and strangers, a fifth each, the same ones on every run. Every answer was compared with the second program's.
+and strangers, a fifth each, the same ones on every run. Every answer was compared with the second program's,
+marisa's as far as they go.
 
 - **Mistrogu** is the proved library. It trusts no byte: **a single question checks the whole book before it answers**, and so does a
   read; nothing is kept between calls. A batch checks once for all its rows.
