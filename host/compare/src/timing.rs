@@ -3,8 +3,9 @@
 //! They are the processor's time for this thread, so that waiting for other
 //! programs is not counted. What remains of these is that they share caches:
 //! so of every few samples the least counts, and everything is done in rounds.
-//! Where the stack begins makes a difference of up to a quarter for who copies
-//! short arrays on it; so those few samples begin at different places.
+//! Where in a page of memory the stack begins matters: at a few places the
+//! library's check takes up to two thirds more time. So those few samples begin
+//! at different places.
 
 use crate::items::Item;
 use compare::steps::{median, Step, LIBRARY};
@@ -16,8 +17,8 @@ use std::time::Duration;
 
 /// How many times everything is timed.
 pub const ROUNDS: usize = 15;
-/// Of how many samples the least counts: each begins 16 bytes further down the
-/// stack. Where a call is very long, two have to do.
+/// Of how many samples the least counts: each begins a quarter of a page further
+/// down the stack. Where a call is very long, two have to do.
 const TRIES: usize = 4;
 /// How many times the check is compared with a batch in a round.
 const PAIRS: usize = 25;
@@ -71,10 +72,10 @@ fn more_than(first: &mut Item, second: &mut Item) -> f64 {
 /// all inputs together, long ones with each by itself.
 fn in_round(item: &mut Item) -> f64 {
     let turns = item.call.turns();
-    let pass = sample::<16>(item, 0..turns, 1);
+    let pass = sample::<64>(item, 0..turns, 1);
     if pass < SHORT {
         let repeats = whole_parts(SAMPLE, pass);
-        let groups = whole_parts(SPAN, TRIES as u32 * sample::<16>(item, 0..turns, repeats));
+        let groups = whole_parts(SPAN, TRIES as u32 * sample::<64>(item, 0..turns, repeats));
         let group = |_| least(item, 0..turns, repeats, TRIES);
         median((0..groups).map(group).collect()) / (repeats * turns) as f64
     } else {
@@ -87,7 +88,7 @@ fn in_round(item: &mut Item) -> f64 {
 
 /// The least of up to four samples, in nanoseconds.
 fn least(item: &mut Item, turns: Range<usize>, repeats: usize, tries: usize) -> f64 {
-    let samples = [sample::<16>, sample::<32>, sample::<48>, sample::<64>];
+    let samples = [sample::<64>, sample::<1088>, sample::<2112>, sample::<3136>];
     let samples = samples.iter().take(tries);
     let times = samples.map(|sample| sample(item, turns.clone(), repeats).as_nanos() as f64);
     times.fold(f64::INFINITY, f64::min)
