@@ -9,7 +9,7 @@ is-trailer-requires : tie.Need-is-trailer-requires
 is-trailer-requires c κs = search needs
 
 check-parts-requires : tie.Need-check-parts-requires
-check-parts-requires c κs = trail-passes (c .before .before .before .args .book .now) (c .before .is-trailer .result) (c .if1 .taken) (c .before .is-trailer .ensures)
+check-parts-requires c κs = trail-passes _ _ (c .if1 .taken) (c .before .is-trailer .ensures)
 
 returns : tie.Need-returns
 returns c = search needs

@@ -34,7 +34,7 @@ slice-aggregate-check-entries : tie.Need-slice-aggregate-check-entries
 slice-aggregate-check-entries c = search needs
 
 check-entries-requires : tie.Need-check-entries-requires
-check-entries-requires c κs = (walk-ask (c .before .before .before .before .before .before .args .book .now) (c .before .before .before .before .number-at .result) (c .before .before .before .number-at2 .result) (c .before .before .number-at3 .result) (c .before .number-at4 .result) (record { trail = c .before .before .before .before .before .before .pre; names = c .before .before .before .before .number-at .ensures .0; block = c .before .before .before .number-at2 .ensures .0; table = c .before .before .number-at3 .ensures .0; nodes = c .before .number-at4 .ensures .0 }), omega (arith, c .before .before .before .before .before .before .pre .few, c .before .before .before .before .number-at .ensures .0), zeros 2000)
+check-entries-requires c κs = (walk-ask _ _ _ _ _ (record { trail = c .before .before .before .before .before .before .pre; names = c .before .before .before .before .number-at .ensures .0; block = c .before .before .before .number-at2 .ensures .0; table = c .before .before .number-at3 .ensures .0; nodes = c .before .number-at4 .ensures .0 }), omega (arith, c .before .before .before .before .before .before .pre .few, c .before .before .before .before .number-at .ensures .0), zeros 2000)
 
 returns : tie.Need-returns
 returns c = entries-fail (c .before .before .before .before .before .before .before .before .before .args .book .now) (c .before .before .before .before .before .before .before .number-at .result) (c .before .before .before .before .before .before .number-at2 .result) (c .before .before .before .before .before .number-at3 .result) (c .before .before .before .before .number-at4 .result) (record { trail = c .before .before .before .before .before .before .before .before .before .pre; names = c .before .before .before .before .before .before .before .number-at .ensures .0; block = c .before .before .before .before .before .before .number-at2 .ensures .0; table = c .before .before .before .before .before .number-at3 .ensures .0; nodes = c .before .before .before .before .number-at4 .ensures .0 }) (c .before .before .check-entries .result) _ (c .if1 .taken) (c .before .before .check-entries .ensures .1)
@@ -46,7 +46,7 @@ check-table-requires : tie.Need-check-table-requires
 check-table-requires c κs = table-ask (c .before .before .before .before .before .before .before .before .before .before .args .book .now) (c .before .before .before .before .before .before .before .before .number-at .result) (c .before .before .before .before .before .before .before .number-at2 .result) (c .before .before .before .before .before .before .number-at3 .result) (c .before .before .before .before .before .number-at4 .result) (record { trail = c .before .before .before .before .before .before .before .before .before .before .pre; names = c .before .before .before .before .before .before .before .before .number-at .ensures .0; block = c .before .before .before .before .before .before .before .number-at2 .ensures .0; table = c .before .before .before .before .before .before .number-at3 .ensures .0; nodes = c .before .before .before .before .before .number-at4 .ensures .0 }) (c .before .before .before .check-entries .result) _ (c .before .if1 .left) (c .before .before .before .check-entries .ensures .1) (omega (arith, c .before .before .before .before .before .before .before .before .before .before .pre .few, c .before .before .before .before .before .before .before .before .number-at .ensures .0, c .before .before .before .check-entries .ensures .0))
 
 returns-2 : tie.Need-returns-2
-returns-2 c = table-fails (c .before .before .before .before .before .before .before .before .before .before .before .before .args .book .now) (c .before .before .before .before .before .before .before .before .before .before .number-at .result) (c .before .before .before .before .before .before .before .before .before .number-at2 .result) (c .before .before .before .before .before .before .before .before .number-at3 .result) (c .before .before .before .before .before .before .before .number-at4 .result) (record { trail = c .before .before .before .before .before .before .before .before .before .before .before .before .pre; names = c .before .before .before .before .before .before .before .before .before .before .number-at .ensures .0; block = c .before .before .before .before .before .before .before .before .before .number-at2 .ensures .0; table = c .before .before .before .before .before .before .before .before .number-at3 .ensures .0; nodes = c .before .before .before .before .before .before .before .number-at4 .ensures .0 }) (c .before .check-table .result) (c .if2 .taken) (c .before .check-table .ensures)
+returns-2 c = table-fails _ _ _ _ _ (record { trail = c .before .before .before .before .before .before .before .before .before .before .before .before .pre; names = c .before .before .before .before .before .before .before .before .before .before .number-at .ensures .0; block = c .before .before .before .before .before .before .before .before .before .number-at2 .ensures .0; table = c .before .before .before .before .before .before .before .before .number-at3 .ensures .0; nodes = c .before .before .before .before .before .before .before .number-at4 .ensures .0 }) _ (c .if2 .taken) (c .before .check-table .ensures)
 
 returns-3 : tie.Need-returns-3
 returns-3 c = all-pass (c .before .before .before .before .before .before .before .before .before .before .before .before .args .book .now) (c .before .before .before .before .before .before .before .before .before .before .number-at .result) (c .before .before .before .before .before .before .before .before .before .number-at2 .result) (c .before .before .before .before .before .before .before .before .number-at3 .result) (c .before .before .before .before .before .before .before .number-at4 .result) (record { trail = c .before .before .before .before .before .before .before .before .before .before .before .before .pre; names = c .before .before .before .before .before .before .before .before .before .before .number-at .ensures .0; block = c .before .before .before .before .before .before .before .before .before .number-at2 .ensures .0; table = c .before .before .before .before .before .before .before .before .number-at3 .ensures .0; nodes = c .before .before .before .before .before .before .before .number-at4 .ensures .0 }) (λ i. omega (arith, c .before .before .before .before .before .before .before .before .before .before .before .shared-slice-known .given i)) (c .before .before .before .before .before .check-entries .result) _ (c .before .before .before .if1 .left) (c .before .before .before .before .before .check-entries .ensures .1) (c .before .check-table .result) (c .if2 .left) (c .before .check-table .ensures)

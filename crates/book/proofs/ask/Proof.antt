@@ -8,17 +8,17 @@ use Rattle.book.proofs.ask.Statement.{statement}
 use Rattle.book.proofs.ask.Tie as tie
 
 returns : tie.Need-returns
-returns c = ask-long _ _ _ _ _ (λ i. omega (arith, c .before .before .before .shared-slice-known .given i)) (c .before .before .before .before .pre) (c .refuse .result) (answer-is _ _ _ (c .refuse .ensures)) (search needs)
+returns c = ask-long _ _ _ _ _ (λ i. omega (arith, c .before .before .before .shared-slice-known .given i)) (c .before .before .before .before .pre) _ (answer-is _ _ _ (c .refuse .ensures)) (search needs)
 
 returns-2 : tie.Need-returns-2
 returns-2 c =
     nearest-none _ _ _ _ _ (λ i. omega (arith, c .before .before .before .before .before .shared-slice-known .given i)) (c .before .before .before .before .before .before .pre) (omega arith)
-    (c .refuse2 .result) (answer-is _ _ _ (c .refuse2 .ensures)) (search needs) (search needs)
+    _ (answer-is _ _ _ (c .refuse2 .ensures)) (search needs) (search needs)
 
 returns-3 : tie.Need-returns-3
 returns-3 c =
     ask-none _ _ _ _ _ (λ i. omega (arith, c .before .before .before .before .before .shared-slice-known .given i)) (c .before .before .before .before .before .before .pre) (omega arith)
-    (c .refuse3 .result) (answer-is _ _ _ (c .refuse3 .ensures)) (search needs) (search needs)
+    _ (answer-is _ _ _ (c .refuse3 .ensures)) (search needs) (search needs)
 
 answer-requires : tie.Need-answer-requires
 answer-requires c κs = askable _ (c .before .before .before .before .args .question .now) _ _ _ (λ i. omega (arith, c .before .before .before .shared-slice-known .given i)) (c .before .before .before .before .pre) (omega arith) (search needs)

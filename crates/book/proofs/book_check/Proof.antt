@@ -21,10 +21,10 @@ enum-known-checked : tie.Need-enum-known-checked
 enum-known-checked c = search needs
 
 returns : tie.Need-returns
-returns c = check-unsound (c .before .before .before .before .before .args .book .now) (c .refuse .result) (answer-is _ _ _ (c .refuse .ensures)) (sym (c .before .enum-told .given .1) ∙ c .before .before .before .check-book .ensures)
+returns c = check-unsound _ _ (answer-is _ _ _ (c .refuse .ensures)) (sym (c .before .enum-told .given .1) ∙ c .before .before .before .check-book .ensures)
 
 returns-2 : tie.Need-returns-2
-returns-2 c = check-sound (c .before .before .before .before .before .args .book .now) _ _ (λ i. omega (arith, c .before .before .before .before .shared-slice-known .given i)) (sym (c .before .checked .given .1) ∙ c .before .before .before .check-book .ensures)
+returns-2 c = check-sound _ _ _ (λ i. omega (arith, c .before .before .before .before .shared-slice-known .given i)) (sym (c .before .checked .given .1) ∙ c .before .before .before .check-book .ensures)
 
 pub book-check-spec : {M : Type 1} → statement M
 book-check-spec =

@@ -13,7 +13,7 @@ write-nodes-requires c κs = (c .before .before .before .before .before .before 
 
 returns : tie.Need-returns
 returns c =
-    book-lent (c .before .before .before .before .before .before .before .before .before .before .before .before .before .before .before .before .before .before .before .before .pre .0) (c .before .before .before .before .before .before .before .before .before .before .before .before .before .before .before .before .before .before .before .before .pre .1 .0) (c .before .before .before .before .before .before .before .before .before .before .before .before .before .before .before .before .before .before .before .before .args .room .now) _ _ _ _ _ _ _ (c .before .before .before .before .before .before .before .before .before .before .before .before .before .before .before .before .before .before .before .before .pre .1 .1) (c .before .before .before .before .before .before .before .before .before .before .before .before .before .before .write-entries .ensures) refl
+    book-lent (c .before .before .before .before .before .before .before .before .before .before .before .before .before .before .before .before .before .before .before .before .pre .0) (c .before .before .before .before .before .before .before .before .before .before .before .before .before .before .before .before .before .before .before .before .pre .1 .0) _ _ _ _ _ _ _ _ (c .before .before .before .before .before .before .before .before .before .before .before .before .before .before .before .before .before .before .before .before .pre .1 .1) (c .before .before .before .before .before .before .before .before .before .before .before .before .before .before .write-entries .ensures) refl
     (c .before .before .before .before .before .before .before .before .before .before .write-table .ensures .put (simp (length-take, length-drop) (omega (arith, c .before .before .before .before .before .before .before .before .before .before .before .before .before .room .given .1, c .before .before .before .before .before .before .before .before .before .before .write-table .ensures .count-is, c .before .before .before .before .before .before .before .before .before .before .before .before .before .before .before .before .before .before .before .before .pre .1 .0 .whole, c .before .before .before .before .before .before .before .before .before .before .before .before .before .before .before .before .before .before .before .before .pre .1 .0 .nodes-start, c .before .before .before .before .before .before .before .before .before .before .before .before .before .before .before .before .before .before .before .before .pre .1 .1)))) refl
     (c .before .before .before .before .before .before .write-nodes .ensures .put (c .before .before .before .before .before .before .before .before .before .before .before .before .before .before .before .before .before .before .before .before .pre .1 .0 .number)) refl (c .before .before .put-trailer .ensures)
 

@@ -15,7 +15,7 @@ abbrev μ-loop : tie.MeasureT-loop
 μ-loop book start end m cur₀ name₀ len₀ left₀ cur name len left = left
 
 loop-holds : tie.Need-loop-holds Inv-loop μ-loop
-loop-holds c = held-start (c .before .args .book .now) (c .before .args .end) (c .before .args .start) (c .before .args .m) _ (c .before .pre) (length-replicate {A = ℕ} 200 0)
+loop-holds c = held-start _ _ _ _ _ (c .before .pre) (length-replicate {A = ℕ} 200 0)
 
 returns : tie.Need-returns Inv-loop μ-loop
 returns c = held-bad (c .before .before .before .before .before .loop .inv) (omega arith) (says-false _ _ _ (c .before .before .before .before .before .loop .name) (c .before .before .before .before .before .loop .len) (c .before .is-entry .result) (c .if1 .taken) (c .before .is-entry .ensures))

@@ -17,7 +17,7 @@ abbrev μ-loop : tie.MeasureT-loop
 μ-loop book n k s u steps₀ at₀ t₀ i₀ name₀ len₀ steps at t i name len = n - i
 
 loop-holds : tie.Need-loop-holds Inv-loop μ-loop
-loop-holds c = walking-start (c .before .before .args .book .now) (c .before .before .args .k) (c .before .before .args .s) (c .before .before .args .u) (c .before .before .args .n) (c .before .before .args .steps .now) _ (length-replicate {A = ℕ} 200 0) (c .before .before .pre .0) (λ i. omega (arith, c .before .shared-slice-known .given i)) (c .before .before .pre .1) (c .before .before .pre .2)
+loop-holds c = walking-start _ _ _ _ _ _ _ (length-replicate {A = ℕ} 200 0) (c .before .before .pre .0) (λ i. omega (arith, c .before .shared-slice-known .given i)) (c .before .before .pre .1) (c .before .before .pre .2)
 
 sub-if1 : tie.Need-sub-if1 Inv-loop μ-loop
 sub-if1 c = c .before .loop .inv .table-in

@@ -29,7 +29,7 @@ returns-8 : tie.Need-returns-8
 returns-8 c = not-above (book (c .before .before .before .before .before .before .before .before)) (prev (c .before .before .before .before .before .before .before .before)) (at (c .before .before .before .before .before .before .before .before)) (end (c .before .before .before .before .before .before .before .before)) (shares (c .before .before .before .before .before .before .before .before)) (c .before .before .before .before .before .before .before .before .before .before .wide .ensures .0) (omega arith) (omega arith)
 
 returns-9 : tie.Need-returns-9
-returns-9 c = step-is (book (c .before .before .before .before .before .before .before .before)) (prev (c .before .before .before .before .before .before .before .before)) (at (c .before .before .before .before .before .before .before .before)) (end (c .before .before .before .before .before .before .before .before)) (shares (c .before .before .before .before .before .before .before .before)) (c .before .before .before .before .before .before .before .before .wide2 .result) (c .before .before .before .before .before .before .before .before .before .before .wide .ensures .0) (c .before .before .before .before .before .before .before .before .wide2 .ensures .0) (omega arith) (omega arith) (omega arith) (omega arith) (λ h. omega arith)
+returns-9 c = step-is (book (c .before .before .before .before .before .before .before .before)) (prev (c .before .before .before .before .before .before .before .before)) (at (c .before .before .before .before .before .before .before .before)) (end (c .before .before .before .before .before .before .before .before)) (shares (c .before .before .before .before .before .before .before .before)) _ (c .before .before .before .before .before .before .before .before .before .before .wide .ensures .0) (c .before .before .before .before .before .before .before .before .wide2 .ensures .0) (omega arith) (omega arith) (omega arith) (omega arith) (λ h. omega arith)
 
 pub is-entry-spec : {M : Type 1} → statement M
 is-entry-spec =

@@ -71,13 +71,13 @@ check-node-check-row-requires : (t : ℕ) → check-node-lts.Need-check-row-requ
 check-node-check-row-requires t c κs = (omega arith, record { ask = c .before .before .before .before .before .before .before .before .before .before .before .before .pre .1 .ask; low = omega arith; long = omega arith })
 
 check-node-returns-6 : (t : ℕ) → check-node-lts.Need-returns-6 (node-claims t) (check-node-at t) check-node.Post
-check-node-returns-6 t c = law.node-nodes _ _ _ _ _ _ _ (c .before .before .before .before .before .before .before .before .before .before .before .before .before .before .before .before .before .pre .1) (c .before .before .before .before .before .before .number-at4 .result) (c .before .before .before .before .before .number-at5 .result) (c .before .before .before .before .before .before .number-at4 .ensures .0) (c .before .before .before .before .before .number-at5 .ensures .0) _ _ (rw (c .before .before .seen .given .1) at (c .before .before .before .before .check-row .ensures)) (c .if6 .taken)
+check-node-returns-6 t c = law.node-nodes _ _ _ _ _ _ _ (c .before .before .before .before .before .before .before .before .before .before .before .before .before .before .before .before .before .pre .1) _ _ (c .before .before .before .before .before .before .number-at4 .ensures .0) (c .before .before .before .before .before .number-at5 .ensures .0) _ _ (rw (c .before .before .seen .given .1) at (c .before .before .before .before .check-row .ensures)) (c .if6 .taken)
 
 check-node-returns-7 : (t : ℕ) → check-node-lts.Need-returns-7 (node-claims t) (check-node-at t) check-node.Post
-check-node-returns-7 t c = law.node-stands _ _ _ _ _ _ _ (c .before .before .before .before .before .before .before .before .before .before .before .before .before .before .before .before .before .pre .1) (c .before .before .before .before .before .before .number-at4 .result) (c .before .before .before .before .before .number-at5 .result) (c .before .before .before .before .before .before .number-at4 .ensures .0) (c .before .before .before .before .before .number-at5 .ensures .0) _ _ (rw (c .before .before .seen .given .1) at (c .before .before .before .before .check-row .ensures)) (omega arith) _ _ _ (c .before .before .before .before .before .before .before .before .before .before .before .before .number-at .ensures .0) (c .before .before .before .before .before .before .before .before .before .before .before .if3 .left) (c .before .before .before .before .before .before .before .before .before .before .number-at2 .ensures .0) (c .before .before .before .before .before .before .before .before .before .if4 .left) (c .before .before .before .before .before .before .before .before .number-at3 .ensures .0) (c .before .before .before .before .before .before .before .if5 .left) (c .if6 .left)
+check-node-returns-7 t c = law.node-stands _ _ _ _ _ _ _ (c .before .before .before .before .before .before .before .before .before .before .before .before .before .before .before .before .before .pre .1) _ _ (c .before .before .before .before .before .before .number-at4 .ensures .0) (c .before .before .before .before .before .number-at5 .ensures .0) _ _ (rw (c .before .before .seen .given .1) at (c .before .before .before .before .check-row .ensures)) (omega arith) _ _ _ (c .before .before .before .before .before .before .before .before .before .before .before .before .number-at .ensures .0) (c .before .before .before .before .before .before .before .before .before .before .before .if3 .left) (c .before .before .before .before .before .before .before .before .before .before .number-at2 .ensures .0) (c .before .before .before .before .before .before .before .before .before .if4 .left) (c .before .before .before .before .before .before .before .before .number-at3 .ensures .0) (c .before .before .before .before .before .before .before .if5 .left) (c .if6 .left)
 
 check-node-returns-8 : (t : ℕ) → check-node-lts.Need-returns-8 (node-claims t) (check-node-at t) check-node.Post
-check-node-returns-8 t c = law.node-row _ _ _ _ _ _ _ (c .before .before .before .before .before .before .before .before .before .before .before .before .before .before .before .pre .1) (c .before .before .before .before .number-at4 .result) (c .before .before .before .number-at5 .result) (c .before .before .before .before .number-at4 .ensures .0) (c .before .before .before .number-at5 .ensures .0) (rw (c .enum-told .given .1) at (c .before .before .check-row .ensures))
+check-node-returns-8 t c = law.node-row _ _ _ _ _ _ _ (c .before .before .before .before .before .before .before .before .before .before .before .before .before .before .before .pre .1) _ _ (c .before .before .before .before .number-at4 .ensures .0) (c .before .before .before .number-at5 .ensures .0) (rw (c .enum-told .given .1) at (c .before .before .check-row .ensures))
 
 abbrev check-row-Inv-loop : check-row-lts.InvT-loop
 check-row-Inv-loop book steps o0 lo0 n d a0 o₀ lo₀ left₀ a₀ o lo left a = Rows book steps lo0 n d o0 o lo left a

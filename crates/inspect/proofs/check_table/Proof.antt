@@ -22,7 +22,7 @@ returns-4 : tie.Need-returns-4
 returns-4 c = law.lone-short _ _ _ _ _ (c .before .before .before .before .before .pre) (c .before .before .if1 .left) (λ i. omega (arith, c .before .before .before .before .shared-slice-known .given i)) (c .before .if2 .left) (c .if3 .taken)
 
 returns-5 : tie.Need-returns-5
-returns-5 c = law.lone-names _ _ _ _ _ (c .before .before .before .before .before .before .before .pre) (c .before .before .before .before .if1 .left) (λ i. omega (arith, c .before .before .before .before .before .before .shared-slice-known .given i)) (c .before .before .before .if2 .left) (c .before .number-at .result) (c .before .number-at .ensures .0) (c .if4 .taken)
+returns-5 c = law.lone-names _ _ _ _ _ (c .before .before .before .before .before .before .before .pre) (c .before .before .before .before .if1 .left) (λ i. omega (arith, c .before .before .before .before .before .before .shared-slice-known .given i)) (c .before .before .before .if2 .left) _ (c .before .number-at .ensures .0) (c .if4 .taken)
 
 length-of-requires : tie.Need-length-of-requires
 length-of-requires c κs = law.first-fits _ _ _ _ _ (c .before .before .before .before .before .before .before .pre) (c .before .before .before .before .if1 .left)

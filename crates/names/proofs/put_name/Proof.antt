@@ -10,7 +10,7 @@ read-name-requires : tie.Need-read-name-requires
 read-name-requires c κs = search needs
 
 returns : tie.Need-returns
-returns c = put-short _ (c .before .before .before .before .before .args .room .now) (c .before .before .read-name .result .len) (c .before .before .read-name .result .name) (c .before .before .read-name .ensures) (omega arith)
+returns c = put-short _ _ (c .before .before .read-name .result .len) (c .before .before .read-name .result .name) (c .before .before .read-name .ensures) (omega arith)
 
 sub-put-front : tie.Need-sub-put-front
 sub-put-front c = search needs

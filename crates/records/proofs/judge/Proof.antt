@@ -24,7 +24,7 @@ abbrev μ-records : tie.MeasureT-records
 
 records-holds : tie.Need-records-holds Inv-bytes μ-bytes Inv-records μ-records
 records-holds c =
-    law.reading-start (c .before .before .before .args .list .now) (c .before .before .before .args .lens .now) (c .before .before .before .args .steps .now)
+    law.reading-start _ _ _
     (c .before .before .before .pre .0) (c .before .before .before .pre .1)
 
 -- a length byte is read
