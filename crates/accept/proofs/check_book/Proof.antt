@@ -5,17 +5,11 @@ use borrow.Author.Needs.{needs}
 use Rattle.accept.proofs.check_book.Statement.{statement}
 use Rattle.accept.proofs.check_book.Tie as tie
 
-is-trailer-requires : tie.Need-is-trailer-requires
-is-trailer-requires c κs = search needs
-
 check-parts-requires : tie.Need-check-parts-requires
 check-parts-requires c κs = trail-passes _ _ (c .if1 .taken) (c .before .is-trailer .ensures)
-
-returns : tie.Need-returns
-returns c = search needs
 
 returns-2 : tie.Need-returns-2
 returns-2 c = trail-fails (c .before .before .before .args .book .now) (c .before .is-trailer .result) (c .if1 .left) (c .before .is-trailer .ensures)
 
 pub check-book-spec : {M : Type 1} → statement M
-check-book-spec = tie.close (tie.spec is-trailer-requires check-parts-requires returns returns-2)
+check-book-spec = tie.close (tie.spec (λ c κs. search needs) check-parts-requires (λ c. search needs) returns-2)

@@ -8,18 +8,6 @@ use borrow.Author.Needs.{needs}
 use Rattle.book.proofs.book_check.Statement.{statement}
 use Rattle.book.proofs.book_check.Tie as tie
 
-check-book-requires : tie.Need-check-book-requires
-check-book-requires c κs = search needs
-
-enum-told : tie.Need-enum-told
-enum-told c = search needs
-
-refuse-requires : tie.Need-refuse-requires
-refuse-requires c κs = search needs
-
-enum-known-checked : tie.Need-enum-known-checked
-enum-known-checked c = search needs
-
 returns : tie.Need-returns
 returns c = check-unsound _ _ (answer-is _ _ _ (c .refuse .ensures)) (sym (c .before .enum-told .given .1) ∙ c .before .before .before .check-book .ensures)
 
@@ -29,4 +17,4 @@ returns-2 c = check-sound _ _ _ (λ i. omega (arith, c .before .before .before .
 pub book-check-spec : {M : Type 1} → statement M
 book-check-spec =
     tie.close
-    (tie.spec check-book-requires enum-told refuse-requires enum-known-checked returns returns-2)
+    (tie.spec (λ c κs. search needs) (λ c. search needs) (λ c κs. search needs) (λ c. search needs) returns returns-2)

@@ -6,11 +6,8 @@ use borrow.Author.Needs.{needs}
 use Rattle.book.proofs.closed.Statement.{statement}
 use Rattle.book.proofs.closed.Tie as tie
 
-refuse-requires : tie.Need-refuse-requires
-refuse-requires c κs = search needs
-
 returns : tie.Need-returns
 returns c = closed-is _ _ (answer-is _ _ _ (c .refuse .ensures))
 
 pub closed-spec : {M : Type 1} → statement M
-closed-spec = tie.close (tie.spec refuse-requires returns)
+closed-spec = tie.close (tie.spec (λ c κs. search needs) returns)

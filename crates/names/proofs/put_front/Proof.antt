@@ -16,17 +16,11 @@ abbrev μ-loop : tie.MeasureT-loop
 loop-holds : tie.Need-loop-holds Inv-loop μ-loop
 loop-holds c = fronted-start _ _ (c .pre)
 
-shared-slice-read-room : tie.Need-shared-slice-read-room Inv-loop μ-loop
-shared-slice-read-room c = omega arith
-
 slice-write-room : tie.Need-slice-write-room Inv-loop μ-loop
 slice-write-room c = omega (arith, c .before .before .loop .inv .fits, c .before .before .loop .inv .kept)
 
 add-i : tie.Need-add-i Inv-loop μ-loop
 add-i c = omega (arith, c .before .before .loop .inv .fits)
-
-loop-less : tie.Need-loop-less Inv-loop μ-loop
-loop-less c = omega arith
 
 loop-again : tie.Need-loop-again Inv-loop μ-loop
 loop-again c = fronted-more (c .before .before .before .args .out .now) (c .before .before .before .args .room .now) (c .before .before .loop .room) (c .before .before .loop .i) (c .before .before .loop .inv) (omega arith)
@@ -44,10 +38,10 @@ put-front-spec =
     Inv-loop
     μ-loop
     loop-holds
-    shared-slice-read-room
+    (λ c. omega arith)
     slice-write-room
     add-i
-    loop-less
+    (λ c. omega arith)
     loop-again
     same-length
     returns)

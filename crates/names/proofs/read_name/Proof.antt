@@ -6,18 +6,6 @@ use borrow.Author.Needs.{needs}
 use Rattle.names.proofs.read_name.Statement.{statement}
 use Rattle.names.proofs.read_name.Tie as tie
 
-sub-at : tie.Need-sub-at
-sub-at c = search needs
-
-add-number-at : tie.Need-add-number-at
-add-number-at c = search needs
-
-number-at-requires : tie.Need-number-at-requires
-number-at-requires c κs = search needs
-
-div-block : tie.Need-div-block
-div-block c = search needs
-
 mul-number-at : tie.Need-mul-number-at
 mul-number-at c = omega (arith, (found _ _ _ _ (c .before .before .pre) (c .number-at .ensures .0)) .few, (found _ _ _ _ (c .before .before .pre) (c .number-at .ensures .0)) .below)
 
@@ -43,10 +31,10 @@ pub read-name-spec : {M : Type 1} → statement M
 read-name-spec =
     tie.close
     (tie.spec
-    sub-at
-    add-number-at
-    number-at-requires
-    div-block
+    (λ c. search needs)
+    (λ c. search needs)
+    (λ c κs. search needs)
+    (λ c. search needs)
     mul-number-at
     add-number-at-2
     number-at-requires-2
