@@ -8,7 +8,7 @@
 # FOLDER/stations.book, for measure.sh. It takes about a minute once the archive is there.
 #
 # Instructions are counted by valgrind's callgrind and do not depend on the machine's load. Those of the proved library are the same on
-# every run; those of the others, which call the C library, may move by a percent or two with the addresses that they get. Times are
+# every run; those of the others, which call the C library, move by a few percent with the addresses that they get. Times are
 # ratios within the run.
 #
 # The others are the second program, a plain sorted array and, where Debian's packages libmarisa-dev and librust-fst-dev are installed,
