@@ -22,11 +22,11 @@ use Rattle.descent.proofs.Bytes.{opened-searchable}
 use Rattle.streams.specs.Streams.{namesOf, wordsOf}
 use Rattle.accept.specs.Parts.{checkedOf}
 use Rattle.accept.specs.declared.Checked.the-variants.{Unsound}
-use Rattle.accept.proofs.Judging.{sound-book}
+use Rattle.accept.proofs.Judging.{SoundBook, sound-book}
 use Rattle.search.specs.Asks.{KindAsk}
 use Rattle.book.specs.Answers.{Asking, KindNumber, answered}
 use Rattle.book.specs.declared.Answer.{Answer}
-use Rattle.book.proofs.Reading.{no-book}
+use Rattle.book.proofs.Reading.{checked-sound, no-book}
 
 pub ask-unsound : (kind : ℕ) (b q : Bytes) (r : Answer) → answered r ≡ refused 2 → Unsound ≡ checkedOf (opened plain b) → answered r ≡ question plain kind b q
 unfolding question questionOf
@@ -42,12 +42,16 @@ none-found (suc (suc (suc zero))) h n q = refl
 none-found (suc (suc (suc (suc kind)))) h n q = absurd (n (omega (arith, h .high)))
 
 module _ (b q : Bytes) (n k kind : ℕ) (bytes : InBytes b) (s : Asking b n k kind) where
+  -- what the check has shown
+  shown : SoundBook b n k
+  shown = sound-book b n k bytes (checked-sound b n k (s .checked))
+
   asks : question plain kind b q ≡ questionOf plain kind q (Book k (namesOf b))
   unfolding question
-  asks = ap (questionOf plain kind q) (sound-book b n k bytes (s .checked) .book)
+  asks = ap (questionOf plain kind q) (shown .book)
 
   names : n ≡ length (namesOf b)
-  names = sound-book b n k bytes (s .checked) .count
+  names = shown .count
 
   pub ask-long : (r : Answer) → answered r ≡ refused 1 → longest < length q → answered r ≡ question plain kind b q
   ask-long r e h = e ∙ sym (asks ∙ question-long plain kind q k (namesOf b) h)
@@ -72,12 +76,12 @@ module _ (b q : Bytes) (n k kind : ℕ) (bytes : InBytes b) (s : Asking b n k ki
     module _ (some : n ≡ 0 → ⊥) where
       opens : wordsIn plain b ≡ wordsOf b
       unfolding wordsIn wordsOf
-      opens = ap (λ (o : Opened). map (word plain) (openedNames o)) (sound-book b n k bytes (s .checked) .book)
+      opens = ap (λ (o : Opened). map (word plain) (openedNames o)) (shown .book)
 
       pub askable : KindAsk b k kind
       unfolding startIn
       askable =
-          let f = sound-book b n k bytes (s .checked) in
+          let f = shown in
           record {
             askable = record {
               parts = f .parts;

@@ -20,7 +20,7 @@ use borrow.Author.Tests.{eq-eqb, eqb-true, le-leb, leb-true}
 use Rattle.words.specs.Words.{Bytes, pick, plain}
 use Rattle.words.proofs.Words.{both-true}
 use Rattle.format.specs.Book.{Book, NoBook, Opened, opened}
-use Rattle.answers.specs.Calls.{Answer as Numbers, Batched, Row as Question, batch, batchOf, given, question, questionOf, refused, rowAnswer}
+use Rattle.answers.specs.Calls.{Answer as Numbers, Batched, Row as Question, batch, batchOf, check, checkOf, given, question, questionOf, refused, rowAnswer}
 use Rattle.answers.proofs.Calls.{GoodRow, row-bad, row-good}
 use Rattle.accept.specs.Parts.{checkedOf}
 use Rattle.accept.specs.declared.Checked.the-variants.{Sound, Unsound}
@@ -144,7 +144,7 @@ module _ (b buffer : Bytes) (rows : List Row) (old : List Answer) where
       go true (Book k xs) h = absurd (h refl)
 
   pub opening-accepts : opening b rows old .answer .code ≡ 0 → Accepted b (opening b rows old) × (length rows ≡ length old)
-  unfolding openingOf
+  unfolding openingOf check checkOf
   opening-accepts z = go (takesRows (length rows) (length old)) refl (opened plain b) refl z
     where
       go : (t : Bool) → takesRows (length rows) (length old) ≡ t → (o : Opened) → opened plain b ≡ o → openingOf (length rows) t o .answer .code ≡ 0
@@ -152,7 +152,7 @@ module _ (b buffer : Bytes) (rows : List Row) (old : List Answer) where
       go false p NoBook q e = absurd (omega (arith, e))
       go false p (Book k xs) q e = absurd (omega (arith, e))
       go true p NoBook q e = absurd (omega (arith, e))
-      go true p (Book k xs) q e = (record { checked = sym (ap checkedOf q) }, eqb-true (length rows) (length old) (both-true (leb (length rows) 64) (eqb (length rows) (length old)) p .1))
+      go true p (Book k xs) q e = (record { checked = sym (ap checkOf q) }, eqb-true (length rows) (length old) (both-true (leb (length rows) 64) (eqb (length rows) (length old)) p .1))
 
   pub batch-answered : opening b rows old .answer .code ≡ 0 → batched (opening b rows old .answer) (filled (gets b buffer) rows old (length rows)) ≡ outcome
   unfolding batchOf openingOf

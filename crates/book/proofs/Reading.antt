@@ -1,6 +1,7 @@
 -- How a check and a read end, by the ways that the calls go.
 --     no-book           what a refusing check says
 --     check-unsound, check-sound            no book; a book of n names in blocks of k
+--     checked-sound                         and back, from what the check gives
 --     read-unsound, read-past               no book; no name at the position
 --     position-ask, read-short, read-put    the name can be read; the room is too short; the name stands at its front
 -- Assumes nothing.
@@ -44,6 +45,14 @@ unfolding check checkOf
 check-sound b n k bytes s =
     let f = sound-book b n k bytes s in
     ap (λ (x : ℕ). given x k) (f .count) ∙ sym (ap checkOf (f .book))
+
+pub checked-sound : (b : Bytes) (n k : ℕ) → given n k ≡ check plain b → Sound n k ≡ checkedOf (opened plain b)
+unfolding check checkOf
+checked-sound b n k s = go (opened plain b) s
+  where
+    go : (o : Opened) → given n k ≡ checkOf o → Sound n k ≡ checkedOf o
+    go NoBook q = absurd (let z : _≡_ {A = ℕ} 0 2 = ap (λ (a : Numbers). a .code) q in omega arith)
+    go (Book j xs) q = ap₂ Sound (ap (λ (a : Numbers). a .first) q) (ap (λ (a : Numbers). a .second) q)
 
 -- ---- the read
 

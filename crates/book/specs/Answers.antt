@@ -2,7 +2,7 @@
 --     answered          an answer
 --     written           an answer, and the room that was left
 --     rowOf, batched    a row of a batch; an answer, and the answer rows that were left
---     KindNumber, Asking    the kind of a question, 1 to 4; that, and a book of n names in blocks of k that the check has accepted
+--     KindNumber, Asking    the kind of a question, 1 to 4; that, and that the check of these bytes gives n names in blocks of k
 --     takesRows, openingOf, closedBy    how a batch opens: its rows are taken or not; 12, 2 or accepted; an opening that refuses
 --     Accepted          a book of which an accepting opening has the names and the block size
 -- Assumes nothing: these are definitions.
@@ -13,10 +13,8 @@ use mathlib.Core.List.{List, map}
 use lib.Dec.{eqb, leb}
 use lib.ListN.{length}
 use Rattle.words.specs.Words.{Bytes, both, plain}
-use Rattle.format.specs.Book.{Book, NoBook, Opened, opened}
-use Rattle.answers.specs.Calls.{Answer as Numbers, Batched, Row as Question, Written}
-use Rattle.accept.specs.Parts.{checkedOf}
-use Rattle.accept.specs.declared.Checked.the-variants.{Sound}
+use Rattle.format.specs.Book.{Book, NoBook, Opened}
+use Rattle.answers.specs.Calls.{Answer as Numbers, Batched, Row as Question, Written, check, given}
 use Rattle.book.specs.declared.Answer.{Answer}
 use Rattle.book.specs.declared.Opening.{Opening}
 use Rattle.book.specs.declared.Row.{Row}
@@ -32,7 +30,7 @@ pub record KindNumber (kind : ℕ) : Type 0 where
   pub high : kind ≤ 4
 
 pub record Asking (b : Bytes) (n k kind : ℕ) : Type 0 where
-  pub checked : Sound n k ≡ checkedOf (opened plain b)
+  pub checked : given n k ≡ check plain b
   pub number : KindNumber kind
 
 -- ---- batches
@@ -58,4 +56,4 @@ openingOf rows true NoBook = closedBy 2
 openingOf rows true (Book k xs) = record { answer = record { code = 0; first = rows; second = 0 }; names = length xs; block = k }
 
 pub record Accepted (b : Bytes) (o : Opening) : Type 0 where
-  pub checked : Sound (o .names) (o .block) ≡ checkedOf (opened plain b)
+  pub checked : given (o .names) (o .block) ≡ check plain b

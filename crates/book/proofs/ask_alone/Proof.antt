@@ -1,14 +1,19 @@
 -- `book::ask_alone` meets its contract: the check, and then the question.
 -- Assumes nothing.
+use native.Mathlib.Omega.{arith}
 use mathlib.Core.Path.{_∙_, sym}
 use borrow.Author.Needs.{needs}
 use Rattle.book.proofs.Asking.{ask-unsound}
 use Rattle.book.proofs.Building.{answer-is}
+use Rattle.book.proofs.Reading.{check-sound}
 use Rattle.book.proofs.ask_alone.Statement.{statement}
 use Rattle.book.proofs.ask_alone.Tie as tie
 
 ask-requires : tie.Need-ask-requires
-ask-requires c κs = record { checked = sym (c .before .checked .given .1) ∙ c .before .before .before .check-book .ensures; number = search needs }
+ask-requires c κs = record {
+  checked = check-sound _ _ _ (λ i. omega (arith, c .before .before .before .before .before .shared-slice-known .given i)) (sym (c .before .checked .given .1) ∙ c .before .before .before .check-book .ensures);
+  number = search needs;
+}
 
 returns : tie.Need-returns
 returns c = ask-unsound _ _ _ (c .refuse .result) (answer-is _ _ _ (c .refuse .ensures)) (sym (c .before .enum-told .given .1) ∙ c .before .before .before .check-book .ensures)
