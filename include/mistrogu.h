@@ -40,7 +40,7 @@
  * - No piece of memory is larger than PTRDIFF_MAX bytes.
  * - There is stack for the call. Measured, not proved: book_build takes 5,400
  *   bytes, every other call up to 39,000, which it does for names that are each
- *   the beginning of the next. Real names take 5,000 to 6,000, but bytes from
+ *   the beginning of the next. Real names took about 5,100, but bytes from
  *   strangers may be any book, so 40 KiB should be free.
  *
  * The code is for x86-64 with the calling convention of System V (Linux and its
