@@ -1,5 +1,6 @@
 -- Laws of the check of a node table. No contract cites them.
 pub mod Fields
 pub mod Entry
+pub mod Nodes
 pub mod Rows
 pub mod Table

@@ -1,8 +1,8 @@
 -- The whole table: the answer at the root as an equation about bytes.
 --     stream-modest                         names out of bytes are short, and their symbols small
---     table-nothing, table-said, table-unlike, table-not     no names; several
---     table-asks                            what the check of the root asks
---     first-fits, lone-..                   one name
+--     table-nothing, table-said, table-unlike, table-not     no names; some
+--     table-short, table-asks               no room for a root; what the check of the root asks
+--     table-long, table-leaf                one name
 -- Assumes nothing.
 use Prim.Native.Nat.{ℕ, _+_, _-_, _≤_, _<_}
 use native.Mathlib.Nat.{lt-irrefl}
@@ -14,22 +14,26 @@ use lib.Dec.{eqb}
 use lib.ListN.{length, getD, take, drop, length-append, length-take, length-drop, length-map, take-append-drop}
 use lib.Seq.{slice, slice-empty, length-slice, take-length}
 use borrow.Author.Tests.{eqb-true, eq-eqb}
-use Rattle.words.specs.Words.{All, Bytes, InBytes, Words, cons, nil, nth, plain, same, span, word}
+use Rattle.words.specs.Words.{All, Bytes, InBytes, Words, cons, nil, plain, same, span, word}
 use Rattle.words.proofs.Lists.{all-append, all-right}
 use Rattle.words.proofs.Words.{false≠true, plain-lawful, same-refl, same-true}
-use Rattle.format.specs.Book.{allFields, nodePart, number, numbers}
-use Rattle.format.specs.Nodes.{Node, leaf, nodeTable, table, tableWithin}
+use Rattle.format.specs.Book.{allFields, nodePart, numbers}
+use Rattle.format.specs.Nodes.{Node, nodeTable, table, tableWithin}
 use Rattle.format.specs.Records.{longest}
 use Rattle.format.proofs.Groups.{table-root}
 use Rattle.format.proofs.Numbers.{bytes-all, take-bytes, word-high}
 use Rattle.format.proofs.Small.{Modest, table-small}
+use Rattle.numbers.proofs.Parts.{Held, held-bytes}
 use Rattle.streams.specs.Streams.{Stream, done, entry, namesOf, placeFrom, wordsOf}
 use Rattle.standing.specs.Stands.{NodeAt, Stands}
 use Rattle.standing.proofs.Bytes.{bytes-stand, stands-bytes}
 use Rattle.standing.proofs.Records.{stands-end}
-use Rattle.standing.proofs.Children as child
-use Rattle.inspect.specs.Check.{Here, LeafSays, NodeAsk, PartAsk, TableAsk, isTable, leafOf}
-use Rattle.inspect.proofs.Entry.{first-low, here-fits, here-length, words-count}
+use Rattle.standing.proofs.Walk.{Head, node-head}
+use Rattle.inspect.specs.declared.Seen.{Seen}
+use Rattle.inspect.specs.declared.Seen.the-variants.{Bad, To}
+use Rattle.inspect.specs.Check.{Ask, Here, LeafSays, NodeAsk, NodeSays, PartAsk, TableAsk, isTable, lengthAt}
+use Rattle.inspect.proofs.Entry.{first-low, words-count}
+use Rattle.inspect.proofs.Nodes.{leaf-split, leaf-stands, leaf-unlike}
 
 -- ---- names out of bytes are modest
 
@@ -64,7 +68,10 @@ said x y false p q = go (same x y) refl
     go false e = sym e
     go true e = absurd (false≠true (q (same-true x y e)))
 
-module _ (b : Bytes) (start end n : ℕ) (bytes : InBytes b) (a : PartAsk b start end n) where
+module _ (b : Bytes) (start end n : ℕ) (held : Held b) (a : PartAsk b start end n) where
+  bytes : InBytes b
+  bytes = held-bytes b held
+
   small : All (λ n. n < 65536) (allFields (table (wordsOf b)))
   unfolding wordsOf
   small = table-small (wordsOf b) (a .known .rises) (stream-modest (bytes-all b bytes) nil (a .known .stream)) (omega (arith, words-count b, a .known .few))
@@ -83,12 +90,14 @@ module _ (b : Bytes) (start end n : ℕ) (bytes : InBytes b) (a : PartAsk b star
   unfolding isTable
   table-not h = said _ _ false (λ e. absurd (false≠true e)) (λ e. absurd (h (node-of e)))
 
-  pub table-unlike : ((e : ℕ) → NodeAt b (wordsOf b) 0 (0 + n) 0 start e → ⊥) → false ≡ isTable b start end
-  table-unlike h = table-not (h end)
+  pub table-unlike : (v : Seen) → NodeSays b 0 n 0 start v → v ≡ Bad → false ≡ isTable b start end
+  table-unlike v says is = table-not ((subst (NodeSays b 0 n 0 start) is says) end)
 
-  pub table-said : (e : ℕ) → NodeAt b (wordsOf b) 0 (0 + n) 0 start e → eqb e end ≡ isTable b start end
+  pub table-said : (v : Seen) (e c : ℕ) → NodeSays b 0 n 0 start v → v ≡ To e c → eqb e end ≡ isTable b start end
   unfolding isTable
-  table-said e g = said _ _ (eqb e end)
+  table-said v e c says is =
+      let g : NodeAt b (wordsOf b) 0 (0 + n) 0 start e = (subst (NodeSays b 0 n 0 start) is says) .0 in
+      said _ _ (eqb e end)
       (λ t. sym (stands-bytes b bytes (table (wordsOf b)) start end (omega (arith, a .order, a .within)) (subst (Stands b start (table (wordsOf b))) (eqb-true e end t) (stands e g))))
       (λ q. eq-eqb e end (stands-end b (table (wordsOf b)) start e (stands e g) ∙ sym (stands-end b (table (wordsOf b)) start end (stands end (node-of q)))))
 
@@ -114,39 +123,37 @@ module _ (b steps : Bytes) (start end n : ℕ) (t : TableAsk b steps start end n
   unfolding placeFrom
   here = refl
 
-  pub table-asks : (n ≡ 1 → ⊥) → NodeAsk b steps start 0 n 0
-  table-asks h = record {
-    ask = record { known = t .asked .known; told = t .told; many = many n (omega (arith, some, t .asked .count)) h; within = omega (arith, t .asked .count); here = here };
-    low = omega (arith, first-low b (t .asked .known) some);
-  }
+  module _ (room : 10 ≤ end - start) where
+    asked : Ask b 0 n 0
+    asked = record { known = t .asked .known; some = omega (arith, some, t .asked .count); within = omega (arith, t .asked .count); here = here }
+
+    fits : start + 10 ≤ length b
+    fits = omega (arith, t .asked .within, t .asked .order)
+
+    pub table-asks : (n ≡ 1 → ⊥) → NodeAsk b steps start 0 n 0
+    table-asks more = record { ask = asked; told = t .told; many = omega (arith, asked .some); room = fits; low = omega (arith, first-low b (t .asked .known) some) }
+
+  pub table-short : Held b → end - start < 10 → false ≡ isTable b start end
+  table-short held h = table-not b start end n held (t .asked) (λ g. lt-irrefl end (omega (arith, (head g) .past, t .asked .order)))
     where
-      many : (m : ℕ) → 0 < m → (m ≡ 1 → ⊥) → 2 ≤ m
-      many m p q = omega arith
+      head : NodeAt b (wordsOf b) 0 (0 + n) 0 start end → Head b (wordsOf b) 0 (0 + n) start end
+      head g = node-head b (wordsOf b) (t .asked .known .rises) 0 0 (0 + n) start end (omega (arith, some, t .asked .count)) (omega (arith, words-count b, t .asked .count)) g
 
-  pub first-fits : 2 ≤ length b
-  first-fits = omega (arith, here-fits b 0 0 (t .asked .known) here some)
+  -- one name
+  module _ (held : Held b) (one : n ≡ 1) where
+    lone : Ask b 0 1 0
+    lone = record { known = t .asked .known; some = omega arith; within = omega (arith, some); here = here }
 
-  module _ (bytes : InBytes b) (lone : n ≡ 1) where
-    leafs : NodeAt b (wordsOf b) 0 (0 + n) 0 start end → child.Leaf (wordsOf b) (t .asked .known .rises) b 0 0 start end
-    leafs g =
-        let one : 0 + n ≡ 1 = omega arith in
-        child.node-leaf (wordsOf b) (t .asked .known .rises) b 0 0 start end (omega (arith, some, words-count b)) (subst (λ (k : ℕ). NodeAt b (wordsOf b) 0 k 0 start end) one g)
+    root-leaf : NodeAt b (wordsOf b) 0 (0 + n) 0 start end → NodeAt b (wordsOf b) 0 (0 + 1) 0 start end
+    root-leaf g = subst (λ (k : ℕ). NodeAt b (wordsOf b) 0 (0 + k) 0 start end) one g
 
-    leaf-is : (len : ℕ) → len ≡ getD b 0 0 + getD b (0 + 1) 0 → leaf 0 0 (nth (wordsOf b) 0) ≡ leafOf 0 0 len
-    leaf-is len le = ap (λ (l : ℕ). leafOf 0 0 l) (sym (here-length b 0 0 (t .asked .known) here some) ∙ sym le)
+    pub table-long : (end - start ≡ 10 → ⊥) → false ≡ isTable b start end
+    table-long h = table-not b start end n held (t .asked) (λ g. h (omega (arith, (leaf-split b 0 0 start 0 lone end (root-leaf g)) .end)))
 
-    pub lone-short : (end - start ≡ 10 → ⊥) → false ≡ isTable b start end
-    lone-short h = table-not b start end n bytes (t .asked) (λ g. h (omega (arith, (leafs g) .end)))
-
-    pub lone-names : (x : ℕ) → x ≡ number b (start + 6) → (x ≡ 1 → ⊥) → false ≡ isTable b start end
-    lone-names x xe h = table-not b start end n bytes (t .asked) (λ g. h (xe ∙ ap (λ (r : Node). r .names) ((leafs g) .told)))
-
-    pub lone-leaf : (x : ℕ) → x ≡ number b (start + 6) → x ≡ 1 → end - start ≡ 10 → (len : ℕ) → len ≡ getD b 0 0 + getD b (0 + 1) 0
-        → (r : Bool) → LeafSays b start 0 0 len r → r ≡ isTable b start end
-    lone-leaf x xe h k len le false never = table-not b start end n bytes (t .asked) (λ g. never ((leafs g) .told ∙ leaf-is len le))
-    lone-leaf x xe h k len le true sure =
+    pub table-leaf : end - start ≡ 10 → (v : Bool) → LeafSays b start 0 0 (lengthAt b 0) v → v ≡ isTable b start end
+    table-leaf k false never = table-not b start end n held (t .asked) (λ g. leaf-unlike b 0 0 start 0 lone never end (root-leaf g))
+    table-leaf k true sure =
         let e : start + 10 ≡ end = omega arith in
-        let one : 1 ≡ 0 + n = omega arith in
         sym (eq-eqb (start + 10) end e)
-        ∙ table-said b start end n bytes (t .asked) (start + 10) (subst (λ (j : ℕ). NodeAt b (wordsOf b) 0 j 0 start (start + 10)) one
-        (child.leaf-node (wordsOf b) (t .asked .known .rises) b 0 0 start (omega (arith, some, words-count b)) (omega (arith, t .asked .within)) (sure (sym xe ∙ h) ∙ sym (leaf-is len le))))
+        ∙ table-said b start end n held (t .asked) (To (start + 10) 0) (start + 10) 0
+        (subst (λ (m : ℕ). NodeSays b 0 m 0 start (To (start + 10) 0)) (sym one) (leaf-stands b 0 0 start 0 lone (omega (arith, t .asked .within)) sure)) refl

@@ -5,7 +5,8 @@ ghost use Prim.Native.Nat.{_+_, _-_, _≤_, _<_};
 ghost use lib.ListN.{length, getD};
 ghost use Rattle.words.specs.Words.{plain, word, at};
 ghost use Rattle.format.specs.Book.{nodeSize};
-ghost use Rattle.inspect.specs.Check.{restAt, LeafSays, NodeAsk, NodeSays, RowAsk, RowSays, TableAsk, isTable};
+ghost use Rattle.streams.specs.Streams.{entryEnd};
+ghost use Rattle.inspect.specs.Check.{restAt, lengthAt, LeafSays, ChildSays, NodeAsk, NodeSays, RowAsk, RowSays, TableAsk, isTable};
 
 // Where a node, or a row, ends, and where the entry of its last name stands.
 pub enum Seen {
@@ -33,42 +34,81 @@ fn symbol_of(book: &[u8], a: usize, d: usize) -> usize
     }
 }
 
-// Whether the record of ten bytes at an offset, of one name, is the leaf's of name number i, of len bytes, to which s led.
-fn is_leaf(book: &[u8], o: usize, s: usize, i: usize, len: usize) -> bool
-    requires { ⌜ (o + nodeSize ≤ length (now book)) × (len ≤ 510) ⌝ }
-    ensures { λ r. ⌜ LeafSays (now (book .entry)) o s i len r ⌝ }
+// The length of the name of the entry at a.
+fn length_of(book: &[u8], a: usize) -> usize
+    requires { ⌜ a + 2 ≤ length (now book) ⌝ }
+    ensures { λ r. ⌜ (r ≡ lengthAt (now (book .entry)) a) × (r ≤ 510) ⌝ }
+{
+    numbers::wide(book[a]) + numbers::wide(book[a + 1])
+}
+
+// Whether the record of ten bytes at an offset is the leaf's of name number i, whose entry stands at a, to which s led.
+fn is_leaf(book: &[u8], o: usize, i: usize, s: usize, a: usize) -> bool
+    requires { ⌜ (o + nodeSize ≤ length (now book)) × (a + 2 ≤ length (now book)) ⌝ }
+    ensures { λ r. ⌜ LeafSays (now (book .entry)) o i s (lengthAt (now (book .entry)) a) r ⌝ }
 {
     if numbers::number_at(book, o) != s {
         return false;
     }
-    if numbers::number_at(book, o + 2) != len + 1 {
+    if numbers::number_at(book, o + 2) != length_of(book, a) + 1 {
         return false;
     }
     if numbers::number_at(book, o + 4) != i {
         return false;
     }
+    if numbers::number_at(book, o + 6) != 1 {
+        return false;
+    }
     numbers::number_at(book, o + 8) == 1
 }
 
-// The length of the name of the entry at a.
-fn length_of(book: &[u8], a: usize) -> usize
-    requires { ⌜ a + 2 ≤ length (now book) ⌝ }
-    ensures { λ r. ⌜ (r ≡ getD (now (book .entry)) a 0 + getD (now (book .entry)) (a + 1) 0) × (r ≤ 510) ⌝ }
+// Where the entry after the one at a stands.
+fn next_entry(book: &[u8], a: usize) -> usize
+    requires { ⌜ entryEnd (now book) a ≤ length (now book) ⌝ }
+    ensures { λ r. ⌜ r ≡ entryEnd (now (book .entry)) a ⌝ }
 {
-    numbers::wide(book[a]) + numbers::wide(book[a + 1])
+    a + 2 + numbers::wide(book[a + 1])
 }
 
-// The node at an offset, of the n names from number lo on, whose entry stands at a, to which s led: its record, and its row.
+// How many symbols name number i, whose entry stands at a, shares with the name before it.
+fn meet(book: &[u8], steps: &[u8], a: usize, i: usize) -> usize
+    requires { ⌜ (a < length (now book)) × (i < length (now steps)) ⌝ }
+    ensures { λ r. ⌜ r ≡ getD (now (book .entry)) a 0 + getD (now (steps .entry)) i 0 ⌝ }
+{
+    numbers::wide(book[a]) + numbers::wide(steps[i])
+}
+
+// Whether the record at an offset can be a child's, in the row of a node of depth d and n names of which `left` are left: it fits, its
+// names are some of those left, and not all n, and if they are several, its depth is greater.
+fn may_be_child(book: &[u8], o: usize, n: usize, d: usize, left: usize) -> bool
+    requires { ⌜ nodeSize ≤ length (now book) ⌝ }
+    ensures { λ r. ⌜ ChildSays (now (book .entry)) o n d left r ⌝ }
+{
+    if book.len() - 10 < o {
+        return false;
+    }
+    let names = numbers::number_at(book, o + 6);
+    if names == 0 {
+        return false;
+    }
+    if n <= names {
+        return false;
+    }
+    if left < names {
+        return false;
+    }
+    if names == 1 {
+        return true;
+    }
+    d < numbers::number_at(book, o + 2)
+}
+
+// The node at an offset, of the n names from number lo on, of which there are several, the first one's entry at a, to which s led: its
+// record, and its row.
 fn check_node(book: &[u8], steps: &[u8], o: usize, lo: usize, n: usize, s: usize, a: usize) -> Seen
     requires { ⌜ NodeAsk (now book) (now steps) o lo n a ⌝ }
     ensures { λ r. ⌜ NodeSays (now (book .entry)) lo n s o r ⌝ }
 {
-    if book.len() < 10 {
-        return Seen::Bad;
-    }
-    if book.len() - 10 < o {
-        return Seen::Bad;
-    }
     if numbers::number_at(book, o) != s {
         return Seen::Bad;
     }
@@ -92,66 +132,43 @@ fn check_node(book: &[u8], steps: &[u8], o: usize, lo: usize, n: usize, s: usize
     }
 }
 
-// The row at an offset of the n names from number lo0 on, whose node has depth d.
-fn check_row(
-    book: &[u8],
-    steps: &[u8],
-    o0: usize,
-    lo0: usize,
-    n: usize,
-    d: usize,
-    a0: usize,
-) -> Seen
-    requires { ⌜ RowAsk (now book) (now steps) lo0 n d a0 ⌝ }
-    ensures { λ r. ⌜ RowSays (now (book .entry)) lo0 n d o0 r ⌝ }
+// The row at an offset of the n names from number lo on, whose node has depth d; the first one's entry stands at a.
+fn check_row(book: &[u8], steps: &[u8], o: usize, lo: usize, n: usize, d: usize, a: usize) -> Seen
+    requires { ⌜ RowAsk (now book) (now steps) lo n d a ⌝ }
+    ensures { λ r. ⌜ RowSays (now (book .entry)) lo n d o r ⌝ }
 {
-    let mut o = o0;
-    let mut lo = lo0;
-    let mut left = n;
-    let mut a = a0;
+    let mut child = o;
+    let mut first = lo;
+    let mut entry = a;
     loop {
-        if book.len() - 10 < o {
+        if !may_be_child(book, child, n, d, lo + n - first) {
             return Seen::Bad;
         }
-        let names = numbers::number_at(book, o + 6);
-        if names == 0 {
-            return Seen::Bad;
-        }
-        if n <= names {
-            return Seen::Bad;
-        }
-        if left < names {
-            return Seen::Bad;
-        }
-        let s = symbol_of(book, a, d);
+        let names = numbers::number_at(book, child + 6);
+        let s = symbol_of(book, entry, d);
         if names == 1 {
-            let len = length_of(book, a);
-            if !is_leaf(book, o, s, lo, len) {
+            if !is_leaf(book, child, first, s, entry) {
                 return Seen::Bad;
             }
-            o += 10;
+            child += 10;
         } else {
-            if numbers::number_at(book, o + 2) <= d {
-                return Seen::Bad;
-            }
-            let seen = check_node(book, steps, o, lo, names, s, a);
+            let seen = check_node(book, steps, child, first, names, s, entry);
             match seen {
                 Seen::To(end, last) => {
-                    o = end;
-                    a = last;
+                    child = end;
+                    entry = last;
                 }
                 Seen::Bad => {
                     return Seen::Bad;
                 }
             }
         }
-        if left == names {
-            return Seen::To(o, a);
+        first += names;
+        if first == lo + n {
+            return Seen::To(child, entry);
         }
-        lo += names;
-        left -= names;
-        a = a + 2 + numbers::wide(book[a + 1]);
-        if numbers::wide(book[a]) + numbers::wide(steps[lo]) != d {
+        entry = next_entry(book, entry);
+        if meet(book, steps, entry, first) != d {
             return Seen::Bad;
         }
     }
@@ -165,19 +182,18 @@ pub fn check_table(book: &[u8], steps: &[u8], start: usize, end: usize, n: usize
     if n == 0 {
         return start == end;
     }
-    if n != 1 {
-        let seen = check_node(book, steps, start, 0, n, 0, 0);
-        return match seen {
-            Seen::To(e, last) => e == end,
-            Seen::Bad => false,
-        };
-    }
-    if end - start != 10 {
+    if end - start < 10 {
         return false;
     }
-    if numbers::number_at(book, start + 6) != 1 {
-        return false;
+    if n == 1 {
+        if end - start != 10 {
+            return false;
+        }
+        return is_leaf(book, start, 0, 0, 0);
     }
-    let len = length_of(book, 0);
-    is_leaf(book, start, 0, 0, len)
+    let seen = check_node(book, steps, start, 0, n, 0, 0);
+    match seen {
+        Seen::To(e, last) => e == end,
+        Seen::Bad => false,
+    }
 }

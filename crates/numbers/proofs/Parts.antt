@@ -1,4 +1,5 @@
--- Laws of what writers leave: bytes at the front of a room, and parts of it that are lent and come back; and of a number that is read.
+-- Laws of what writers leave: bytes at the front of a room, and parts of it that are lent and come back; and of what is read.
+--     Held, held-bytes          bytes that a machine holds are bytes
 --     part-length               a part of a run of bytes
 --     over-length, over-all     a room that is written over
 --     lent, lent-front          a part behind what is written comes back with more, whole or at its front
@@ -13,10 +14,19 @@ use mathlib.Core.Path.{_≡_, refl, sym, ap, ap₂, _∙_}
 use mathlib.Core.List.{List, [], _∷_, _++_, append-assoc, append-nil}
 use lib.ListN.{length, getD, set, take, drop, length-append, length-take, length-drop}
 use lib.Seq.{take-at, drop-at, drop-drop, take-suc, take-all, drop-length, length-take-le}
-use Rattle.words.specs.Words.{Bytes}
+use mir.Syntax.{w8}
+use mir.Val.{Fits}
+use Rattle.words.specs.Words.{Bytes, InBytes}
 use Rattle.format.specs.Book.{number, numbers}
 use Rattle.format.proofs.Numbers.{numbers-append, numbers-length}
 use Rattle.answers.specs.Calls.{over}
+
+-- what is known of a slice that is lent
+abbrev pub Held : Bytes → Type 0
+Held b = (i : ℕ) → Fits w8 (getD b i 0)
+
+pub held-bytes : (b : Bytes) → Held b → InBytes b
+held-bytes b h i = omega (arith, h i)
 
 pub number-is : (b : Bytes) (o x y : ℕ) → x ≡ getD b o 0 → y ≡ getD b (o + 1) 0 → x < 256 → y < 256 → (x + 256 * y ≡ number b o) × (x + 256 * y < 65536)
 unfolding number

@@ -22,9 +22,10 @@ use Rattle.standing.specs.Stands.{Child, GroupAt, NodeAt, RowAt}
 use Rattle.standing.proofs.Records.{stands-end}
 use Rattle.standing.proofs.Children as child
 
--- what a node's record says of its words
-pub record Head (b : Bytes) (ws : Words) (lo hi o : ℕ) : Type 0 where
+-- what a node's record says of its words; the node ends at e
+pub record Head (b : Bytes) (ws : Words) (lo hi o e : ℕ) : Type 0 where
   pub room : o + 10 ≤ length b
+  pub past : o + 10 ≤ e
   pub names : number b (o + 6) ≡ hi - lo
   pub depth : suc lo < hi → number b (o + 2) ≡ deep ws lo hi
 
@@ -52,17 +53,17 @@ pub group-end : (b : Bytes) (ws : Words) (lo hi d o e f : ℕ) → GroupAt b ws 
 group-end b ws lo hi d o e f g h = stands-end b (rowTable lo d (span ws lo hi)) o e (g .stands) ∙ sym (stands-end b (rowTable lo d (span ws lo hi)) o f (h .stands))
 
 module _ (b : Bytes) (ws : Words) (r : Rises ws) where
-  pub node-head : (s lo hi o e : ℕ) → lo < hi → hi ≤ length ws → NodeAt b ws lo hi s o e → Head b ws lo hi o
+  pub node-head : (s lo hi o e : ℕ) → lo < hi → hi ≤ length ws → NodeAt b ws lo hi s o e → Head b ws lo hi o e
   node-head s lo hi o e a l n = go (eq-or-lt-of-le a)
     where
-      go : (suc lo ≡ hi) ⊎ (suc lo < hi) → Head b ws lo hi o
+      go : (suc lo ≡ hi) ⊎ (suc lo < hi) → Head b ws lo hi o e
       go (inl k) =
           let f = child.node-leaf ws r b s lo o e (omega arith) (subst (λ (x : ℕ). NodeAt b ws lo x s o e) (sym k) n) in
           let m : number b (o + 6) ≡ 1 = ap (λ (x : Node). x .names) (f .told) in
-          record { room = f .room; names = omega arith; depth = λ q. absurd (lt-irrefl hi (omega arith)) }
+          record { room = f .room; past = omega (arith, f .end); names = omega arith; depth = λ q. absurd (lt-irrefl hi (omega arith)) }
       go (inr k) =
           let f = child.node-split ws r b s lo hi o e k l n in
-          record { room = f .room; names = f .names; depth = λ q. f .group .share }
+          record { room = f .room; past = omega (arith, stands-end b (rowTable lo (number b (o + 2)) (span ws lo hi)) (o + 10) e (f .group .stands)); names = f .names; depth = λ q. f .group .share }
 
   module _ (lo₀ hi d o₀ : ℕ) (two : suc lo₀ < hi) (l : hi ≤ length ws) where
     pub walk-start : Walk b ws lo₀ hi d o₀ lo₀ o₀
