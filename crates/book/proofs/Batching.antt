@@ -1,12 +1,9 @@
--- How a batch goes, by the ways that its parts go.
---     closed-is                  an opening that refuses
---     crowded, unsound-opens, sound-opens      too many rows, or unequal numbers; no book; a book of n names in blocks of k
---     row-refused, row-answered  a row that can't be asked, and one that can
+-- How a batch goes, by the ways that its parts go. How it opens and what a row gets is in the crate questions.
 --     filled, length-filled      the answer rows after i turns: the first i answers are stored, and the rest are as they were; as many as before
 --     opening-accepts            what an opening that refuses nothing has shown
 --     batch-refused, batch-answered      the call's equation, where the opening refuses and where it doesn't
 -- Assumes nothing.
-use Prim.Native.Nat.{ℕ, zero, suc, _+_, _-_, _<_, _≤_}
+use Prim.Native.Nat.{ℕ, zero, suc, _<_, _≤_}
 use native.Mathlib.Nat.{eq-or-lt-of-le, le-of-suc-le-suc, not-suc-le-zero}
 use native.Mathlib.Omega.{arith}
 use mathlib.Core.Path.{_≡_, _∙_, ap, ap₂, refl, subst, sym}
@@ -14,73 +11,19 @@ use mathlib.Core.Bool.{Bool, false, true}
 use mathlib.Core.List.{List, map, map-map}
 use mathlib.Core.Logic.{⊎-elim}
 use lib.Dec.{eqb, leb}
-use lib.ListN.{List·getD-map, drop, getD, length, length-map, length-set, set, take}
+use lib.ListN.{List·getD-map, getD, length, length-map, length-set, set}
 use lib.Seq.{ext-getD, getD-set-other, getD-set-same}
-use borrow.Author.Tests.{eq-eqb, eqb-true, le-leb, leb-true}
+use borrow.Author.Tests.{eqb-true}
 use Rattle.words.specs.Words.{Bytes, pick, plain}
 use Rattle.words.proofs.Words.{both-true}
 use Rattle.format.specs.Book.{Book, NoBook, Opened, opened}
-use Rattle.answers.specs.Calls.{Answer as Numbers, Batched, Row as Question, batch, batchOf, check, checkOf, given, question, questionOf, refused, rowAnswer}
-use Rattle.answers.proofs.Calls.{GoodRow, row-bad, row-good}
-use Rattle.accept.specs.Parts.{checkedOf}
-use Rattle.accept.specs.declared.Checked.the-variants.{Sound, Unsound}
-use Rattle.book.specs.Answers.{Accepted, answered, batched, closedBy, openingOf, rowOf, takesRows}
-use Rattle.book.specs.declared.Answer.{Answer}
-use Rattle.book.specs.declared.Opening.{Opening}
-use Rattle.book.specs.declared.Row.{Row}
-use Rattle.book.proofs.Reading.{no-book}
-
--- ---- how a batch opens
-
--- an opening that refuses nothing
-abbrev accepting : ℕ → ℕ → ℕ → Opening
-accepting rows n k = record { answer = record { code = 0; first = rows; second = 0 }; names = n; block = k }
-
-abbrev pub answerOf : Numbers → Answer
-answerOf a = record { code = a .code; first = a .first; second = a .second }
-
-pub closed-is : (r : Answer) (code : ℕ) → answered r ≡ refused code → record { answer = r; names = 0; block = 0 } ≡ closedBy code
-closed-is r code e = ap (λ (a : Numbers). record { answer = answerOf a; names = 0; block = 0 }) e
-
-module _ (b : Bytes) (rows places : ℕ) where
-  pub crowded : (r : Opening) → r ≡ closedBy 12 → (rows ≤ 64 → rows ≡ places → ⊥) → r ≡ openingOf rows (takesRows rows places) (opened plain b)
-  unfolding openingOf
-  crowded r e h = e ∙ go (takesRows rows places) refl (opened plain b)
-    where
-      go : (t : Bool) → takesRows rows places ≡ t → (o : Opened) → closedBy 12 ≡ openingOf rows t o
-      go true p o = let f = both-true (leb rows 64) (eqb rows places) p in absurd (h (leb-true rows 64 (f .0)) (eqb-true rows places (f .1)))
-      go false p NoBook = refl
-      go false p (Book k xs) = refl
-
-  module _ (few : rows ≤ 64) (equal : rows ≡ places) where
-    taken : openingOf rows (takesRows rows places) (opened plain b) ≡ openingOf rows true (opened plain b)
-    taken = rw (le-leb rows 64 few, eq-eqb rows places equal) refl
-
-    pub unsound-opens : (r : Opening) → r ≡ closedBy 2 → Unsound ≡ checkedOf (opened plain b) → r ≡ openingOf rows (takesRows rows places) (opened plain b)
-    unfolding openingOf
-    unsound-opens r e s = e ∙ sym (taken ∙ ap (openingOf rows true) (no-book b s))
-
-    pub sound-opens : (n k : ℕ) → Sound n k ≡ checkedOf (opened plain b) → accepting rows n k ≡ openingOf rows (takesRows rows places) (opened plain b)
-    unfolding openingOf
-    sound-opens n k s = go (opened plain b) s ∙ sym taken
-      where
-        go : (o : Opened) → Sound n k ≡ checkedOf o → accepting rows n k ≡ openingOf rows true o
-        go NoBook q = absurd (let z : _≡_ {A = ℕ} 0 1 = cc in omega arith)
-        go (Book j xs) q = let nx : n ≡ length xs = cc in let kj : k ≡ j = cc in ap₂ (λ (x y : ℕ). accepting rows x y) nx kj
-
--- ---- what a row gets
-
-module _ (b buffer : Bytes) (row : Question) (r : Answer) where
-  pub row-refused : answered r ≡ refused 11 → (GoodRow buffer row → ⊥) → answered r ≡ rowAnswer plain (opened plain b) buffer row
-  row-refused e h = e ∙ sym (row-bad plain (opened plain b) buffer row h)
-
-  -- its bytes are those from start up to start plus length
-  pub row-answered : GoodRow buffer row → answered r ≡ question plain (row .kind) b (take (row .start + row .size - row .start) (drop (row .start) buffer))
-      → answered r ≡ rowAnswer plain (opened plain b) buffer row
-  unfolding question
-  row-answered h e =
-      let size : row .start + row .size - row .start ≡ row .size = omega arith in
-      e ∙ ap (λ (n : ℕ). questionOf plain (row .kind) (take n (drop (row .start) buffer)) (opened plain b)) size ∙ sym (row-good plain (opened plain b) buffer row h)
+use Rattle.answers.specs.Calls.{Answer as Numbers, Batched, batch, batchOf, check, checkOf, given, refused, rowAnswer}
+use Rattle.questions.specs.Answers.{Accepted, answered, openingOf, rowOf, takesRows}
+use Rattle.questions.specs.declared.Answer.{Answer}
+use Rattle.questions.specs.declared.Opening.{Opening}
+use Rattle.questions.specs.declared.Row.{Row}
+use Rattle.questions.proofs.Rows.{answerOf}
+use Rattle.book.specs.Answers.{batched}
 
 -- ---- the answer rows
 

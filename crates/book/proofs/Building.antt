@@ -1,5 +1,4 @@
 -- How a build ends, by the ways that the call goes.
---     answer-is         an answer by its three numbers
 --     build-low, build-high, build-bad, build-good     block size 0; above 64; a bad record; what building a judged list gives
 --     judged-asks       a judged list is ready to be built
 -- Assumes nothing.
@@ -17,16 +16,12 @@ use Rattle.format.proofs.Records.{read-sound, sound-few}
 use Rattle.answers.specs.Calls.{Answer as Numbers, Written, refused, build, builtFrom}
 use Rattle.records.specs.Lists.{Judged, names, namesIn, verdictOf}
 use Rattle.build.specs.Whole.{BuildAsk}
-use Rattle.book.specs.Answers.{answered, written}
 use Rattle.records.specs.declared.Verdict.{Verdict}
 use Rattle.records.specs.declared.Verdict.the-variants.{Good, Bad}
-use Rattle.book.specs.declared.Answer.{Answer}
-
-abbrev pub numbered : ℕ → ℕ → Numbers
-numbered code first = record { code = code; first = first; second = 0 }
-
-pub answer-is : (r : Answer) (code first : ℕ) → (r .code ≡ code) × (r .first ≡ first) × (r .second ≡ 0) → answered r ≡ numbered code first
-answer-is r code first e = rw (e .0, e .1, e .2) refl
+use Rattle.questions.specs.Answers.{answered}
+use Rattle.questions.specs.declared.Answer.{Answer}
+use Rattle.questions.proofs.Checks.{numbered}
+use Rattle.book.specs.Answers.{written}
 
 module _ (s : Bytes) (k : ℕ) (room : Bytes) where
   gate : (t : Bool) → goodBlock k ≡ t → build plain s k room ≡ pick t (builtFrom plain k room (readList plain s)) (record { answer = refused 8; room = room })

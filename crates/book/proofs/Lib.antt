@@ -1,6 +1,5 @@
 -- Laws of the public calls.
 pub mod Building
 pub mod Reading
-pub mod Asking
 pub mod Batching
 pub mod Walking

@@ -1,7 +1,5 @@
 -- How a check and a read end, by the ways that the calls go.
---     no-book           what a refusing check says
---     check-unsound, check-sound            no book; a book of n names in blocks of k
---     checked-sound                         and back, from what the check gives
+--     check-unsound                         no book; that a check accepts is `check-sound` of the crate questions
 --     read-unsound, read-past               no book; no name at the position
 --     position-ask, read-short, read-put    the name can be read; the room is too short; the name stands at its front
 -- Assumes nothing.
@@ -15,7 +13,7 @@ use lib.ListN.{getD, length}
 use borrow.Author.Tests.{le-ltb, lt-ltb}
 use Rattle.words.specs.Words.{Bytes, InBytes, plain}
 use Rattle.words.proofs.Lists.{all-at}
-use Rattle.format.specs.Book.{Book, NoBook, Opened, opened}
+use Rattle.format.specs.Book.{Book, opened}
 use Rattle.format.proofs.Book.{book-opened, fits-parts}
 use Rattle.format.proofs.Records.{rising-sizes, sound-rising}
 use Rattle.answers.specs.Calls.{Answer as Numbers, Written, check, checkOf, given, over, readBack, readBackOf, refused, write}
@@ -24,35 +22,16 @@ use Rattle.accept.specs.Parts.{checkedOf}
 use Rattle.accept.specs.declared.Checked.the-variants.{Sound, Unsound}
 use Rattle.accept.proofs.Judging.{sound-book}
 use Rattle.names.specs.Names.{PositionAsk, Put}
-use Rattle.book.specs.Answers.{answered, written}
-use Rattle.book.specs.declared.Answer.{Answer}
-
-pub no-book : (b : Bytes) → Unsound ≡ checkedOf (opened plain b) → opened plain b ≡ NoBook
-no-book b s = go (opened plain b) s
-  where
-    go : (o : Opened) → Unsound ≡ checkedOf o → o ≡ NoBook
-    go NoBook q = refl
-    go (Book k xs) q = absurd (let z : _≡_ {A = ℕ} 0 1 = cc in omega arith)
+use Rattle.questions.specs.Answers.{answered}
+use Rattle.questions.specs.declared.Answer.{Answer}
+use Rattle.questions.proofs.Checks.{no-book}
+use Rattle.book.specs.Answers.{written}
 
 -- ---- the check
 
 pub check-unsound : (b : Bytes) (r : Answer) → answered r ≡ refused 2 → Unsound ≡ checkedOf (opened plain b) → answered r ≡ check plain b
 unfolding check checkOf
 check-unsound b r e s = e ∙ sym (ap checkOf (no-book b s))
-
-pub check-sound : (b : Bytes) (n k : ℕ) → InBytes b → Sound n k ≡ checkedOf (opened plain b) → given n k ≡ check plain b
-unfolding check checkOf
-check-sound b n k bytes s =
-    let f = sound-book b n k bytes s in
-    ap (λ (x : ℕ). given x k) (f .count) ∙ sym (ap checkOf (f .book))
-
-pub checked-sound : (b : Bytes) (n k : ℕ) → given n k ≡ check plain b → Sound n k ≡ checkedOf (opened plain b)
-unfolding check checkOf
-checked-sound b n k s = go (opened plain b) s
-  where
-    go : (o : Opened) → given n k ≡ checkOf o → Sound n k ≡ checkedOf o
-    go NoBook q = absurd (let z : _≡_ {A = ℕ} 0 2 = ap (λ (a : Numbers). a .code) q in omega arith)
-    go (Book j xs) q = ap₂ Sound (ap (λ (a : Numbers). a .first) q) (ap (λ (a : Numbers). a .second) q)
 
 -- ---- the read
 

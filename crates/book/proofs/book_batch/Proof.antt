@@ -1,5 +1,5 @@
--- `book::book_batch` meets its contract: a walk of its MIR, by hand, with one loop. What it calls, `open_batch` and `answer_row`, it
--- knows by their contracts; what it says of lists is in proofs/Batching.antt.
+-- `book::book_batch` meets its contract: a walk of its MIR, by hand, with one loop. What it calls, `open_batch` and `answer_row`
+-- of the crate questions, it knows by their contracts; what it says of lists is in proofs/Batching.antt.
 --     the invariant     after i turns the answer rows are `filled .. i`; the question rows, the buffer and the book are lent as they were
 --     the measure       how many rows are left
 -- The answer rows are opened once, before the loop, and closed once, after it: between the two they are the function's own. A turn
@@ -58,26 +58,28 @@ use denote.Exit.{yes}
 use Rattle.words.specs.Words.{plain}
 use Rattle.format.specs.Book.{opened}
 use Rattle.answers.specs.Calls.{batch, rowAnswer}
-use Rattle.book.specs.Answers.{Accepted, answered, batched, rowOf}
-use Rattle.book.specs.declared.Answer.{Answer}
-use Rattle.book.specs.declared.Opening.{Opening}
-use Rattle.book.specs.declared.Row.{Row}
-use Rattle.book.proofs.Batching.{answerOf, batch-answered, batch-refused, filled, gets, length-filled, noRow, opening, opening-accepts}
+use Rattle.questions.specs.Answers.{Accepted, answered, rowOf}
+use Rattle.questions.specs.declared.Answer.{Answer}
+use Rattle.questions.specs.declared.Opening.{Opening}
+use Rattle.questions.specs.declared.Row.{Row}
+use Rattle.questions.proofs.Rows.{answerOf}
+use Rattle.questions.proofs.Row as R
+use Rattle.questions.proofs.Row.Laws as R′
+use Rattle.questions.proofs.Answer as P
+use Rattle.questions.proofs.Answer.Laws as P′
+use Rattle.questions.proofs.Opening as O
+use Rattle.questions.proofs.Opening.Laws as O′
+use Rattle.questions.proofs.open_batch as opens
+use Rattle.questions.proofs.open_batch.Symbol as opens-def
+use Rattle.questions.proofs.open_batch.Symbol.{name as #open-batch}
+use Rattle.questions.proofs.open_batch.Met as opens-thm
+use Rattle.questions.proofs.answer_row as answers
+use Rattle.questions.proofs.answer_row.Symbol as answers-def
+use Rattle.questions.proofs.answer_row.Symbol.{name as #answer-row}
+use Rattle.questions.proofs.answer_row.Met as answers-thm
+use Rattle.book.specs.Answers.{batched}
+use Rattle.book.proofs.Batching.{batch-answered, batch-refused, filled, gets, length-filled, noRow, opening, opening-accepts}
 use Rattle.book.proofs.Walking.{guards, tests}
-use Rattle.book.proofs.Row as R
-use Rattle.book.proofs.Row.Laws as R′
-use Rattle.book.proofs.Answer as P
-use Rattle.book.proofs.Answer.Laws as P′
-use Rattle.book.proofs.Opening as O
-use Rattle.book.proofs.Opening.Laws as O′
-use Rattle.book.proofs.open_batch as opens
-use Rattle.book.proofs.open_batch.Symbol as opens-def
-use Rattle.book.proofs.open_batch.Symbol.{name as #open-batch}
-use Rattle.book.proofs.open_batch.Met as opens-thm
-use Rattle.book.proofs.answer_row as answers
-use Rattle.book.proofs.answer_row.Symbol as answers-def
-use Rattle.book.proofs.answer_row.Symbol.{name as #answer-row}
-use Rattle.book.proofs.answer_row.Met as answers-thm
 use Rattle.book.proofs.book_batch.Key.{name as #book-batch}
 use Rattle.book.proofs.book_batch as f
 use Rattle.book.proofs.book_batch.Statement as stated
@@ -389,5 +391,5 @@ book-batch-spec 𝓤 H 𝓜 𝓖 𝓡 =
     entered 𝓤 H (tripleOf 𝓤 H (𝓖 .A) f.signature (f.spec 𝓤 H (𝓖 .A) (𝓜 .mem) (𝓡 .run)))
     (tables 𝓤 H 𝓜 𝓡 code.env .C) (tables 𝓤 H 𝓜 𝓡 code.env .Λ) #book-batch code.function (code.unfolded 𝓤 H 𝓜 𝓡)
     (meets 𝓤 H (𝓖 .A) (givenOf 𝓤 H 𝓜 𝓖) (𝓜 .mem) (𝓡 .run) (tablesOf 𝓤 H 𝓜 (tables 𝓤 H 𝓜 𝓡 code.env))
-    (cited 𝓤 H (Opens 𝓤 H (𝓖 .A) (𝓜 .mem) (𝓡 .run)) 𝓜 𝓡 code.env #open-batch opens-def.routine code.calls-book·open-batch (opens-thm.met 𝓤 H 𝓜 𝓖 𝓡))
-    (cited 𝓤 H (Answers 𝓤 H (𝓖 .A) (𝓜 .mem) (𝓡 .run)) 𝓜 𝓡 code.env #answer-row answers-def.routine code.calls-book·answer-row (answers-thm.met 𝓤 H 𝓜 𝓖 𝓡)))
+    (cited 𝓤 H (Opens 𝓤 H (𝓖 .A) (𝓜 .mem) (𝓡 .run)) 𝓜 𝓡 code.env #open-batch opens-def.routine code.calls-questions·open-batch (opens-thm.met 𝓤 H 𝓜 𝓖 𝓡))
+    (cited 𝓤 H (Answers 𝓤 H (𝓖 .A) (𝓜 .mem) (𝓡 .run)) 𝓜 𝓡 code.env #answer-row answers-def.routine code.calls-questions·answer-row (answers-thm.met 𝓤 H 𝓜 𝓖 𝓡)))

@@ -2,8 +2,8 @@
 -- Assumes nothing.
 use native.Mathlib.Omega.{arith}
 use mathlib.Core.Path.{_∙_, sym}
-use Rattle.book.proofs.Building.{answer-is}
-use Rattle.book.proofs.Reading.{check-sound, check-unsound}
+use Rattle.questions.proofs.Checks.{answer-is, check-sound}
+use Rattle.book.proofs.Reading.{check-unsound}
 use borrow.Author.Needs.{needs}
 use Rattle.book.proofs.book_check.Statement.{statement}
 use Rattle.book.proofs.book_check.Tie as tie

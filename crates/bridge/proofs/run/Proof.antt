@@ -53,13 +53,14 @@ use denote.Triple.Walked.{says, needs, Stays, stay-dropped, walkOf, goes-dropped
 use denote.Exit.{yes}
 use Rattle.words.specs.Words.{plain}
 use Rattle.answers.specs.Calls.{Batched, batch}
-use Rattle.book.specs.Answers.{answered, batched, rowOf}
-use Rattle.book.specs.declared.Answer.{Answer}
-use Rattle.book.specs.declared.Row.{Row}
-use Rattle.book.proofs.Row as R
-use Rattle.book.proofs.Row.Laws as R′
-use Rattle.book.proofs.Answer as P
-use Rattle.book.proofs.Answer.Laws as P′
+use Rattle.questions.specs.Answers.{answered, rowOf}
+use Rattle.questions.specs.declared.Answer.{Answer}
+use Rattle.questions.specs.declared.Row.{Row}
+use Rattle.questions.proofs.Row as R
+use Rattle.questions.proofs.Row.Laws as R′
+use Rattle.questions.proofs.Answer as P
+use Rattle.questions.proofs.Answer.Laws as P′
+use Rattle.book.specs.Answers.{batched}
 use Rattle.book.proofs.book_batch as batch′
 use Rattle.book.proofs.book_batch.Symbol as batch-def
 use Rattle.book.proofs.book_batch.Symbol.{name as #book-batch}

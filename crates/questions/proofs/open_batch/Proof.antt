@@ -1,11 +1,11 @@
--- `book::open_batch` meets its contract: each way out is one law.
+-- `questions::open_batch` meets its contract: each way out is one law.
 -- Assumes nothing.
 use native.Mathlib.Omega.{arith}
 use mathlib.Core.Path.{_∙_, sym}
-use Rattle.book.proofs.Batching.{crowded, sound-opens, unsound-opens}
+use Rattle.questions.proofs.Rows.{crowded, sound-opens, unsound-opens}
 use borrow.Author.Needs.{needs}
-use Rattle.book.proofs.open_batch.Statement.{statement}
-use Rattle.book.proofs.open_batch.Tie as tie
+use Rattle.questions.proofs.open_batch.Statement.{statement}
+use Rattle.questions.proofs.open_batch.Tie as tie
 
 returns : tie.Need-returns
 returns c = crowded _ _ _ _ (c .closed .ensures) (λ few equal. omega arith)

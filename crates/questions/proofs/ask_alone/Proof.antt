@@ -1,13 +1,12 @@
--- `book::ask_alone` meets its contract: the check, and then the question.
+-- `questions::ask_alone` meets its contract: the check, and then the question.
 -- Assumes nothing.
 use native.Mathlib.Omega.{arith}
 use mathlib.Core.Path.{_∙_, sym}
 use borrow.Author.Needs.{needs}
-use Rattle.book.proofs.Asking.{ask-unsound}
-use Rattle.book.proofs.Building.{answer-is}
-use Rattle.book.proofs.Reading.{check-sound}
-use Rattle.book.proofs.ask_alone.Statement.{statement}
-use Rattle.book.proofs.ask_alone.Tie as tie
+use Rattle.questions.proofs.Asking.{ask-unsound}
+use Rattle.questions.proofs.Checks.{answer-is, check-sound}
+use Rattle.questions.proofs.ask_alone.Statement.{statement}
+use Rattle.questions.proofs.ask_alone.Tie as tie
 
 ask-requires : tie.Need-ask-requires
 ask-requires c κs = record {

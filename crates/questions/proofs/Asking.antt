@@ -1,4 +1,4 @@
--- How a question ends, by the ways that the calls go.
+-- How a question ends, by the ways that the functions go.
 --     ask-unsound       no book
 --     ask-long          the question is too long
 --     ask-none, nearest-none    the book has no names: nothing is found, and nearest is refused
@@ -24,9 +24,9 @@ use Rattle.accept.specs.Parts.{checkedOf}
 use Rattle.accept.specs.declared.Checked.the-variants.{Unsound}
 use Rattle.accept.proofs.Judging.{SoundBook, sound-book}
 use Rattle.search.specs.Asks.{KindAsk}
-use Rattle.book.specs.Answers.{Asking, KindNumber, answered}
-use Rattle.book.specs.declared.Answer.{Answer}
-use Rattle.book.proofs.Reading.{checked-sound, no-book}
+use Rattle.questions.specs.Answers.{Asking, KindNumber, answered}
+use Rattle.questions.specs.declared.Answer.{Answer}
+use Rattle.questions.proofs.Checks.{checked-sound, no-book}
 
 pub ask-unsound : (kind : ℕ) (b q : Bytes) (r : Answer) → answered r ≡ refused 2 → Unsound ≡ checkedOf (opened plain b) → answered r ≡ question plain kind b q
 unfolding question questionOf

@@ -1,11 +1,11 @@
--- `book::ask` meets its contract: a law for each way out.
+-- `questions::ask` meets its contract: a law for each way out.
 -- Assumes nothing.
 use native.Mathlib.Omega.{arith}
 use borrow.Author.Needs.{needs}
-use Rattle.book.proofs.Asking.{ask-long, ask-none, ask-some, askable, nearest-none}
-use Rattle.book.proofs.Building.{answer-is}
-use Rattle.book.proofs.ask.Statement.{statement}
-use Rattle.book.proofs.ask.Tie as tie
+use Rattle.questions.proofs.Asking.{ask-long, ask-none, ask-some, askable, nearest-none}
+use Rattle.questions.proofs.Checks.{answer-is}
+use Rattle.questions.proofs.ask.Statement.{statement}
+use Rattle.questions.proofs.ask.Tie as tie
 
 returns : tie.Need-returns
 returns c = ask-long _ _ _ _ _ (λ i. omega (arith, c .before .before .before .shared-slice-known .given i)) (c .before .before .before .before .pre) _ (answer-is _ _ _ (c .refuse .ensures)) (search needs)

@@ -1,11 +1,11 @@
--- `book::answer_row` meets its contract: the tests say that the row is good, or that it is not.
+-- `questions::answer_row` meets its contract: the tests say that the row is good, or that it is not.
 -- Assumes nothing.
 use native.Mathlib.Omega.{arith}
-use Rattle.book.proofs.Batching.{row-refused, row-answered}
-use Rattle.book.proofs.Building.{answer-is}
+use Rattle.questions.proofs.Rows.{row-refused, row-answered}
+use Rattle.questions.proofs.Checks.{answer-is}
 use borrow.Author.Needs.{needs}
-use Rattle.book.proofs.answer_row.Statement.{statement}
-use Rattle.book.proofs.answer_row.Tie as tie
+use Rattle.questions.proofs.answer_row.Statement.{statement}
+use Rattle.questions.proofs.answer_row.Tie as tie
 
 returns : tie.Need-returns
 returns c = row-refused _ _ _ _ (answer-is _ _ _ (c .refuse .ensures)) (λ good. omega (arith, good .low))

@@ -1,0 +1,46 @@
+-- An answer by its numbers, and how a check ends.
+--     numbered, answer-is    the numbers of an answer whose second is 0; an answer that has them
+--     no-book                what a refusing check says
+--     check-sound            an accepting check: a book of n names in blocks of k
+--     checked-sound          and back, from what the check gives
+-- Assumes nothing.
+use Prim.Native.Nat.{ℕ}
+use native.Mathlib.Omega.{arith}
+use mathlib.Core.Path.{_≡_, _∙_, ap, ap₂, refl, sym}
+use Rattle.words.specs.Words.{Bytes, InBytes, plain}
+use Rattle.format.specs.Book.{Book, NoBook, Opened, opened}
+use Rattle.answers.specs.Calls.{Answer as Numbers, check, checkOf, given}
+use Rattle.accept.specs.Parts.{checkedOf}
+use Rattle.accept.specs.declared.Checked.the-variants.{Sound, Unsound}
+use Rattle.accept.proofs.Judging.{sound-book}
+use Rattle.questions.specs.Answers.{answered}
+use Rattle.questions.specs.declared.Answer.{Answer}
+
+abbrev pub numbered : ℕ → ℕ → Numbers
+numbered code first = record { code = code; first = first; second = 0 }
+
+pub answer-is : (r : Answer) (code first : ℕ) → (r .code ≡ code) × (r .first ≡ first) × (r .second ≡ 0) → answered r ≡ numbered code first
+answer-is r code first e = rw (e .0, e .1, e .2) refl
+
+-- ---- the check
+
+pub no-book : (b : Bytes) → Unsound ≡ checkedOf (opened plain b) → opened plain b ≡ NoBook
+no-book b s = go (opened plain b) s
+  where
+    go : (o : Opened) → Unsound ≡ checkedOf o → o ≡ NoBook
+    go NoBook q = refl
+    go (Book k xs) q = absurd (let z : _≡_ {A = ℕ} 0 1 = cc in omega arith)
+
+pub check-sound : (b : Bytes) (n k : ℕ) → InBytes b → Sound n k ≡ checkedOf (opened plain b) → given n k ≡ check plain b
+unfolding check checkOf
+check-sound b n k bytes s =
+    let f = sound-book b n k bytes s in
+    ap (λ (x : ℕ). given x k) (f .count) ∙ sym (ap checkOf (f .book))
+
+pub checked-sound : (b : Bytes) (n k : ℕ) → given n k ≡ check plain b → Sound n k ≡ checkedOf (opened plain b)
+unfolding check checkOf
+checked-sound b n k s = go (opened plain b) s
+  where
+    go : (o : Opened) → given n k ≡ checkOf o → Sound n k ≡ checkedOf o
+    go NoBook q = absurd (let z : _≡_ {A = ℕ} 0 2 = ap (λ (a : Numbers). a .code) q in omega arith)
+    go (Book j xs) q = ap₂ Sound (ap (λ (a : Numbers). a .first) q) (ap (λ (a : Numbers). a .second) q)

@@ -1,0 +1,75 @@
+-- How a batch opens and what a row gets, by the ways that the functions go.
+--     answerOf, closed-is        the answer of three numbers; an opening that refuses
+--     crowded, unsound-opens, sound-opens      too many rows, or unequal numbers; no book; a book of n names in blocks of k
+--     row-refused, row-answered  a row that can't be asked, and one that can
+-- Assumes nothing.
+use Prim.Native.Nat.{ℕ, _+_, _-_, _≤_}
+use native.Mathlib.Omega.{arith}
+use mathlib.Core.Path.{_≡_, _∙_, ap, ap₂, refl, sym}
+use mathlib.Core.Bool.{Bool, false, true}
+use lib.Dec.{eqb, leb}
+use lib.ListN.{drop, length, take}
+use borrow.Author.Tests.{eq-eqb, eqb-true, le-leb, leb-true}
+use Rattle.words.specs.Words.{Bytes, plain}
+use Rattle.words.proofs.Words.{both-true}
+use Rattle.format.specs.Book.{Book, NoBook, Opened, opened}
+use Rattle.answers.specs.Calls.{Answer as Numbers, Row as Question, question, questionOf, refused, rowAnswer}
+use Rattle.answers.proofs.Calls.{GoodRow, row-bad, row-good}
+use Rattle.accept.specs.Parts.{checkedOf}
+use Rattle.accept.specs.declared.Checked.the-variants.{Sound, Unsound}
+use Rattle.questions.specs.Answers.{answered, closedBy, openingOf, takesRows}
+use Rattle.questions.specs.declared.Answer.{Answer}
+use Rattle.questions.specs.declared.Opening.{Opening}
+use Rattle.questions.proofs.Checks.{no-book}
+
+-- ---- how a batch opens
+
+-- an opening that refuses nothing
+abbrev accepting : ℕ → ℕ → ℕ → Opening
+accepting rows n k = record { answer = record { code = 0; first = rows; second = 0 }; names = n; block = k }
+
+abbrev pub answerOf : Numbers → Answer
+answerOf a = record { code = a .code; first = a .first; second = a .second }
+
+pub closed-is : (r : Answer) (code : ℕ) → answered r ≡ refused code → record { answer = r; names = 0; block = 0 } ≡ closedBy code
+closed-is r code e = ap (λ (a : Numbers). record { answer = answerOf a; names = 0; block = 0 }) e
+
+module _ (b : Bytes) (rows places : ℕ) where
+  pub crowded : (r : Opening) → r ≡ closedBy 12 → (rows ≤ 64 → rows ≡ places → ⊥) → r ≡ openingOf rows (takesRows rows places) (opened plain b)
+  unfolding openingOf
+  crowded r e h = e ∙ go (takesRows rows places) refl (opened plain b)
+    where
+      go : (t : Bool) → takesRows rows places ≡ t → (o : Opened) → closedBy 12 ≡ openingOf rows t o
+      go true p o = let f = both-true (leb rows 64) (eqb rows places) p in absurd (h (leb-true rows 64 (f .0)) (eqb-true rows places (f .1)))
+      go false p NoBook = refl
+      go false p (Book k xs) = refl
+
+  module _ (few : rows ≤ 64) (equal : rows ≡ places) where
+    taken : openingOf rows (takesRows rows places) (opened plain b) ≡ openingOf rows true (opened plain b)
+    taken = rw (le-leb rows 64 few, eq-eqb rows places equal) refl
+
+    pub unsound-opens : (r : Opening) → r ≡ closedBy 2 → Unsound ≡ checkedOf (opened plain b) → r ≡ openingOf rows (takesRows rows places) (opened plain b)
+    unfolding openingOf
+    unsound-opens r e s = e ∙ sym (taken ∙ ap (openingOf rows true) (no-book b s))
+
+    pub sound-opens : (n k : ℕ) → Sound n k ≡ checkedOf (opened plain b) → accepting rows n k ≡ openingOf rows (takesRows rows places) (opened plain b)
+    unfolding openingOf
+    sound-opens n k s = go (opened plain b) s ∙ sym taken
+      where
+        go : (o : Opened) → Sound n k ≡ checkedOf o → accepting rows n k ≡ openingOf rows true o
+        go NoBook q = absurd (let z : _≡_ {A = ℕ} 0 1 = cc in omega arith)
+        go (Book j xs) q = let nx : n ≡ length xs = cc in let kj : k ≡ j = cc in ap₂ (λ (x y : ℕ). accepting rows x y) nx kj
+
+-- ---- what a row gets
+
+module _ (b buffer : Bytes) (row : Question) (r : Answer) where
+  pub row-refused : answered r ≡ refused 11 → (GoodRow buffer row → ⊥) → answered r ≡ rowAnswer plain (opened plain b) buffer row
+  row-refused e h = e ∙ sym (row-bad plain (opened plain b) buffer row h)
+
+  -- its bytes are those from start up to start plus length
+  pub row-answered : GoodRow buffer row → answered r ≡ question plain (row .kind) b (take (row .start + row .size - row .start) (drop (row .start) buffer))
+      → answered r ≡ rowAnswer plain (opened plain b) buffer row
+  unfolding question
+  row-answered h e =
+      let size : row .start + row .size - row .start ≡ row .size = omega arith in
+      e ∙ ap (λ (n : ℕ). questionOf plain (row .kind) (take n (drop (row .start) buffer)) (opened plain b)) size ∙ sym (row-good plain (opened plain b) buffer row h)
