@@ -18,11 +18,12 @@ use Rattle.words.specs.Words.{Bytes, pick, plain}
 use Rattle.words.proofs.Words.{both-true}
 use Rattle.format.specs.Book.{Book, NoBook, Opened, opened}
 use Rattle.answers.specs.Calls.{Answer as Numbers, Batched, batch, batchOf, check, checkOf, given, refused, rowAnswer}
-use Rattle.questions.specs.Answers.{Accepted, answered, openingOf, rowOf, takesRows}
-use Rattle.questions.specs.declared.Answer.{Answer}
+use Rattle.shapes.specs.Shapes.{answered, rowOf}
+use Rattle.shapes.specs.declared.Answer.{Answer}
+use Rattle.shapes.specs.declared.Row.{Row}
+use Rattle.shapes.proofs.Shapes.{answerOf}
+use Rattle.questions.specs.Answers.{Accepted, openingOf, takesRows}
 use Rattle.questions.specs.declared.Opening.{Opening}
-use Rattle.questions.specs.declared.Row.{Row}
-use Rattle.questions.proofs.Rows.{answerOf}
 use Rattle.book.specs.Answers.{batched}
 
 -- ---- the answer rows

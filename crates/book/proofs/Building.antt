@@ -18,9 +18,9 @@ use Rattle.records.specs.Lists.{Judged, names, namesIn, verdictOf}
 use Rattle.build.specs.Whole.{BuildAsk}
 use Rattle.records.specs.declared.Verdict.{Verdict}
 use Rattle.records.specs.declared.Verdict.the-variants.{Good, Bad}
-use Rattle.questions.specs.Answers.{answered}
-use Rattle.questions.specs.declared.Answer.{Answer}
-use Rattle.questions.proofs.Checks.{numbered}
+use Rattle.shapes.specs.Shapes.{answered}
+use Rattle.shapes.specs.declared.Answer.{Answer}
+use Rattle.shapes.proofs.Shapes.{numbered}
 use Rattle.book.specs.Answers.{written}
 
 module _ (s : Bytes) (k : ℕ) (room : Bytes) where

@@ -22,8 +22,8 @@ use Rattle.accept.specs.Parts.{checkedOf}
 use Rattle.accept.specs.declared.Checked.the-variants.{Sound, Unsound}
 use Rattle.accept.proofs.Judging.{sound-book}
 use Rattle.names.specs.Names.{PositionAsk, Put}
-use Rattle.questions.specs.Answers.{answered}
-use Rattle.questions.specs.declared.Answer.{Answer}
+use Rattle.shapes.specs.Shapes.{answered}
+use Rattle.shapes.specs.declared.Answer.{Answer}
 use Rattle.questions.proofs.Checks.{no-book}
 use Rattle.book.specs.Answers.{written}
 

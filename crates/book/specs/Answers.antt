@@ -1,12 +1,12 @@
 -- What a call leaves, as document 01's numbers.
 --     written           an answer, and the room that was left
 --     batched           an answer, and the answer rows that were left
--- An answer by itself is `answered`, in the crate questions. Assumes nothing: these are definitions.
+-- An answer by itself is `answered`, in the crate shapes. Assumes nothing: these are definitions.
 use mathlib.Core.List.{List, map}
 use Rattle.words.specs.Words.{Bytes}
 use Rattle.answers.specs.Calls.{Batched, Written}
-use Rattle.questions.specs.Answers.{answered}
-use Rattle.questions.specs.declared.Answer.{Answer}
+use Rattle.shapes.specs.Shapes.{answered}
+use Rattle.shapes.specs.declared.Answer.{Answer}
 
 abbrev pub written : Answer → Bytes → Written
 written r room = record { answer = answered r; room = room }

@@ -1,13 +1,13 @@
 // The public calls. None asks anything of its caller: any bytes, any numbers and any lengths are taken, and every call ends. Each has
 // one statement: its answer and all that was lent, as they are when it ends, equal a function of what came in. They are exported for C
 // and Rust; a slice is a pointer and a length. Inner functions, which may ask something, stand in the crates below.
-pub use questions::Answer;
-pub use questions::Row;
+pub use shapes::Answer;
+pub use shapes::Row;
 ghost use mathlib.Core.Path.{_≡_};
 ghost use mathlib.Core.List.{map};
 ghost use Rattle.words.specs.Words.{plain};
 ghost use Rattle.answers.specs.Calls.{batch, build, check, question as askedOf, readBack};
-ghost use Rattle.questions.specs.Answers.{answered, rowOf};
+ghost use Rattle.shapes.specs.Shapes.{answered, rowOf};
 ghost use Rattle.book.specs.Answers.{batched, written};
 
 // Builds the book of a list with blocks of so many names, at the front of the room. Refusals: 8; record by record 5, 6, 7; 9; 4.
@@ -16,20 +16,20 @@ pub extern "C" fn book_build(list: &[u8], block: usize, room: &mut [u8]) -> Answ
     ensures { λ r. ⌜ written r (now (room .exit)) ≡ build plain (now (list .entry)) block (now (room .entry)) ⌝ }
 {
     if block == 0 {
-        return questions::refuse(8, 0);
+        return shapes::refuse(8, 0);
     }
     if 64 < block {
-        return questions::refuse(8, 0);
+        return shapes::refuse(8, 0);
     }
     let mut lens = [0u8; 2000];
     let mut steps = [0u8; 2000];
     let verdict = records::judge(list, &mut lens, &mut steps);
     match verdict {
-        records::Verdict::Bad(code, record) => questions::refuse(code, record),
+        records::Verdict::Bad(code, record) => shapes::refuse(code, record),
         records::Verdict::Good(n) => {
             let built = build::build_judged(list, n, &lens, &steps, block, room);
             match built {
-                build::Built::Refused(code) => questions::refuse(code, 0),
+                build::Built::Refused(code) => shapes::refuse(code, 0),
                 build::Built::Written(total) => Answer {
                     code: 0,
                     first: total,
@@ -47,7 +47,7 @@ pub extern "C" fn book_check(book: &[u8]) -> Answer
 {
     let checked = accept::check_book(book);
     match checked {
-        accept::Checked::Unsound => questions::refuse(2, 0),
+        accept::Checked::Unsound => shapes::refuse(2, 0),
         accept::Checked::Sound(n, k) => Answer {
             code: 0,
             first: n,
@@ -63,14 +63,14 @@ pub extern "C" fn book_read(book: &[u8], position: usize, room: &mut [u8]) -> An
 {
     let checked = accept::check_book(book);
     match checked {
-        accept::Checked::Unsound => questions::refuse(2, 0),
+        accept::Checked::Unsound => shapes::refuse(2, 0),
         accept::Checked::Sound(n, k) => {
             if n <= position {
-                return questions::refuse(3, 0);
+                return shapes::refuse(3, 0);
             }
             let len = names::put_name(book, k, position, room);
             if len == 0 {
-                return questions::refuse(4, 0);
+                return shapes::refuse(4, 0);
             }
             Answer {
                 code: 0,

@@ -24,8 +24,9 @@ use Rattle.accept.specs.Parts.{checkedOf}
 use Rattle.accept.specs.declared.Checked.the-variants.{Unsound}
 use Rattle.accept.proofs.Judging.{SoundBook, sound-book}
 use Rattle.search.specs.Asks.{KindAsk}
-use Rattle.questions.specs.Answers.{Asking, KindNumber, answered}
-use Rattle.questions.specs.declared.Answer.{Answer}
+use Rattle.shapes.specs.Shapes.{answered}
+use Rattle.shapes.specs.declared.Answer.{Answer}
+use Rattle.questions.specs.Answers.{Asking, KindNumber}
 use Rattle.questions.proofs.Checks.{checked-sound, no-book}
 
 pub ask-unsound : (kind : ℕ) (b q : Bytes) (r : Answer) → answered r ≡ refused 2 → Unsound ≡ checkedOf (opened plain b) → answered r ≡ question plain kind b q

@@ -1,8 +1,7 @@
--- An answer by its numbers, and how a check ends.
---     numbered, answer-is    the numbers of an answer whose second is 0; an answer that has them
---     no-book                what a refusing check says
---     check-sound            an accepting check: a book of n names in blocks of k
---     checked-sound          and back, from what the check gives
+-- How a check ends.
+--     no-book           what a refusing check says
+--     check-sound       an accepting check: a book of n names in blocks of k
+--     checked-sound     and back, from what the check gives
 -- Assumes nothing.
 use Prim.Native.Nat.{ℕ}
 use native.Mathlib.Omega.{arith}
@@ -13,16 +12,6 @@ use Rattle.answers.specs.Calls.{Answer as Numbers, check, checkOf, given}
 use Rattle.accept.specs.Parts.{checkedOf}
 use Rattle.accept.specs.declared.Checked.the-variants.{Sound, Unsound}
 use Rattle.accept.proofs.Judging.{sound-book}
-use Rattle.questions.specs.Answers.{answered}
-use Rattle.questions.specs.declared.Answer.{Answer}
-
-abbrev pub numbered : ℕ → ℕ → Numbers
-numbered code first = record { code = code; first = first; second = 0 }
-
-pub answer-is : (r : Answer) (code first : ℕ) → (r .code ≡ code) × (r .first ≡ first) × (r .second ≡ 0) → answered r ≡ numbered code first
-answer-is r code first e = rw (e .0, e .1, e .2) refl
-
--- ---- the check
 
 pub no-book : (b : Bytes) → Unsound ≡ checkedOf (opened plain b) → opened plain b ≡ NoBook
 no-book b s = go (opened plain b) s

@@ -1,5 +1,5 @@
 -- How a batch opens and what a row gets, by the ways that the functions go.
---     answerOf, closed-is        the answer of three numbers; an opening that refuses
+--     closed-is                  an opening that refuses
 --     crowded, unsound-opens, sound-opens      too many rows, or unequal numbers; no book; a book of n names in blocks of k
 --     row-refused, row-answered  a row that can't be asked, and one that can
 -- Assumes nothing.
@@ -17,8 +17,10 @@ use Rattle.answers.specs.Calls.{Answer as Numbers, Row as Question, question, q
 use Rattle.answers.proofs.Calls.{GoodRow, row-bad, row-good}
 use Rattle.accept.specs.Parts.{checkedOf}
 use Rattle.accept.specs.declared.Checked.the-variants.{Sound, Unsound}
-use Rattle.questions.specs.Answers.{answered, closedBy, openingOf, takesRows}
-use Rattle.questions.specs.declared.Answer.{Answer}
+use Rattle.shapes.specs.Shapes.{answered}
+use Rattle.shapes.specs.declared.Answer.{Answer}
+use Rattle.shapes.proofs.Shapes.{answerOf}
+use Rattle.questions.specs.Answers.{closedBy, openingOf, takesRows}
 use Rattle.questions.specs.declared.Opening.{Opening}
 use Rattle.questions.proofs.Checks.{no-book}
 
@@ -27,9 +29,6 @@ use Rattle.questions.proofs.Checks.{no-book}
 -- an opening that refuses nothing
 abbrev accepting : ℕ → ℕ → ℕ → Opening
 accepting rows n k = record { answer = record { code = 0; first = rows; second = 0 }; names = n; block = k }
-
-abbrev pub answerOf : Numbers → Answer
-answerOf a = record { code = a .code; first = a .first; second = a .second }
 
 pub closed-is : (r : Answer) (code : ℕ) → answered r ≡ refused code → record { answer = r; names = 0; block = 0 } ≡ closedBy code
 closed-is r code e = ap (λ (a : Numbers). record { answer = answerOf a; names = 0; block = 0 }) e

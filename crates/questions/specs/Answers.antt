@@ -1,6 +1,4 @@
--- The answers and rows of the code as document 01's numbers, and what the functions ask of each other.
---     answered          an answer
---     rowOf             a row of a batch
+-- What the functions ask of each other, and how a batch opens. An answer and a row as document 01's numbers are in the crate shapes.
 --     KindNumber, Asking    the kind of a question, 1 to 4; that, and that the check of these bytes gives n names in blocks of k
 --     takesRows, openingOf, closedBy    how a batch opens: its rows are taken or not; 12, 2 or accepted; an opening that refuses
 --     Accepted          a book of which an accepting opening has the names and the block size
@@ -12,13 +10,8 @@ use lib.Dec.{eqb, leb}
 use lib.ListN.{length}
 use Rattle.words.specs.Words.{Bytes, both, plain}
 use Rattle.format.specs.Book.{Book, NoBook, Opened}
-use Rattle.answers.specs.Calls.{Answer as Numbers, Row as Question, check, given}
-use Rattle.questions.specs.declared.Answer.{Answer}
+use Rattle.answers.specs.Calls.{check, given}
 use Rattle.questions.specs.declared.Opening.{Opening}
-use Rattle.questions.specs.declared.Row.{Row}
-
-abbrev pub answered : Answer → Numbers
-answered r = record { code = r .code; first = r .first; second = r .second }
 
 pub record KindNumber (kind : ℕ) : Type 0 where
   pub low : 1 ≤ kind
@@ -29,9 +22,6 @@ pub record Asking (b : Bytes) (n k kind : ℕ) : Type 0 where
   pub number : KindNumber kind
 
 -- ---- batches
-
-abbrev pub rowOf : Row → Question
-rowOf r = record { kind = r .kind; start = r .start; size = r .length }
 
 abbrev pub closedBy : ℕ → Opening
 closedBy code = record { answer = record { code = code; first = 0; second = 0 }; names = 0; block = 0 }

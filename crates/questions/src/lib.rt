@@ -1,29 +1,13 @@
-// What the public calls stand on: the answer and the row that they give and take, a question to a book that the check has accepted, how a
-// batch opens, and what one of its rows gets. Whoever asks here has to know what the check answered; the calls above ask nothing.
+// What the public calls stand on: a question to a book that the check has accepted, how a batch opens, and what one of its rows gets.
+// Whoever asks here has to know what the check answered; the calls above ask nothing.
+use shapes::Answer;
+use shapes::Row;
 ghost use mathlib.Core.Path.{_≡_};
 ghost use Rattle.words.specs.Words.{plain};
 ghost use Rattle.format.specs.Book.{opened};
 ghost use Rattle.answers.specs.Calls.{question as askedOf, rowAnswer};
-ghost use Rattle.questions.specs.Answers.{Accepted, Asking, KindNumber, answered, closedBy, openingOf, rowOf, takesRows};
-
-// 0 or the number of a refusal, and two numbers beside it.
-#[repr(C)]
-pub struct Answer {
-    pub code: usize,
-    pub first: usize,
-    pub second: usize,
-}
-
-// A refusal, and the number beside it.
-pub fn refuse(code: usize, first: usize) -> Answer
-    ensures { λ r. ⌜ (r .code ≡ code) × (r .first ≡ first) × (r .second ≡ 0) ⌝ }
-{
-    Answer {
-        code,
-        first,
-        second: 0,
-    }
-}
+ghost use Rattle.shapes.specs.Shapes.{answered, rowOf};
+ghost use Rattle.questions.specs.Answers.{Accepted, Asking, KindNumber, closedBy, openingOf, takesRows};
 
 // A question of a kind from 1 to 4 to a book of n names in blocks of k that the check has accepted: whoever has many questions checks
 // once. Refusals: 1, 10.
@@ -32,13 +16,13 @@ pub fn ask(book: &[u8], n: usize, k: usize, kind: usize, question: &[u8]) -> Ans
     ensures { λ r. ⌜ answered r ≡ askedOf plain kind (now (book .entry)) (now (question .entry)) ⌝ }
 {
     if 200 < question.len() {
-        return refuse(1, 0);
+        return shapes::refuse(1, 0);
     }
     if n == 0 {
         if kind == 4 {
-            return refuse(10, 0);
+            return shapes::refuse(10, 0);
         }
-        return refuse(0, 0);
+        return shapes::refuse(0, 0);
     }
     let pair = search::answer(book, k, kind, question);
     Answer {
@@ -55,17 +39,9 @@ pub fn ask_alone(book: &[u8], kind: usize, question: &[u8]) -> Answer
 {
     let checked = accept::check_book(book);
     match checked {
-        accept::Checked::Unsound => refuse(2, 0),
+        accept::Checked::Unsound => shapes::refuse(2, 0),
         accept::Checked::Sound(n, k) => ask(book, n, k, kind, question),
     }
-}
-
-// A question of a batch: its kind, and where it stands in the buffer.
-#[repr(C)]
-pub struct Row {
-    pub kind: usize,
-    pub start: usize,
-    pub length: usize,
 }
 
 // How a batch opens: its answer; and where that is no refusal, how many names the book has, in blocks of how many.
@@ -79,7 +55,7 @@ pub struct Opening {
 fn closed(code: usize) -> Opening
     ensures { λ r. ⌜ r ≡ closedBy code ⌝ }
 {
-    let answer = refuse(code, 0);
+    let answer = shapes::refuse(code, 0);
     Opening {
         answer,
         names: 0,
@@ -121,16 +97,16 @@ pub fn answer_row(book: &[u8], opening: Opening, questions: &[u8], row: Row) -> 
     ensures { λ r. ⌜ answered r ≡ rowAnswer plain (opened plain (now (book .entry))) (now (questions .entry)) (rowOf row) ⌝ }
 {
     if row.kind == 0 {
-        return refuse(11, 0);
+        return shapes::refuse(11, 0);
     }
     if 4 < row.kind {
-        return refuse(11, 0);
+        return shapes::refuse(11, 0);
     }
     if questions.len() < row.start {
-        return refuse(11, 0);
+        return shapes::refuse(11, 0);
     }
     if questions.len() - row.start < row.length {
-        return refuse(11, 0);
+        return shapes::refuse(11, 0);
     }
     let start = row.start;
     let end = start + row.length;

@@ -58,15 +58,16 @@ use denote.Exit.{yes}
 use Rattle.words.specs.Words.{plain}
 use Rattle.format.specs.Book.{opened}
 use Rattle.answers.specs.Calls.{batch, rowAnswer}
-use Rattle.questions.specs.Answers.{Accepted, answered, rowOf}
-use Rattle.questions.specs.declared.Answer.{Answer}
+use Rattle.shapes.specs.Shapes.{answered, rowOf}
+use Rattle.shapes.specs.declared.Answer.{Answer}
+use Rattle.shapes.specs.declared.Row.{Row}
+use Rattle.shapes.proofs.Shapes.{answerOf}
+use Rattle.shapes.proofs.Row as R
+use Rattle.shapes.proofs.Row.Laws as R′
+use Rattle.shapes.proofs.Answer as P
+use Rattle.shapes.proofs.Answer.Laws as P′
+use Rattle.questions.specs.Answers.{Accepted}
 use Rattle.questions.specs.declared.Opening.{Opening}
-use Rattle.questions.specs.declared.Row.{Row}
-use Rattle.questions.proofs.Rows.{answerOf}
-use Rattle.questions.proofs.Row as R
-use Rattle.questions.proofs.Row.Laws as R′
-use Rattle.questions.proofs.Answer as P
-use Rattle.questions.proofs.Answer.Laws as P′
 use Rattle.questions.proofs.Opening as O
 use Rattle.questions.proofs.Opening.Laws as O′
 use Rattle.questions.proofs.open_batch as opens

@@ -2,7 +2,7 @@
 -- Assumes nothing.
 use native.Mathlib.Omega.{arith}
 use mathlib.Core.Path.{refl, sym, _∙_}
-use Rattle.questions.proofs.Checks.{answer-is}
+use Rattle.shapes.proofs.Shapes.{answer-is}
 use Rattle.book.proofs.Building.{build-low, build-high, build-bad, build-ends, judged-asks}
 use borrow.Author.Needs.{needs}
 use Rattle.book.proofs.book_build.Statement.{statement}

@@ -2,7 +2,8 @@
 -- Assumes nothing.
 use native.Mathlib.Omega.{arith}
 use mathlib.Core.Path.{_∙_, sym}
-use Rattle.questions.proofs.Checks.{answer-is, check-sound}
+use Rattle.shapes.proofs.Shapes.{answer-is}
+use Rattle.questions.proofs.Checks.{check-sound}
 use Rattle.book.proofs.Reading.{check-unsound}
 use borrow.Author.Needs.{needs}
 use Rattle.book.proofs.book_check.Statement.{statement}

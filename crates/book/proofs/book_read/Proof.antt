@@ -2,7 +2,7 @@
 -- Assumes nothing.
 use native.Mathlib.Omega.{arith}
 use mathlib.Core.Path.{_∙_, sym}
-use Rattle.questions.proofs.Checks.{answer-is}
+use Rattle.shapes.proofs.Shapes.{answer-is}
 use Rattle.book.proofs.Reading.{position-ask, read-past, read-put, read-short, read-unsound}
 use borrow.Author.Needs.{needs}
 use Rattle.book.proofs.book_read.Statement.{statement}

@@ -1,8 +1,8 @@
 -- `questions::answer_row` meets its contract: the tests say that the row is good, or that it is not.
 -- Assumes nothing.
 use native.Mathlib.Omega.{arith}
+use Rattle.shapes.proofs.Shapes.{answer-is}
 use Rattle.questions.proofs.Rows.{row-refused, row-answered}
-use Rattle.questions.proofs.Checks.{answer-is}
 use borrow.Author.Needs.{needs}
 use Rattle.questions.proofs.answer_row.Statement.{statement}
 use Rattle.questions.proofs.answer_row.Tie as tie

@@ -2,8 +2,8 @@
 -- Assumes nothing.
 use native.Mathlib.Omega.{arith}
 use borrow.Author.Needs.{needs}
+use Rattle.shapes.proofs.Shapes.{answer-is}
 use Rattle.questions.proofs.Asking.{ask-long, ask-none, ask-some, askable, nearest-none}
-use Rattle.questions.proofs.Checks.{answer-is}
 use Rattle.questions.proofs.ask.Statement.{statement}
 use Rattle.questions.proofs.ask.Tie as tie
 

@@ -3,8 +3,9 @@
 use native.Mathlib.Omega.{arith}
 use mathlib.Core.Path.{_∙_, sym}
 use borrow.Author.Needs.{needs}
+use Rattle.shapes.proofs.Shapes.{answer-is}
 use Rattle.questions.proofs.Asking.{ask-unsound}
-use Rattle.questions.proofs.Checks.{answer-is, check-sound}
+use Rattle.questions.proofs.Checks.{check-sound}
 use Rattle.questions.proofs.ask_alone.Statement.{statement}
 use Rattle.questions.proofs.ask_alone.Tie as tie
 

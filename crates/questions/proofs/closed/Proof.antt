@@ -1,7 +1,7 @@
 -- `questions::closed` meets its contract.
 -- Assumes nothing.
+use Rattle.shapes.proofs.Shapes.{answer-is}
 use Rattle.questions.proofs.Rows.{closed-is}
-use Rattle.questions.proofs.Checks.{answer-is}
 use borrow.Author.Needs.{needs}
 use Rattle.questions.proofs.closed.Statement.{statement}
 use Rattle.questions.proofs.closed.Tie as tie

@@ -1,0 +1,2 @@
+-- Laws of the answers by themselves.
+pub mod Shapes

@@ -1,0 +1,30 @@
+// What crosses the public calls: the answer that they give and the row of a batch that they take. A part above the book that has one of
+// them in its hands lists this crate beside `book`; so nothing here asks anything of its caller.
+ghost use mathlib.Core.Path.{_≡_};
+
+// 0 or the number of a refusal, and two numbers beside it.
+#[repr(C)]
+pub struct Answer {
+    pub code: usize,
+    pub first: usize,
+    pub second: usize,
+}
+
+// A refusal, and the number beside it.
+pub fn refuse(code: usize, first: usize) -> Answer
+    ensures { λ r. ⌜ (r .code ≡ code) × (r .first ≡ first) × (r .second ≡ 0) ⌝ }
+{
+    Answer {
+        code,
+        first,
+        second: 0,
+    }
+}
+
+// A question of a batch: its kind, and where it stands in the buffer.
+#[repr(C)]
+pub struct Row {
+    pub kind: usize,
+    pub start: usize,
+    pub length: usize,
+}
