@@ -1,10 +1,11 @@
 -- How a build ends, by the ways that the call goes.
---     build-low, build-high, build-bad, build-good     block size 0; above 64; a bad record; what building a judged list gives
+--     build-low, build-high, build-bad     block size 0; above 64; a bad record
+--     build-refused, build-written         what building a judged list gave
 --     judged-asks       a judged list is ready to be built
 -- Assumes nothing.
 use Prim.Native.Nat.{ℕ, _≤_, _<_}
 use native.Mathlib.Omega.{arith}
-use mathlib.Core.Path.{_≡_, refl, sym, ap, _∙_}
+use mathlib.Core.Path.{_≡_, refl, sym, ap, _∙_, subst}
 use mathlib.Core.Bool.{Bool, true, false}
 use mathlib.Core.List.{List}
 use lib.ListN.{length}
@@ -13,14 +14,15 @@ use Rattle.words.specs.Words.{Bytes, pick, plain}
 use Rattle.format.specs.Book.{goodBlock}
 use Rattle.format.specs.Records.{Names, Reading, Refused, readList, sound}
 use Rattle.format.proofs.Records.{read-sound, sound-few}
-use Rattle.answers.specs.Calls.{Answer as Numbers, Written, refused, build, builtFrom}
+use Rattle.answers.specs.Calls.{Answer as Numbers, Written, build, builtFrom, given, refused}
 use Rattle.records.specs.Lists.{Judged, names, namesIn, verdictOf}
-use Rattle.build.specs.Whole.{BuildAsk}
+use Rattle.build.specs.Whole.{BuildAsk, shownBuilt}
+use Rattle.build.specs.declared.Built.{Built}
+use Rattle.build.specs.declared.Built.the-variants.{Refused as Stopped, Written as Wrote}
 use Rattle.records.specs.declared.Verdict.{Verdict}
 use Rattle.records.specs.declared.Verdict.the-variants.{Good, Bad}
-use Rattle.shapes.specs.Shapes.{answered}
+use Rattle.shapes.specs.Shapes.{answered, numbered}
 use Rattle.shapes.specs.declared.Answer.{Answer}
-use Rattle.shapes.proofs.Shapes.{numbered}
 use Rattle.book.specs.Answers.{written}
 
 module _ (s : Bytes) (k : ℕ) (room : Bytes) where
@@ -39,13 +41,14 @@ module _ (s : Bytes) (k : ℕ) (room : Bytes) where
   build-high r e h = ap (λ (a : Numbers). record { answer = a; room = room }) e ∙ sym (gate false (rw (le-leb 1 k (omega arith), lt-leb k 64 h) refl))
 
   module _ (z : k ≡ 0 → ⊥) (h : k ≤ 64) where
-    pub build-good : (w : Written) → w ≡ builtFrom plain k room (readList plain s) → w ≡ build plain s k room
+    build-good : (w : Written) → w ≡ builtFrom plain k room (readList plain s) → w ≡ build plain s k room
     build-good w p = p ∙ sym (gate true (rw (le-leb 1 k (omega arith), le-leb k 64 h) refl))
 
-    pub build-bad : (r : Answer) (code i : ℕ) → Ends r code i → Bad code i ≡ verdictOf (readList plain s) → written r room ≡ build plain s k room
+    pub build-bad : (r : Answer) (code i : ℕ) → Ends r code i → (lens steps : List ℕ) (v : Verdict) → Judged s lens steps v → v ≡ Bad code i
+        → written r room ≡ build plain s k room
     unfolding builtFrom
-    build-bad r code i e v =
-        build-good (written r room) (ap (λ (a : Numbers). record { answer = a; room = room }) e ∙ go (readList plain s) v)
+    build-bad r code i e lens steps v j u =
+        build-good (written r room) (ap (λ (a : Numbers). record { answer = a; room = room }) e ∙ go (readList plain s) (sym u ∙ j .verdict))
       where
         bad : (c j : ℕ) → code ≡ c → i ≡ j → record { answer = numbered code i; room = room } ≡ builtFrom plain k room (Refused c j)
         bad c j f g = rw (f, g) refl
@@ -76,6 +79,10 @@ module _ (s : Bytes) (k : ℕ) (room : Bytes) where
             }
 
     -- what building a judged list gave, as the call's own answer
-    pub build-ends : (r : Answer) (code first : ℕ) (new : Bytes) → Ends r code first → record { answer = numbered code first; room = new } ≡ builtFrom plain k room (readList plain s)
-        → written r new ≡ build plain s k room
-    build-ends r code first new e p = build-good (written r new) (ap (λ (a : Numbers). record { answer = a; room = new }) e ∙ p)
+    module _ (new : Bytes) (v : Built) (p : shownBuilt v new ≡ builtFrom plain k room (readList plain s)) where
+      pub build-refused : (r : Answer) (code : ℕ) → Ends r code 0 → v ≡ Stopped code → written r new ≡ build plain s k room
+      build-refused r code e u =
+          build-good (written r new) (ap (λ (a : Numbers). record { answer = a; room = new }) e ∙ subst (λ (w : Built). shownBuilt w new ≡ builtFrom plain k room (readList plain s)) u p)
+
+      pub build-written : (total : ℕ) → v ≡ Wrote total → record { answer = given total 0; room = new } ≡ build plain s k room
+      build-written total u = build-good (shownBuilt (Wrote total) new) (subst (λ (w : Built). shownBuilt w new ≡ builtFrom plain k room (readList plain s)) u p)

@@ -11,16 +11,18 @@ use mathlib.Core.List.{[]}
 use lib.Dec.{leb}
 use lib.ListN.{getD, length}
 use borrow.Author.Tests.{le-ltb, lt-ltb}
-use Rattle.words.specs.Words.{Bytes, InBytes, plain}
+use Rattle.words.specs.Words.{Bytes, plain}
 use Rattle.words.proofs.Lists.{all-at}
 use Rattle.format.specs.Book.{Book, opened}
 use Rattle.format.proofs.Book.{book-opened, fits-parts}
 use Rattle.format.proofs.Records.{rising-sizes, sound-rising}
 use Rattle.answers.specs.Calls.{Answer as Numbers, Written, check, checkOf, given, over, readBack, readBackOf, refused, write}
+use Rattle.numbers.proofs.Parts.{Held, held-bytes}
 use Rattle.streams.specs.Streams.{namesOf}
 use Rattle.accept.specs.Parts.{checkedOf}
+use Rattle.accept.specs.declared.Checked.{Checked}
 use Rattle.accept.specs.declared.Checked.the-variants.{Sound, Unsound}
-use Rattle.accept.proofs.Judging.{sound-book}
+use Rattle.accept.proofs.Judging.{SoundBook, sound-book}
 use Rattle.names.specs.Names.{PositionAsk, Put}
 use Rattle.shapes.specs.Shapes.{answered}
 use Rattle.shapes.specs.declared.Answer.{Answer}
@@ -29,39 +31,41 @@ use Rattle.book.specs.Answers.{written}
 
 -- ---- the check
 
-pub check-unsound : (b : Bytes) (r : Answer) → answered r ≡ refused 2 → Unsound ≡ checkedOf (opened plain b) → answered r ≡ check plain b
+pub check-unsound : (b : Bytes) (r : Answer) → answered r ≡ refused 2 → (v : Checked) → v ≡ checkedOf (opened plain b) → v ≡ Unsound → answered r ≡ check plain b
 unfolding check checkOf
-check-unsound b r e s = e ∙ sym (ap checkOf (no-book b s))
+check-unsound b r e v s u = e ∙ sym (ap checkOf (no-book b v s u))
 
 -- ---- the read
 
 abbrev ended : Bytes → Numbers → Written
 ended room a = record { answer = a; room = room }
 
-pub read-unsound : (b room : Bytes) (i : ℕ) (r : Answer) → answered r ≡ refused 2 → Unsound ≡ checkedOf (opened plain b) → written r room ≡ readBack plain b i room
+pub read-unsound : (b room : Bytes) (i : ℕ) (r : Answer) → answered r ≡ refused 2 → (v : Checked) → v ≡ checkedOf (opened plain b) → v ≡ Unsound
+    → written r room ≡ readBack plain b i room
 unfolding readBack readBackOf
-read-unsound b room i r e s = ap (ended room) e ∙ sym (ap (readBackOf i room) (no-book b s))
+read-unsound b room i r e v s u = ap (ended room) e ∙ sym (ap (readBackOf i room) (no-book b v s u))
 
-module _ (b room : Bytes) (i n k : ℕ) (bytes : InBytes b) (s : Sound n k ≡ checkedOf (opened plain b)) where
+module _ (b room : Bytes) (i n k : ℕ) (held : Held b) (v : Checked) (s : v ≡ checkedOf (opened plain b)) (u : v ≡ Sound n k) where
+  shown : SoundBook b n k
+  shown = sound-book b n k (held-bytes b held) (sym u ∙ s)
+
   abbrev name : Bytes
   name = getD (namesOf b) i []
 
   asked : readBack plain b i room ≡ readBackOf i room (Book k (namesOf b))
   unfolding readBack
-  asked = ap (readBackOf i room) (sound-book b n k bytes s .book)
+  asked = ap (readBackOf i room) (shown .book)
 
   pub read-past : (r : Answer) → answered r ≡ refused 3 → n ≤ i → written r room ≡ readBack plain b i room
   unfolding readBackOf
-  read-past r e h = ap (ended room) e ∙ sym (asked ∙ rw (le-ltb i (length (namesOf b)) (omega (arith, sound-book b n k bytes s .count))) refl)
+  read-past r e h = ap (ended room) e ∙ sym (asked ∙ rw (le-ltb i (length (namesOf b)) (omega (arith, shown .count))) refl)
 
   pub position-ask : i < n → PositionAsk b k i
-  position-ask h =
-      let f = sound-book b n k bytes s in
-      record { parts = f .parts; block = f .block; within = omega (arith, f .count) }
+  position-ask h = record { parts = shown .parts; block = shown .block; within = omega (arith, shown .count) }
 
   module _ (h : i < n) where
     within : i < length (namesOf b)
-    within = omega (arith, sound-book b n k bytes s .count)
+    within = omega (arith, shown .count)
 
     writes : readBack plain b i room ≡ write name room
     unfolding readBackOf
@@ -69,7 +73,7 @@ module _ (b room : Bytes) (i n k : ℕ) (bytes : InBytes b) (s : Sound n k ≡ c
 
     some : 1 ≤ length name
     some =
-        let o = book-opened plain b k (namesOf b) (sound-book b n k bytes s .book) in
+        let o = book-opened plain b k (namesOf b) (shown .book) in
         all-at [] (namesOf b) (rising-sizes plain [] (namesOf b) (sound-rising plain (namesOf b) (fits-parts plain k (namesOf b) (o .0) .sound))) i within .0
 
     module _ (len : ℕ) (after : Bytes) (p : Put name room len after) where

@@ -20,7 +20,9 @@ use Rattle.answers.specs.Questions.{Pair, answer, ask, count, exact, exactFrom,
 use Rattle.descent.specs.Vocabulary.{asked, openedNames, startIn, wordsIn}
 use Rattle.descent.proofs.Bytes.{opened-searchable}
 use Rattle.streams.specs.Streams.{namesOf, wordsOf}
+use Rattle.numbers.proofs.Parts.{Held, held-bytes}
 use Rattle.accept.specs.Parts.{checkedOf}
+use Rattle.accept.specs.declared.Checked.{Checked}
 use Rattle.accept.specs.declared.Checked.the-variants.{Unsound}
 use Rattle.accept.proofs.Judging.{SoundBook, sound-book}
 use Rattle.search.specs.Asks.{KindAsk}
@@ -29,9 +31,10 @@ use Rattle.shapes.specs.declared.Answer.{Answer}
 use Rattle.questions.specs.Answers.{Asking, KindNumber}
 use Rattle.questions.proofs.Checks.{checked-sound, no-book}
 
-pub ask-unsound : (kind : ℕ) (b q : Bytes) (r : Answer) → answered r ≡ refused 2 → Unsound ≡ checkedOf (opened plain b) → answered r ≡ question plain kind b q
+pub ask-unsound : (kind : ℕ) (b q : Bytes) (r : Answer) → answered r ≡ refused 2 → (v : Checked) → v ≡ checkedOf (opened plain b) → v ≡ Unsound
+    → answered r ≡ question plain kind b q
 unfolding question questionOf
-ask-unsound kind b q r e s = e ∙ sym (ap (questionOf plain kind q) (no-book b s))
+ask-unsound kind b q r e v s u = e ∙ sym (ap (questionOf plain kind q) (no-book b v s u))
 
 -- an empty list: nothing is found
 none-found : (kind : ℕ) → KindNumber kind → (kind ≡ 4 → ⊥) → (q : List ℕ) → (0, 0) ≡ ask kind q []
@@ -42,7 +45,10 @@ none-found (suc (suc zero)) h n q = refl
 none-found (suc (suc (suc zero))) h n q = refl
 none-found (suc (suc (suc (suc kind)))) h n q = absurd (n (omega (arith, h .high)))
 
-module _ (b q : Bytes) (n k kind : ℕ) (bytes : InBytes b) (s : Asking b n k kind) where
+module _ (b q : Bytes) (n k kind : ℕ) (held : Held b) (s : Asking b n k kind) where
+  bytes : InBytes b
+  bytes = held-bytes b held
+
   -- what the check has shown
   shown : SoundBook b n k
   shown = sound-book b n k bytes (checked-sound b n k (s .checked))
@@ -93,6 +99,6 @@ module _ (b q : Bytes) (n k kind : ℕ) (bytes : InBytes b) (s : Asking b n k ki
             some = s .number .low;
           }
 
-      pub ask-some : (a : Pair) → a ≡ ask kind (asked plain q) (wordsIn plain b) → given (a .0) (a .1) ≡ question plain kind b q
+      pub ask-some : (x y : ℕ) → (x, y) ≡ ask kind (asked plain q) (wordsIn plain b) → given x y ≡ question plain kind b q
       unfolding answer asked wordsOf
-      ask-some a e = gives (λ _ z. some z) a (e ∙ ap (ask kind (word plain q)) opens)
+      ask-some x y e = gives (λ _ z. some z) (x, y) (e ∙ ap (ask kind (word plain q)) opens)

@@ -6,24 +6,26 @@
 use Prim.Native.Nat.{ℕ}
 use native.Mathlib.Omega.{arith}
 use mathlib.Core.Path.{_≡_, _∙_, ap, ap₂, refl, sym}
-use Rattle.words.specs.Words.{Bytes, InBytes, plain}
+use Rattle.words.specs.Words.{Bytes, plain}
 use Rattle.format.specs.Book.{Book, NoBook, Opened, opened}
 use Rattle.answers.specs.Calls.{Answer as Numbers, check, checkOf, given}
+use Rattle.numbers.proofs.Parts.{Held, held-bytes}
 use Rattle.accept.specs.Parts.{checkedOf}
+use Rattle.accept.specs.declared.Checked.{Checked}
 use Rattle.accept.specs.declared.Checked.the-variants.{Sound, Unsound}
 use Rattle.accept.proofs.Judging.{sound-book}
 
-pub no-book : (b : Bytes) → Unsound ≡ checkedOf (opened plain b) → opened plain b ≡ NoBook
-no-book b s = go (opened plain b) s
+pub no-book : (b : Bytes) (v : Checked) → v ≡ checkedOf (opened plain b) → v ≡ Unsound → opened plain b ≡ NoBook
+no-book b v s u = go (opened plain b) (sym u ∙ s)
   where
     go : (o : Opened) → Unsound ≡ checkedOf o → o ≡ NoBook
     go NoBook q = refl
     go (Book k xs) q = absurd (let z : _≡_ {A = ℕ} 0 1 = cc in omega arith)
 
-pub check-sound : (b : Bytes) (n k : ℕ) → InBytes b → Sound n k ≡ checkedOf (opened plain b) → given n k ≡ check plain b
+pub check-sound : (b : Bytes) (n k : ℕ) → Held b → (v : Checked) → v ≡ checkedOf (opened plain b) → v ≡ Sound n k → given n k ≡ check plain b
 unfolding check checkOf
-check-sound b n k bytes s =
-    let f = sound-book b n k bytes s in
+check-sound b n k held v s u =
+    let f = sound-book b n k (held-bytes b held) (sym u ∙ s) in
     ap (λ (x : ℕ). given x k) (f .count) ∙ sym (ap checkOf (f .book))
 
 pub checked-sound : (b : Bytes) (n k : ℕ) → given n k ≡ check plain b → Sound n k ≡ checkedOf (opened plain b)

@@ -16,6 +16,7 @@ use Rattle.format.specs.Book.{Book, NoBook, Opened, opened}
 use Rattle.answers.specs.Calls.{Answer as Numbers, Row as Question, question, questionOf, refused, rowAnswer}
 use Rattle.answers.proofs.Calls.{GoodRow, row-bad, row-good}
 use Rattle.accept.specs.Parts.{checkedOf}
+use Rattle.accept.specs.declared.Checked.{Checked}
 use Rattle.accept.specs.declared.Checked.the-variants.{Sound, Unsound}
 use Rattle.shapes.specs.Shapes.{answered}
 use Rattle.shapes.specs.declared.Answer.{Answer}
@@ -47,13 +48,13 @@ module _ (b : Bytes) (rows places : ℕ) where
     taken : openingOf rows (takesRows rows places) (opened plain b) ≡ openingOf rows true (opened plain b)
     taken = rw (le-leb rows 64 few, eq-eqb rows places equal) refl
 
-    pub unsound-opens : (r : Opening) → r ≡ closedBy 2 → Unsound ≡ checkedOf (opened plain b) → r ≡ openingOf rows (takesRows rows places) (opened plain b)
+    pub unsound-opens : (r : Opening) → r ≡ closedBy 2 → (v : Checked) → v ≡ checkedOf (opened plain b) → v ≡ Unsound → r ≡ openingOf rows (takesRows rows places) (opened plain b)
     unfolding openingOf
-    unsound-opens r e s = e ∙ sym (taken ∙ ap (openingOf rows true) (no-book b s))
+    unsound-opens r e v s u = e ∙ sym (taken ∙ ap (openingOf rows true) (no-book b v s u))
 
-    pub sound-opens : (n k : ℕ) → Sound n k ≡ checkedOf (opened plain b) → accepting rows n k ≡ openingOf rows (takesRows rows places) (opened plain b)
+    pub sound-opens : (n k : ℕ) (v : Checked) → v ≡ checkedOf (opened plain b) → v ≡ Sound n k → accepting rows n k ≡ openingOf rows (takesRows rows places) (opened plain b)
     unfolding openingOf
-    sound-opens n k s = go (opened plain b) s ∙ sym taken
+    sound-opens n k v s u = go (opened plain b) (sym u ∙ s) ∙ sym taken
       where
         go : (o : Opened) → Sound n k ≡ checkedOf o → accepting rows n k ≡ openingOf rows true o
         go NoBook q = absurd (let z : _≡_ {A = ℕ} 0 1 = cc in omega arith)

@@ -1,6 +1,7 @@
 // What crosses the public calls: the answer that they give and the row of a batch that they take. A part above the book that has one of
 // them in its hands lists this crate beside `book`; so nothing here asks anything of its caller.
 ghost use mathlib.Core.Path.{_≡_};
+ghost use Rattle.shapes.specs.Shapes.{answered, numbered};
 
 // 0 or the number of a refusal, and two numbers beside it.
 #[repr(C)]
@@ -12,7 +13,7 @@ pub struct Answer {
 
 // A refusal, and the number beside it.
 pub fn refuse(code: usize, first: usize) -> Answer
-    ensures { λ r. ⌜ (r .code ≡ code) × (r .first ≡ first) × (r .second ≡ 0) ⌝ }
+    ensures { λ r. ⌜ answered r ≡ numbered code first ⌝ }
 {
     Answer {
         code,
