@@ -5,7 +5,8 @@
 #
 # On x86-64 it is what `rt staticlib` writes: the product itself. The prover compiles for no other processor, so elsewhere the LLVM
 # module that it hands to its compiler is kept on the way and compiled anew for this machine. That archive is for tests and benchmarks
-# only. With MISTROGU_NATIVE=1 the second way is taken on x86-64, too.
+# only. With MISTROGU_NATIVE=1 the second way is taken on x86-64, too; with MISTROGU_TARGET, such as aarch64-unknown-linux-gnu, it is
+# compiled for that processor.
 set -eu
 cd "$(dirname "$0")/.."
 root=$(pwd -P)
@@ -48,16 +49,19 @@ chmod +x "$own/toolchain/bin/clang"
 RATTLE_HOME=$work/kit rt staticlib "$library" >&2
 [ -f "$work/module.bc" ] || { echo "archive.sh: the prover handed no module to its compiler" >&2; exit 1; }
 
-# The module as text, without the words on x86-64; the compiler puts in those of its target.
+# The module as text, without the words on x86-64; the compiler puts in those of its target. The calls get other names there, and
+# native.c has them as this processor's C sees them.
 clang=$tools/bin/clang
+target=${MISTROGU_TARGET:-$machine-unknown-linux-gnu}
 "$clang" --target=x86_64-unknown-linux-gnu -S -emit-llvm -Xclang -disable-llvm-passes -x ir "$work/module.bc" -o "$work/module.ll"
-sed -i -e '/^target datalayout = /d' -e '/^target triple = /d' \
+sed -i -e '/^target datalayout = /d' -e '/^target triple = /d' -e 's/@book_/@written_book_/g' \
     -e 's/ *"\(target-cpu\|target-features\|tune-cpu\)"="[^"]*"//g' "$work/module.ll"
-"$clang" --target="$machine-unknown-linux-gnu" -Wno-override-module -O3 -fPIC -ffunction-sections -fdata-sections \
-    -c -x ir "$work/module.ll" -o "$work/$library.o"
+native=(--target="$target" -O3 -fPIC -ffunction-sections -fdata-sections -c)
+"$clang" "${native[@]}" -Wno-override-module -x ir "$work/module.ll" -o "$work/$library.o"
+"$clang" "${native[@]}" -std=c99 -Wall -Wextra -Werror host/native.c -o "$work/calls.o"
 
 mkdir -p "$root/target/native"
 archive=$root/target/native/lib$library.a
 rm -f "$archive"
-"$tools/bin/llvm-ar" rcs "$archive" "$work/$library.o"
+"$tools/bin/llvm-ar" rcs "$archive" "$work/$library.o" "$work/calls.o"
 echo "$archive"
