@@ -9,21 +9,11 @@ const HEAD: usize = 16;
 
 const LONGEST_ROOM: usize = 70000;
 
-// Builds, and prints the case's number, the answer, the checksum of the book, of no bytes where there is none, and that of the whole room.
+// Builds in a room that is filled, and prints the case's line.
 fn print_build(number: usize, list: &[u8], block: usize, room: &mut [u8]) {
     bytes::fill(room);
     let answer = book::book_build(list, block, room);
-    let code = answer.code;
-    let first = answer.first;
-    lines::begin(number);
-    lines::add_answer(answer);
-    if code == 0 {
-        lines::add_checksum(&room[..first]);
-    } else {
-        lines::add_checksum(&room[..0]);
-    }
-    lines::add_checksum(room);
-    lines::end();
+    lines::print_room(number, answer, room);
 }
 
 // Runs the case at a place, and gives the place of the next. A case that is cut off, or has too long a room, is the last.

@@ -1,4 +1,7 @@
 // Lines of numbers on standard output, with one space between two.
+ghost use mathlib.Core.Path.{_≡_};
+ghost use Prim.Native.Nat.{_≤_};
+ghost use lib.ListN.{length};
 use crate::bytes;
 use crate::bytes::Sums;
 use libc::STDOUT_FILENO;
@@ -25,11 +28,27 @@ pub fn add_sums(sums: Sums) {
     add(sums.sums);
 }
 
-pub fn add_checksum(s: &[u8]) {
+fn add_checksum(s: &[u8]) {
     let sums = bytes::checksum(s);
     add_sums(sums);
 }
 
 pub fn end() {
     io::write_all(STDOUT_FILENO, b"\n");
+}
+
+// Prints the line of a case that has a room: its number, the answer, the checksum of the bytes that the answer counts at the room's front, of
+// none where the call refuses, and that of the whole room.
+pub fn print_room(number: usize, answer: book::Answer, room: &[u8])
+    requires { ⌜ (answer .code ≡ 0 → answer .first ≤ length (now room)) ⌝ }
+{
+    let mut counted: usize = 0;
+    if answer.code == 0 {
+        counted = answer.first;
+    }
+    begin(number);
+    add_answer(answer);
+    add_checksum(&room[..counted]);
+    add_checksum(room);
+    end();
 }

@@ -10,21 +10,11 @@ const HEAD: usize = 16;
 
 const LONGEST_ROOM: usize = 1000;
 
-// Reads, and prints the case's number, the answer, the checksum of the name, of no bytes where there is none, and that of the whole room.
+// Reads into a room that is filled, and prints the case's line.
 fn print_read(number: usize, book: &[u8], position: usize, room: &mut [u8]) {
     bytes::fill(room);
     let answer = book::book_read(book, position, room);
-    let code = answer.code;
-    let first = answer.first;
-    lines::begin(number);
-    lines::add_answer(answer);
-    if code == 0 {
-        lines::add_checksum(&room[..first]);
-    } else {
-        lines::add_checksum(&room[..0]);
-    }
-    lines::add_checksum(room);
-    lines::end();
+    lines::print_room(number, answer, room);
 }
 
 // Runs the case at a place, where the book of the case before stands from `from` to `to`. A case that is cut off, or has too long a room,
