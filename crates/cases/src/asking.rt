@@ -1,10 +1,12 @@
 // The cases of the four questions. A case is a head, then a book and a question: of the head, 4 bytes have the book's length and 4 the
 // question's. Where the book's length is 0, the book is that of the case before.
-ghost use Prim.Native.Nat.{_<_, _≤_};
+ghost use Prim.Native.Nat.{_<_};
 ghost use lib.ListN.{length};
+ghost use Rattle.cases.specs.Places.{Placed};
 use crate::bytes;
 use crate::lines;
-use crate::walk::Place;
+use crate::places;
+use crate::places::Place;
 
 const HEAD: usize = 8;
 
@@ -22,16 +24,13 @@ fn print_asked(number: usize, book: &[u8], question: &[u8]) {
     lines::end();
 }
 
-// Runs the case at a place, where the book of the case before stands from `from` to `to`. A case that is cut off is the last.
-pub fn run_one(number: usize, file: &[u8], at: usize, from: usize, to: usize) -> Place
-    requires { ⌜ (at < length (now file)) × (from ≤ to) × (to ≤ length (now file)) ⌝ }
-    ensures { λ r. ⌜ (at < r .next) × (r .next ≤ length (now (file .entry))) × (r .start ≤ r .end) × (r .end ≤ length (now (file .entry))) ⌝ }
+// Runs the case behind another. A case that is cut off is the last.
+pub fn run_one(number: usize, file: &[u8], before: Place) -> Place
+    requires { ⌜ Placed (now file) before × (before .next < length (now file)) ⌝ }
+    ensures { λ r. ⌜ Placed (now (file .entry)) r × (before .next < r .next) ⌝ }
 {
-    let last = Place {
-        start: from,
-        end: to,
-        next: file.len(),
-    };
+    let at = before.next;
+    let last = places::without_book(before, file.len());
     if file.len() - at < HEAD {
         return last;
     }
@@ -46,18 +45,9 @@ pub fn run_one(number: usize, file: &[u8], at: usize, from: usize, to: usize) ->
         return last;
     }
     let next = start + asked;
-    if size == 0 {
-        print_asked(number, &file[from..to], &file[start..next]);
-        return Place {
-            start: from,
-            end: to,
-            next,
-        };
-    }
-    print_asked(number, &file[behind..start], &file[start..next]);
-    Place {
-        start: behind,
-        end: start,
-        next,
-    }
+    let place = places::with_book(before, behind, size, next);
+    let from = place.start;
+    let to = place.end;
+    print_asked(number, &file[from..to], &file[start..next]);
+    place
 }

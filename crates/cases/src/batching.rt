@@ -5,10 +5,12 @@ use book::Answer;
 use book::Row;
 ghost use Prim.Native.Nat.{_+_, _*_, _<_, _≤_};
 ghost use lib.ListN.{length};
+ghost use Rattle.cases.specs.Places.{Placed};
 use crate::bytes;
 use crate::bytes::Sums;
 use crate::lines;
-use crate::walk::Place;
+use crate::places;
+use crate::places::Place;
 
 const HEAD: usize = 16;
 
@@ -105,17 +107,13 @@ fn print_batch(number: usize, book: &[u8], questions: &[u8], rows: [Row; 65], n:
     lines::end();
 }
 
-// Runs the case at a place, where the book of the case before stands from `from` to `to`. A case that is cut off, or has too many rows or
-// places, is the last.
-pub fn run_one(number: usize, file: &[u8], at: usize, from: usize, to: usize) -> Place
-    requires { ⌜ (at < length (now file)) × (from ≤ to) × (to ≤ length (now file)) ⌝ }
-    ensures { λ r. ⌜ (at < r .next) × (r .next ≤ length (now (file .entry))) × (r .start ≤ r .end) × (r .end ≤ length (now (file .entry))) ⌝ }
+// Runs the case behind another. A case that is cut off, or has too many rows or places, is the last.
+pub fn run_one(number: usize, file: &[u8], before: Place) -> Place
+    requires { ⌜ Placed (now file) before × (before .next < length (now file)) ⌝ }
+    ensures { λ r. ⌜ Placed (now (file .entry)) r × (before .next < r .next) ⌝ }
 {
-    let last = Place {
-        start: from,
-        end: to,
-        next: file.len(),
-    };
+    let at = before.next;
+    let last = places::without_book(before, file.len());
     if file.len() - at < HEAD {
         return last;
     }
@@ -137,18 +135,9 @@ pub fn run_one(number: usize, file: &[u8], at: usize, from: usize, to: usize) ->
     let end = start + asked;
     let next = end + ROW * n;
     let rows = rows_from(file, end, n);
-    if size == 0 {
-        print_batch(number, &file[from..to], &file[start..end], rows, n, m);
-        return Place {
-            start: from,
-            end: to,
-            next,
-        };
-    }
-    print_batch(number, &file[behind..start], &file[start..end], rows, n, m);
-    Place {
-        start: behind,
-        end: start,
-        next,
-    }
+    let place = places::with_book(before, behind, size, next);
+    let from = place.start;
+    let to = place.end;
+    print_batch(number, &file[from..to], &file[start..end], rows, n, m);
+    place
 }

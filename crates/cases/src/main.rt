@@ -6,6 +6,7 @@ mod building;
 mod bytes;
 mod checking;
 mod lines;
+mod places;
 mod reading;
 mod walk;
 

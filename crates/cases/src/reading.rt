@@ -1,10 +1,12 @@
 // The cases of `book_read`. A case is a head and then a book: of the head, 4 bytes have the book's length, 8 the position and 4 the room's
 // length. Where the book's length is 0, the book is that of the case before.
-ghost use Prim.Native.Nat.{_<_, _≤_};
+ghost use Prim.Native.Nat.{_<_};
 ghost use lib.ListN.{length};
+ghost use Rattle.cases.specs.Places.{Placed};
 use crate::bytes;
 use crate::lines;
-use crate::walk::Place;
+use crate::places;
+use crate::places::Place;
 
 const HEAD: usize = 16;
 
@@ -17,17 +19,13 @@ fn print_read(number: usize, book: &[u8], position: usize, room: &mut [u8]) {
     lines::print_room(number, answer, room);
 }
 
-// Runs the case at a place, where the book of the case before stands from `from` to `to`. A case that is cut off, or has too long a room,
-// is the last.
-pub fn run_one(number: usize, file: &[u8], at: usize, from: usize, to: usize) -> Place
-    requires { ⌜ (at < length (now file)) × (from ≤ to) × (to ≤ length (now file)) ⌝ }
-    ensures { λ r. ⌜ (at < r .next) × (r .next ≤ length (now (file .entry))) × (r .start ≤ r .end) × (r .end ≤ length (now (file .entry))) ⌝ }
+// Runs the case behind another. A case that is cut off, or has too long a room, is the last.
+pub fn run_one(number: usize, file: &[u8], before: Place) -> Place
+    requires { ⌜ Placed (now file) before × (before .next < length (now file)) ⌝ }
+    ensures { λ r. ⌜ Placed (now (file .entry)) r × (before .next < r .next) ⌝ }
 {
-    let last = Place {
-        start: from,
-        end: to,
-        next: file.len(),
-    };
+    let at = before.next;
+    let last = places::without_book(before, file.len());
     if file.len() - at < HEAD {
         return last;
     }
@@ -42,24 +40,10 @@ pub fn run_one(number: usize, file: &[u8], at: usize, from: usize, to: usize) ->
         return last;
     }
     let next = behind + size;
+    let place = places::with_book(before, behind, size, next);
+    let from = place.start;
+    let to = place.end;
     let mut room = [0u8; LONGEST_ROOM];
-    if size == 0 {
-        print_read(number, &file[from..to], position, &mut room[0..room_size]);
-        return Place {
-            start: from,
-            end: to,
-            next,
-        };
-    }
-    print_read(
-        number,
-        &file[behind..next],
-        position,
-        &mut room[0..room_size],
-    );
-    Place {
-        start: behind,
-        end: next,
-        next,
-    }
+    print_read(number, &file[from..to], position, &mut room[0..room_size]);
+    place
 }

@@ -4,14 +4,15 @@
 use Prim.Native.Nat.{_-_, _≤_}
 use borrow.Author.Needs.{needs}
 use lib.ListN.{length}
+use Rattle.cases.specs.Places.{Placed}
 use Rattle.cases.proofs.walk.run_all.Statement.{statement}
 use Rattle.cases.proofs.walk.run_all.Tie as tie
 
 abbrev Inv-loop : tie.InvT-loop
-Inv-loop call file at₀ number₀ from₀ to₀ at number from to = (at ≤ length file) × (number ≤ at) × (from ≤ to) × (to ≤ length file)
+Inv-loop call file place₀ number₀ place number = Placed file place × (number ≤ place .next)
 
 abbrev μ-loop : tie.MeasureT-loop
-μ-loop call file at₀ number₀ from₀ to₀ at number from to = length file - at
+μ-loop call file place₀ number₀ place number = length file - place .next
 
 pub run-all-spec : {M : Type 1} → statement M
 run-all-spec =
