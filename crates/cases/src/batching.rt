@@ -6,6 +6,7 @@ use book::Row;
 ghost use Prim.Native.Nat.{_+_, _*_, _<_, _≤_};
 ghost use lib.ListN.{length};
 ghost use Rattle.cases.specs.Places.{Placed};
+ghost use Rattle.cases.specs.Sums.{Reduced};
 use crate::bytes;
 use crate::bytes::Sums;
 use crate::lines;
@@ -73,8 +74,8 @@ fn unset() -> [Answer; 65] {
 
 // A checksum with the three numbers of an answer more.
 fn with_answer(before: Sums, answer: Answer) -> Sums
-    requires { ⌜ (before .numbers < 65521) × (before .sums < 65521) ⌝ }
-    ensures { λ r. ⌜ (r .numbers < 65521) × (r .sums < 65521) ⌝ }
+    requires { ⌜ Reduced before ⌝ }
+    ensures { λ r. ⌜ Reduced r ⌝ }
 {
     let code = bytes::with(before, answer.code);
     let first = bytes::with(code, answer.first);

@@ -3,6 +3,7 @@
 ghost use Prim.Native.Nat.{_+_, _<_, _≤_};
 ghost use lib.ListN.{length};
 ghost use Rattle.io.specs.Counts.{Counts};
+ghost use Rattle.cases.specs.Sums.{Reduced};
 
 // Reads a file as far as there is space, and gives the number of bytes read. Of a file that cannot be opened, says why and reads none.
 pub fn load(path: &[u8], space: &mut [u8]) -> usize
@@ -66,7 +67,7 @@ pub struct Sums {
 
 // The checksum of no numbers.
 pub fn none() -> Sums
-    ensures { λ r. ⌜ (r .numbers < 65521) × (r .sums < 65521) ⌝ }
+    ensures { λ r. ⌜ Reduced r ⌝ }
 {
     Sums {
         numbers: 1,
@@ -76,8 +77,8 @@ pub fn none() -> Sums
 
 // A checksum with one number more.
 pub fn with(before: Sums, number: usize) -> Sums
-    requires { ⌜ (before .numbers < 65521) × (before .sums < 65521) ⌝ }
-    ensures { λ r. ⌜ (r .numbers < 65521) × (r .sums < 65521) ⌝ }
+    requires { ⌜ Reduced before ⌝ }
+    ensures { λ r. ⌜ Reduced r ⌝ }
 {
     let numbers = (before.numbers + number % 65521) % 65521;
     let sums = (before.sums + numbers) % 65521;
