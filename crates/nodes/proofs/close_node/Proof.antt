@@ -8,17 +8,11 @@ use borrow.Author.Needs.{needs}
 use Rattle.nodes.proofs.close_node.Statement.{statement}
 use Rattle.nodes.proofs.close_node.Tie as tie
 
-sub-wide : tie.Need-sub-wide
-sub-wide c = closing-some (c .before .before .before .before .before .before .before .before .before .before .before .pre .0) (c .before .before .before .before .before .before .before .before .before .before .before .pre .1 .0) (c .before .before .before .before .before .before .before .before .before .before .before .pre .1 .1)
-
 sub-put-back : tie.Need-sub-put-back
 sub-put-back c = omega (arith, closing-end (c .before .before .before .before .before .before .before .before .before .before .before .before .before .before .before .before .pre .0) (c .before .before .before .before .before .before .before .before .before .before .before .before .before .before .before .before .pre .1 .0) (c .before .before .before .before .before .before .before .before .before .before .before .before .before .before .before .before .pre .1 .1), c .before .before .before .before .before .before .before .wide16 .ensures .0)
 
 sub-put-back-2 : tie.Need-sub-put-back-2
 sub-put-back-2 c = omega (arith, closing-mark (c .before .before .before .before .before .before .before .before .before .before .before .before .before .before .before .before .pre .0) (c .before .before .before .before .before .before .before .before .before .before .before .before .before .before .before .before .pre .1 .0) (c .before .before .before .before .before .before .before .before .before .before .before .before .before .before .before .before .pre .1 .1), c .before .before .before .before .before .wide162 .ensures .0)
-
-sub-t18 : tie.Need-sub-t18
-sub-t18 c = closing-some (c .before .before .before .before .before .before .before .before .before .before .before .before .before .before .before .before .before .before .before .pre .0) (c .before .before .before .before .before .before .before .before .before .before .before .before .before .before .before .before .before .before .before .pre .1 .0) (c .before .before .before .before .before .before .before .before .before .before .before .before .before .before .before .before .before .before .before .pre .1 .1)
 
 returns : tie.Need-returns
 returns c =
@@ -40,7 +34,7 @@ close-node-spec =
     (λ c. search needs)
     (λ c. search needs)
     (λ c κs. search needs)
-    sub-wide
+    (λ c. search (needs, closing-some))
     (λ c. search needs)
     (λ c κs. search needs)
     (λ c κs. search needs)
@@ -49,7 +43,7 @@ close-node-spec =
     sub-put-back-2
     (λ c. search needs)
     (λ c κs. search needs)
-    sub-t18
+    (λ c. search (needs, closing-some))
     (λ c. search needs)
     (λ c. search needs)
     returns)

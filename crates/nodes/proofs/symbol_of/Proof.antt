@@ -8,9 +8,6 @@ use borrow.Author.Needs.{needs}
 use Rattle.nodes.proofs.symbol_of.Statement.{statement}
 use Rattle.nodes.proofs.symbol_of.Tie as tie
 
-returns-2 : tie.Need-returns-2
-returns-2 c = symbol-past (c .before .before .before .args .list .now) (c .before .before .before .args .at) (c .before .before .before .args .len) (c .before .before .before .args .p) (c .if2 .taken) (search needs)
-
 returns-3 : tie.Need-returns-3
 returns-3 c =
     ap (λ (n : ℕ). n + 1) (c .wide .ensures .0)
@@ -20,4 +17,4 @@ returns-3 c =
 pub symbol-of-spec : {M : Type 1} → statement M
 symbol-of-spec =
     tie.close
-    (tie.spec (λ c. search needs) returns-2 (λ c. search needs) (λ c. search needs) (λ c κs. search needs) (λ c. search needs) returns-3)
+    (tie.spec (λ c. search needs) (λ c. search (needs, symbol-past)) (λ c. search needs) (λ c. search needs) (λ c κs. search needs) (λ c. search needs) returns-3)

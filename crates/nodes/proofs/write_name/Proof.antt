@@ -3,7 +3,7 @@
 use Prim.Native.Nat.{ℕ, _≤_, _<_}
 use native.Mathlib.Omega.{arith}
 use borrow.Author.Needs.{needs}
-use mathlib.Core.Path.{_≡_, refl, subst}
+use mathlib.Core.Path.{_≡_, subst}
 use lib.ListN.{getD}
 use Rattle.nodes.specs.Writing.{Closing}
 use Rattle.nodes.proofs.write_name.Statement.{statement}
@@ -16,29 +16,11 @@ Inv-loop list at len j left depths ends marks first count places room₀ p₀ to
 abbrev μ-loop : tie.MeasureT-loop
 μ-loop list at len j left depths ends marks first count places room₀ p₀ top₀ room p top = top
 
-put-leaf-requires : tie.Need-put-leaf-requires Inv-loop μ-loop
-put-leaf-requires c κs = (c .before .before .before .before .before .before .pre .0, c .before .before .before .before .before .before .pre .1)
-
-loop-holds : tie.Need-loop-holds Inv-loop μ-loop
-loop-holds c = (refl, c .before .before .put-leaf .ensures)
-
-shared-slice-read-wide : tie.Need-shared-slice-read-wide Inv-loop μ-loop
-shared-slice-read-wide c = omega (arith, c .before .loop .inv .0, c .before .loop .inv .1 .slot, c .before .before .before .before .before .before .before .before .before .before .before .pre .0 .slots)
-
 close-node-requires : tie.Need-close-node-requires Inv-loop μ-loop
 close-node-requires c κs = (
   c .before .before .before .before .before .before .before .before .before .before .before .before .before .before .pre .0,
   (c .before .before .before .before .loop .inv .1, subst (λ (n : ℕ). c .before .before .before .before .before .before .before .before .before .before .before .before .before .before .args .left < getD (c .before .before .before .before .before .before .before .before .before .before .before .before .before .before .args .depths .now) n 0) (c .before .before .before .before .loop .inv .0) (omega (arith, c .before .before .wide .ensures .0))),
 )
-
-loop-less : tie.Need-loop-less Inv-loop μ-loop
-loop-less c = omega (arith, c .before .before .close-node .ensures .fewer, c .before .before .before .before .before .before .before .loop .inv .0)
-
-loop-again : tie.Need-loop-again Inv-loop μ-loop
-loop-again c = (refl, c .before .before .close-node .ensures .closing)
-
-same-length : tie.Need-same-length Inv-loop μ-loop
-same-length c = omega (arith, c .before .before .before .loop .inv .1 .whole, c .before .before .before .before .before .before .before .before .before .before .before .before .before .pre .1 .whole)
 
 returns : tie.Need-returns Inv-loop μ-loop
 returns c = record {
@@ -52,12 +34,12 @@ write-name-spec =
     (tie.spec
     Inv-loop
     μ-loop
-    put-leaf-requires
-    loop-holds
-    shared-slice-read-wide
+    (λ c κs. search needs)
+    (λ c. search needs)
+    (λ c. omega arith)
     (λ c κs. search needs)
     close-node-requires
-    loop-less
-    loop-again
-    same-length
+    (λ c. omega arith)
+    (λ c. search needs)
+    (λ c. omega arith)
     returns)

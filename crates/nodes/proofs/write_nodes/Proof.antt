@@ -7,7 +7,7 @@ use mathlib.Core.Path.{refl}
 use mathlib.Core.List.{List}
 use lib.ListN.{getD, set}
 use Rattle.nodes.specs.Writing.{NameAt, Asked, Shut, Rowing}
-use Rattle.nodes.proofs.Writing.{rowing-start, rowing-room, rowing-steps, rowing-back, rowing-name, rowing-ask, rowing-end, rowing-mark, rowing-left, rowing-slot, rowing-keep, rowing-push, rowing-all}
+use Rattle.nodes.proofs.Writing.{rowing-start, rowing-back, rowing-name, rowing-ask, rowing-end, rowing-mark, rowing-left, rowing-slot, rowing-keep, rowing-push, rowing-all}
 use Rattle.nodes.proofs.write_nodes.Statement.{statement}
 use Rattle.nodes.proofs.write_nodes.Tie as tie
 
@@ -91,29 +91,14 @@ module _ (c : tie.After-write-name Inv-loop μ-loop) where
   push : getD (depths (c .before)) top 0 < (left (c .before)) → Rowing (list (c .before)) (n (c .before)) (set (depths (c .before)) (top + 1) (left (c .before))) (set (ends (c .before)) (top + 1) end) (set (marks (c .before)) (top + 1) mark) (places (c .before)) new (top + 1) (c .write-name .result .count) (at (c .before)) (i (c .before))
   push = rowing-push (c .before .before .before .before .before .before .before .before .before .before .before .before .before .before .pre .0) (c .before .before .before .before .before .before .before .before .before .loop .inv) (omega arith) (c .before .before .before .before .before .before .before .before .before .loop .j - 1) (c .before .before .before .before .before .before .wide .result) (c .before .before .before .before .before .left-of .result) _ (omega arith) (c .before .before .before .before .before .before .wide .ensures .0) refl (c .before .before .before .before .before .left-of .ensures .0) (c .before .before .before .before .before .left-of .ensures .1) shut
 
-loop-holds : tie.Need-loop-holds Inv-loop μ-loop
-loop-holds c = rowing-start (c .before .before .before .before .pre .0) _ _ (c .before .before .before .before .pre .1)
-
-shared-slice-read-wide : tie.Need-shared-slice-read-wide Inv-loop μ-loop
-shared-slice-read-wide c = omega (arith, rowing-room (c .before .before .before .before .before .before .before .pre .0) (c .before .before .loop .inv) (omega arith))
-
 sub-at : tie.Need-sub-at Inv-loop μ-loop
 sub-at c = omega (arith, rowing-back (c .before .before .before .before .before .before .before .before .pre .0) (c .before .before .before .loop .inv) (omega arith) (c .before .before .before .loop .j - 1) _ 0 0 (omega arith) (c .wide .ensures .0))
 
 sub-at-2 : tie.Need-sub-at-2 Inv-loop μ-loop
 sub-at-2 c = omega (arith, rowing-back (c .before .before .before .before .before .before .before .before .pre .0) (c .before .before .before .loop .inv) (omega arith) (c .before .before .before .loop .j - 1) _ 0 0 (omega arith) (c .wide .ensures .0))
 
-left-of-requires : tie.Need-left-of-requires Inv-loop μ-loop
-left-of-requires c κs = omega (arith, rowing-steps (c .before .before .before .before .before .before .before .before .pre .0) (c .before .before .before .loop .inv) (omega arith))
-
 write-name-requires : tie.Need-write-name-requires Inv-loop μ-loop
 write-name-requires c κs = (named c, ask c)
-
-array-read-wide : tie.Need-array-read-wide Inv-loop μ-loop
-array-read-wide c = shut (c .before .before) .closing .slot
-
-add-top : tie.Need-add-top Inv-loop μ-loop
-add-top c = omega (arith, shut (c .before .before .before .before) .closing .slot)
 
 cast-depths : tie.Need-cast-depths Inv-loop μ-loop
 cast-depths c = omega (arith, left-few (c .before .before .before .before))
@@ -124,17 +109,11 @@ array-write-depths c = slot (c .before .before .before .before) (omega (arith, c
 cast-ends : tie.Need-cast-ends Inv-loop μ-loop
 cast-ends c = omega (arith, end-few (c .before .before .before .before .before))
 
-mul-ends : tie.Need-mul-ends Inv-loop μ-loop
-mul-ends c = omega (arith, shut (c .before .before .before .before .before) .closing .slot)
-
 array-write-ends : tie.Need-array-write-ends Inv-loop μ-loop
 array-write-ends c = slot (c .before .before .before .before .before) (omega (arith, c .before .before .wide2 .ensures .0))
 
 cast-marks : tie.Need-cast-marks Inv-loop μ-loop
 cast-marks c = omega (arith, mark-few (c .before .before .before .before .before .before))
-
-mul-marks : tie.Need-mul-marks Inv-loop μ-loop
-mul-marks c = omega (arith, shut (c .before .before .before .before .before .before) .closing .slot)
 
 array-write-marks : tie.Need-array-write-marks Inv-loop μ-loop
 array-write-marks c = slot (c .before .before .before .before .before .before) (omega (arith, c .before .before .before .wide2 .ensures .0))
@@ -145,9 +124,6 @@ loop-again c = push (c .before .before .before .before .before .before) (omega (
 loop-again-2 : tie.Need-loop-again-2 Inv-loop μ-loop
 loop-again-2 c = keep (c .before .before .before .before) (omega (arith, c .before .wide2 .ensures .0))
 
-same-length : tie.Need-same-length Inv-loop μ-loop
-same-length c = omega (arith, c .before .loop .inv .whole, c .before .before .before .before .before .before .pre .1)
-
 returns : tie.Need-returns Inv-loop μ-loop
 returns c = rowing-all (c .before .before .before .before .before .before .pre .0) (c .before .loop .inv) (omega arith)
 
@@ -157,31 +133,31 @@ write-nodes-spec =
     (tie.spec
     Inv-loop
     μ-loop
-    loop-holds
+    (λ c. search (needs, rowing-start))
     (λ c. omega arith)
-    shared-slice-read-wide
+    (λ c. omega arith)
     (λ c κs. search needs)
     sub-at
     sub-at-2
-    left-of-requires
+    (λ c κs. omega arith)
     (λ c. search needs)
     (λ c. search needs)
     (λ c. search needs)
     write-name-requires
-    array-read-wide
+    (λ c. omega arith)
     (λ c κs. search needs)
-    add-top
+    (λ c. omega arith)
     cast-depths
     array-write-depths
     cast-ends
-    mul-ends
+    (λ c. omega arith)
     array-write-ends
     cast-marks
-    mul-marks
+    (λ c. omega arith)
     array-write-marks
     (λ c. omega arith)
     loop-again
     (λ c. omega arith)
     loop-again-2
-    same-length
+    (λ c. omega arith)
     returns)
