@@ -1,6 +1,5 @@
 -- `build::put_number` meets its contract.
 -- Assumes nothing.
-use native.Mathlib.Omega.{arith}
 use Rattle.blocks.proofs.Walk.{number-not, number-more}
 use borrow.Author.Needs.{needs}
 use Rattle.blocks.proofs.put_number.Statement.{statement}
@@ -8,9 +7,6 @@ use Rattle.blocks.proofs.put_number.Tie as tie
 
 returns : tie.Need-returns
 returns c = number-not _ _ _ (c .if1 .taken)
-
-returns-2 : tie.Need-returns-2
-returns-2 c = number-more _ _ _ _ (omega arith) (c .before .before .put16 .ensures)
 
 pub put-number-spec : {M : Type 1} → statement M
 put-number-spec =
@@ -24,4 +20,4 @@ put-number-spec =
     (λ c. search needs)
     (λ c κs. search needs)
     (λ c. search needs)
-    returns-2)
+    (λ c. search (needs, number-more)))

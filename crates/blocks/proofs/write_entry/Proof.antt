@@ -1,5 +1,6 @@
 -- `build::write_entry` meets its contract. The loop's invariant is `Copying`: the two counts and i bytes of the rest are written. The measure is what is left.
 -- Assumes nothing.
+use borrow.Author.Needs.{needs}
 use Prim.Native.Nat.{_-_}
 use native.Mathlib.Omega.{arith}
 use lib.ListN.{length-set}
@@ -28,30 +29,6 @@ slice-write-part-2 c = simp length-set (omega (arith, c .pre .3))
 loop-holds : tie.Need-loop-holds Inv-loop μ-loop
 loop-holds c = copying-start _ _ _ _ (c .args .part .now) (c .pre .3)
 
-add-part : tie.Need-add-part Inv-loop μ-loop
-add-part c = omega (arith, c .before .before .pre .2)
-
-shared-slice-read-part : tie.Need-shared-slice-read-part Inv-loop μ-loop
-shared-slice-read-part c = omega (arith, c .before .before .before .pre .2)
-
-add-part-2 : tie.Need-add-part-2 Inv-loop μ-loop
-add-part-2 c = omega (arith, c .before .before .before .pre .1)
-
-slice-write-part-3 : tie.Need-slice-write-part-3 Inv-loop μ-loop
-slice-write-part-3 c = omega (arith, c .before .before .loop .inv .kept)
-
-add-i : tie.Need-add-i Inv-loop μ-loop
-add-i c = omega (arith, c .before .before .before .pre .1)
-
-loop-again : tie.Need-loop-again Inv-loop μ-loop
-loop-again c = copying-more (c .before .before .loop .inv) (simp length-set (c .before .before .before .pre .3)) (c .before .before .before .pre .2) (omega arith)
-
-same-length : tie.Need-same-length Inv-loop μ-loop
-same-length c = omega (arith, c .before .loop .inv .kept, c .before .before .pre .3)
-
-returns : tie.Need-returns Inv-loop μ-loop
-returns c = copying-all (c .before .loop .inv) (simp length-set (c .before .before .pre .3)) (c .before .before .pre .2) (omega arith)
-
 pub write-entry-spec : {M : Type 1} → statement M
 write-entry-spec =
     tie.close
@@ -63,12 +40,12 @@ write-entry-spec =
     cast-part-2
     slice-write-part-2
     loop-holds
-    add-part
-    shared-slice-read-part
-    add-part-2
-    slice-write-part-3
-    add-i
     (λ c. omega arith)
-    loop-again
-    same-length
-    returns)
+    (λ c. omega arith)
+    (λ c. omega arith)
+    (λ c. omega arith)
+    (λ c. omega arith)
+    (λ c. omega arith)
+    (λ c. search (needs, copying-more))
+    (λ c. omega arith)
+    (λ c. search (needs, copying-all)))
