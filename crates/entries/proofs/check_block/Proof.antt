@@ -1,8 +1,6 @@
 -- `entries::check_block` meets its contract: `Held` carries the loop.
 -- Assumes nothing.
-use Prim.Native.Nat.{ℕ}
 use native.Mathlib.Omega.{arith}
-use lib.ListN.{length-replicate}
 use borrow.Author.Needs.{needs}
 use Rattle.entries.proofs.Reading.{Held, held-start, held-bad, held-entry, held-more, held-apart, held-done, says-true, says-false}
 use Rattle.entries.proofs.check_block.Statement.{statement}
@@ -14,17 +12,8 @@ Inv-loop book start end m cur₀ name₀ len₀ left₀ cur name len left = Held
 abbrev μ-loop : tie.MeasureT-loop
 μ-loop book start end m cur₀ name₀ len₀ left₀ cur name len left = left
 
-loop-holds : tie.Need-loop-holds Inv-loop μ-loop
-loop-holds c = held-start _ _ _ _ _ (c .before .pre) (length-replicate {A = ℕ} 200 0)
-
 returns : tie.Need-returns Inv-loop μ-loop
 returns c = held-bad (c .before .before .before .before .before .loop .inv) (omega arith) (says-false _ _ _ (c .before .before .before .before .before .loop .name) (c .before .before .before .before .before .loop .len) (c .before .is-entry .result) (c .if1 .taken) (c .before .is-entry .ensures))
-
-next-requires : tie.Need-next-requires Inv-loop μ-loop
-next-requires c κs = (held-entry (c .before .before .before .before .before .loop .inv) (says-true _ _ _ (c .before .before .before .before .before .loop .name) (c .before .before .before .before .before .loop .len) (c .before .is-entry .result) (c .if1 .left) (c .before .is-entry .ensures)), c .before .before .before .before .before .loop .inv .room)
-
-loop-again : tie.Need-loop-again Inv-loop μ-loop
-loop-again c = held-more (c .before .before .before .before .before .before .before .before .loop .inv) _ _ _ (omega arith) (says-true _ _ _ (c .before .before .before .before .before .before .before .before .loop .name) (c .before .before .before .before .before .before .before .before .loop .len) (c .before .before .before .before .is-entry .result) (c .before .before .before .if1 .left) (c .before .before .before .before .is-entry .ensures)) (c .before .before .next .ensures)
 
 returns-2 : tie.Need-returns-2 Inv-loop μ-loop
 returns-2 c = held-apart (c .before .before .before .loop .inv) (omega arith) (c .if2 .taken)
@@ -38,15 +27,15 @@ check-block-spec =
     (tie.spec
     Inv-loop
     μ-loop
-    loop-holds
+    (λ c. search (needs, held-start))
     (λ c. search needs)
     (λ c. search needs)
     (λ c. search needs)
     (λ c κs. search needs)
     returns
-    next-requires
+    (λ c κs. search (needs, held-entry, says-true))
     (λ c. search needs)
     (λ c. search needs)
-    loop-again
+    (λ c. search (needs, held-more, says-true))
     returns-2
     returns-3)

@@ -6,7 +6,7 @@ use mathlib.Core.Path.{refl, sym, _∙_}
 use lib.Dec.{eqb}
 use lib.ListN.{length-replicate}
 use borrow.Author.Needs.{needs}
-use Rattle.entries.proofs.Walking.{Walking, walking-apart, walking-bad, walking-end, walking-more, walking-past, walking-place, walking-room, walking-short, walking-some, walking-start}
+use Rattle.entries.proofs.Walking.{Walking, walking-apart, walking-bad, walking-end, walking-more, walking-past, walking-place, walking-room, walking-short, walking-start}
 use Rattle.entries.proofs.check_entries.Statement.{statement}
 use Rattle.entries.proofs.check_entries.Tie as tie
 
@@ -19,41 +19,20 @@ abbrev μ-loop : tie.MeasureT-loop
 loop-holds : tie.Need-loop-holds Inv-loop μ-loop
 loop-holds c = walking-start _ _ _ _ _ _ _ (length-replicate {A = ℕ} 200 0) (c .before .before .pre .0) (λ i. omega (arith, c .before .shared-slice-known .given i)) (c .before .before .pre .1) (c .before .before .pre .2)
 
-sub-if1 : tie.Need-sub-if1 Inv-loop μ-loop
-sub-if1 c = c .before .loop .inv .table-in
-
 returns : tie.Need-returns Inv-loop μ-loop
 returns c = walking-room (c .before .before .loop .inv) (omega arith) (omega arith)
-
-number-at-requires : tie.Need-number-at-requires Inv-loop μ-loop
-number-at-requires c κs = omega (arith, c .before .before .loop .inv .ask, c .before .before .loop .inv .table-in)
 
 returns-2 : tie.Need-returns-2 Inv-loop μ-loop
 returns-2 c = walking-place (c .before .before .before .before .loop .inv) (omega arith) (c .before .number-at .result) (c .before .number-at .ensures .0) (c .if2 .taken)
 
-block-end-requires : tie.Need-block-end-requires Inv-loop μ-loop
-block-end-requires c κs = omega (arith, c .before .before .before .before .loop .inv .ask, c .before .before .before .before .loop .inv .table-in)
-
 returns-3 : tie.Need-returns-3 Inv-loop μ-loop
 returns-3 c = walking-past (c .before .before .before .before .before .before .loop .inv) (omega arith) (c .before .block-end .result) (c .before .block-end .ensures) (omega arith)
-
-next-block-requires : tie.Need-next-block-requires Inv-loop μ-loop
-next-block-requires c κs = (omega (arith, c .before .before .before .before .before .before .before .before .before .loop .inv .ask, c .before .before .before .before .before .before .before .before .before .loop .inv .table-in), walking-some (c .before .before .before .before .before .before .before .before .before .loop .inv) (c .before .before .lesser .result) (c .before .before .lesser .ensures) (omega arith) .0)
 
 returns-4 : tie.Need-returns-4 Inv-loop μ-loop
 returns-4 c = walking-bad (c .before .before .before .before .before .before .before .before .before .before .before .before .loop .inv) (c .before .before .before .before .before .before .before .block-end .ensures) (c .before .before .before .before .before .lesser .ensures) (omega arith) (c .before .before .next-block .result .name) (c .before .before .next-block .result .len) (c .before .before .next-block .result .shares) (c .before .before .next-block .result .ok) (c .if4 .taken) (c .before .before .next-block .ensures .2)
 
 cast-steps : tie.Need-cast-steps Inv-loop μ-loop
 cast-steps c = let h : c .before .before .before .next-block .result .shares < 256 = walking-short (c .before .before .before .before .before .before .before .before .before .before .before .before .before .loop .inv) (c .before .before .before .before .before .before .before .before .block-end .ensures) (c .before .before .before .before .before .before .lesser .ensures) (omega arith) (c .before .before .before .next-block .result .name) (c .before .before .before .next-block .result .len) (c .before .before .before .next-block .result .shares) (c .before .before .before .next-block .result .ok) (c .before .if4 .left) (c .before .before .before .next-block .ensures .2) in search needs
-
-add-t : tie.Need-add-t Inv-loop μ-loop
-add-t c = omega (arith, c .before .before .before .before .before .before .before .before .before .before .before .before .before .before .loop .inv .ask, c .before .before .before .before .before .before .before .before .before .before .before .before .before .before .loop .inv .table-in)
-
-add-i : tie.Need-add-i Inv-loop μ-loop
-add-i c = omega (arith, c .before .before .before .before .before .before .before .before .before .before .before .before .before .before .loop .inv .ask, walking-some (c .before .before .before .before .before .before .before .before .before .before .before .before .before .before .loop .inv) (c .before .before .before .before .before .before .before .lesser .result) (c .before .before .before .before .before .before .before .lesser .ensures) (omega arith) .1)
-
-loop-less : tie.Need-loop-less Inv-loop μ-loop
-loop-less c = omega (arith, walking-some (c .before .before .before .before .before .before .before .before .before .before .before .before .before .before .loop .inv) (c .before .before .before .before .before .before .before .lesser .result) (c .before .before .before .before .before .before .before .lesser .ensures) (omega arith) .0)
 
 loop-again : tie.Need-loop-again Inv-loop μ-loop
 loop-again c = walking-more (c .before .before .before .before .before .before .before .before .before .before .before .before .before .before .loop .inv) (c .before .before .before .before .before .before .before .before .before .block-end .ensures) (c .before .before .before .before .before .before .before .lesser .ensures) (omega arith) (c .before .before .before .before .next-block .result .name) (c .before .before .before .before .next-block .result .len) (c .before .before .before .before .next-block .result .shares) (c .before .before .before .before .next-block .result .ok) (c .before .before .if4 .left) (c .before .before .before .before .next-block .ensures .0) (c .before .before .before .before .next-block .ensures .1) (c .before .before .before .before .next-block .ensures .2) (omega (arith, c .before .before .before .before .before .before .before .before .before .before .before .before .before .before .loop .inv .table-in)) (sym (c .before .before .before .before .before .before .before .before .before .before .before .number-at .ensures .0) ∙ c .before .before .before .before .before .before .before .before .before .before .if2 .left) (omega arith)
@@ -71,14 +50,14 @@ check-entries-spec =
     Inv-loop
     μ-loop
     loop-holds
-    sub-if1
+    (λ c. omega arith)
     (λ c. search needs)
     returns
-    number-at-requires
+    (λ c κs. omega arith)
     (λ c. search needs)
     returns-2
     (λ c. search needs)
-    block-end-requires
+    (λ c κs. omega arith)
     (λ c. search needs)
     returns-3
     (λ c. search needs)
@@ -86,14 +65,14 @@ check-entries-spec =
     (λ c. search needs)
     (λ c. search needs)
     (λ c. search needs)
-    next-block-requires
+    (λ c κs. omega arith)
     (λ c. search needs)
     returns-4
     cast-steps
     (λ c. search needs)
-    add-t
-    add-i
-    loop-less
+    (λ c. omega arith)
+    (λ c. omega arith)
+    (λ c. omega arith)
     loop-again
     (λ c. search needs)
     returns-5

@@ -39,7 +39,7 @@ module _ (c : tie.After-check-block) where
   ok = c .check-block .result .ok
 
   fits : not ok ≡ false → start + 2 + getD book (start + 1) 0 ≤ end
-  fits h = next-fits book start end m prev name len ok h (c .check-block .ensures .2) (c .before .before .before .pre .1)
+  fits h = search (needs, next-fits)
 
   bad : not ok ≡ true → (len ≤ 200) × (length name ≡ 200) × NextSays book start end m prev false name len 0
   bad h = (c .check-block .ensures .0, c .check-block .ensures .1, next-no book start end m prev name len ok h (c .check-block .ensures .2))
@@ -65,9 +65,6 @@ part-shared-symbols-end c = omega (arith, fits (c .before .before .before .befor
 part-is-above-end : tie.Need-part-is-above-end
 part-is-above-end c = omega (arith, fits (c .before .before .before .before .before .before .before) (c .before .before .before .before .if1 .left))
 
-returns-2 : tie.Need-returns-2
-returns-2 c = (c .before .before .before .before .before .before .before .before .before .check-block .ensures .0, c .before .before .before .before .before .before .before .before .before .check-block .ensures .1, next-judged (book (c .before .before .before .before .before .before .before .before .before)) (start (c .before .before .before .before .before .before .before .before .before)) (end (c .before .before .before .before .before .before .before .before .before)) (m (c .before .before .before .before .before .before .before .before .before)) (prev (c .before .before .before .before .before .before .before .before .before)) (name (c .before .before .before .before .before .before .before .before .before)) (len (c .before .before .before .before .before .before .before .before .before)) (ok (c .before .before .before .before .before .before .before .before .before)) (c .is-above .result) (c .before .before .before .before .wide .result) (c .before .before .shared-symbols .result) (c .before .before .before .before .before .before .if1 .left) (c .before .before .before .before .before .before .before .before .before .check-block .ensures .2) (c .before .before .before .before .wide .ensures .0) (c .is-above .ensures) (c .before .before .shared-symbols .ensures))
-
 pub next-block-spec : {M : Type 1} → statement M
 next-block-spec =
     tie.close
@@ -87,4 +84,4 @@ next-block-spec =
     (λ c. search needs)
     part-is-above-end
     (λ c κs. search needs)
-    returns-2)
+    (λ c. search (needs, next-judged)))
