@@ -1,6 +1,6 @@
 -- Laws of the walk over blocks, which the writer of the entries and that of the block table share.
 --     Blocked: blocked-start, blocked-ask, blocked-more, blocked-end     the blocks before lo are done
---     Entered: entered-start, entered-fits, entered-more, entered-all    their entries are written
+--     Entered: entered-start, entered-part, entered-more, entered-all    their entries are written
 --     Tabled: tabled-start, tabled-few, tabled-more, tabled-all          where they begin is noted
 --     number-not, number-more                                            one number more
 -- Assumes nothing.
@@ -110,9 +110,6 @@ module _ {s : Bytes} {n : ℕ} {steps : List ℕ} {k : ℕ} (a : EntriesAsk s n 
     pub blocked-small : size ≤ 404000
     blocked-small = omega (arith, b .small, b .high, a .ready .few)
 
-    pub blocked-few : lo < n → lo < 2000
-    blocked-few h = omega (arith, a .ready .few)
-
     module _ (h : lo < n) (hi : ℕ) (e : hi ≡ min (lo + k) n) where
       pub blocked-ask : BlockAsk s steps lo at hi
       blocked-ask = record {
@@ -123,9 +120,6 @@ module _ {s : Bytes} {n : ℕ} {steps : List ℕ} {k : ℕ} (a : EntriesAsk s n 
         within = omega arith;
         here = b .here;
       }
-
-      pub blocked-further : lo < hi
-      blocked-further = omega (arith, a .low)
 
       step : blocks k (names s) ≡ (b .done ++ (block s lo hi ∷ [])) ++ blocks k (drop hi (names s))
       step =
@@ -165,12 +159,13 @@ module _ {s : Bytes} {n : ℕ} {steps : List ℕ} {k : ℕ} (a : EntriesAsk s n 
 pub record Entered (s : Bytes) (n k : ℕ) (room₀ room : Bytes) (lo at size : ℕ) : Type 0 where
   pub walk : Blocked s n k lo at size
   pub kept : length room ≡ length room₀
+  pub within : size ≤ length room₀
   pub written : room ≡ over (joined (walk .done)) room₀
 
 module _ {s : Bytes} {n : ℕ} {steps : List ℕ} {k : ℕ} (a : EntriesAsk s n steps k) (room₀ : Bytes) (whole : length room₀ ≡ length (entryPart k (names s))) where
   pub entered-start : Entered s n k room₀ room₀ 0 0 0
   unfolding joined blocked-start
-  entered-start = record { walk = blocked-start a; kept = refl; written = refl }
+  entered-start = record { walk = blocked-start a; kept = refl; within = omega arith; written = refl }
 
   module _ {room : Bytes} {lo at size : ℕ} (b : Entered s n k room₀ room lo at size) where
     pub entered-all : n ≤ lo → room ≡ entryPart k (names s)
@@ -180,8 +175,11 @@ module _ {s : Bytes} {n : ℕ} {steps : List ℕ} {k : ℕ} (a : EntriesAsk s n 
         b .written ∙ ap (λ (x : Bytes). over x room₀) e ∙ over-all (joined (blocks k (names s))) room₀ (sym whole)
 
     module _ (h : lo < n) (hi : ℕ) (e : hi ≡ min (lo + k) n) where
-      pub entered-fits : size + length (block s lo hi) ≤ length room
+      entered-fits : size + length (block s lo hi) ≤ length room
       entered-fits = omega (arith, blocked-within a (b .walk) h hi e, b .walk .counted, b .kept, whole)
+
+      pub entered-part : length (block s lo hi) ≤ length (take (length room - size) (drop size room))
+      entered-part = simp (length-take, length-drop) (omega (arith, entered-fits))
 
       pub entered-more : (r next : ℕ) (ys : Bytes) → BlockPut s lo hi (take (length room - size) (drop size room)) ys r next
           → Entered s n k room₀ (take size room ++ (ys ++ drop (length room - size) (drop size room))) hi next (size + r)
@@ -191,10 +189,12 @@ module _ {s : Bytes} {n : ℕ} {steps : List ℕ} {k : ℕ} (a : EntriesAsk s n 
           let long : length part ≡ length room - size = simp (length-take, length-drop) (omega (arith, entered-fits)) in
           let ys-long : length ys ≡ length room - size = ap length (p .put) ∙ over-length (block s lo hi) part (omega (arith, entered-fits)) ∙ long in
           let now-is : take size room ++ (ys ++ drop (length room - size) (drop size room)) ≡ over (joined (b .walk .done) ++ block s lo hi) room₀ =
-          lent-front (joined (b .walk .done)) (block s lo hi) room₀ room ys size (length room - size) (b .written) (sym (b .walk .counted)) (omega (arith, entered-fits, b .kept)) (p .put) (omega (arith, entered-fits)) in
+          lent-front (joined (b .walk .done)) (block s lo hi) room₀ room ys size (length room - size)
+          (b .written) (sym (b .walk .counted)) (omega (arith, entered-fits, b .kept)) (p .put) (omega (arith, entered-fits)) in
           record {
             walk = blocked-more a (b .walk) h hi e r next (p .sized);
-            kept = ap length now-is ∙ over-length (joined (b .walk .done) ++ block s lo hi) room₀ (omega (arith, length-append (joined (b .walk .done)) (block s lo hi), entered-fits, b .walk .counted, b .kept));
+            kept = ap length now-is ∙ over-length (joined (b .walk .done) ++ block s lo hi) room₀ (simp length-append (omega (arith, entered-fits, b .walk .counted, b .kept)));
+            within = omega (arith, entered-fits, p .sized .is, b .kept);
             written = now-is ∙ ap (λ (x : Bytes). over x room₀) (sym (more a (b .walk) h hi e));
           }
 
@@ -238,7 +238,8 @@ module _ {s : Bytes} {n : ℕ} {steps : List ℕ} {k : ℕ} (a : EntriesAsk s n 
     unfolding entryPart blockPart
     tabled-all h =
         let e : b .walk .done ≡ blocks k (names s) = sym (blocked-end a (b .walk) h) in
-        let two : length (numbers (offsets 0 (blocks k (names s)))) ≡ 2 * count = numbers-length (offsets 0 (blocks k (names s))) ∙ omega (arith, offsets-length 0 (blocks k (names s)), ap length e, b .number) in
+        let two : length (numbers (offsets 0 (blocks k (names s)))) ≡ 2 * count =
+        numbers-length (offsets 0 (blocks k (names s))) ∙ omega (arith, offsets-length 0 (blocks k (names s)), ap length e, b .number) in
         record {
           size-is = b .walk .counted ∙ ap (λ (x : List Bytes). length (joined x)) e;
           small = blocked-small a (b .walk);

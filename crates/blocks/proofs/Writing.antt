@@ -2,8 +2,8 @@
 --     stored-same, stored-other     the count that a name stores
 --     Copying: copying-start, copying-more, copying-all     the bytes of one entry
 --     entry-here                    an entry, by bytes of the list
---     Sizing: sizing-start, sizing-here, sizing-more, sizing-all     a block, name by name
---     Filling: filling-start, filling-fits, filling-more, filling-all     the same, written
+--     Sizing: sizing-start, sizing-record .. sizing-fits, sizing-count, sizing-more, sizing-all     a block, name by name
+--     Filling: filling-start, filling-fits, filling-count .. filling-part (what an entry asks), filling-more, filling-all     the same, written
 -- Assumes nothing.
 use Prim.Native.Nat.{ℕ, zero, suc, pred, _+_, _-_, _≤_, _<_, zero-le, _*_}
 use native.Mathlib.Nat.{lt-irrefl}
@@ -22,7 +22,7 @@ use Rattle.format.specs.Entries.{entry, front}
 use Rattle.answers.specs.Calls.{over}
 use Rattle.numbers.proofs.Parts.{lent, over-all, over-length, part-length}
 use Rattle.records.specs.Lists.{names, startOf}
-use Rattle.records.proofs.Starts.{ready-size, start-byte, start-fits, start-name, start-next}
+use Rattle.records.proofs.Starts.{ready-size, start-byte, start-fits, start-name, start-next, start-within}
 use Rattle.blocks.specs.Writing.{BlockAsk, BlockPut, BlockSize, before, block, storedCount}
 
 -- ---- the count that a name stores
@@ -30,8 +30,8 @@ use Rattle.blocks.specs.Writing.{BlockAsk, BlockPut, BlockSize, before, 
 pub stored-same : (lo i : ℕ) (steps : List ℕ) → i ≡ lo → 0 ≡ storedCount lo i steps
 stored-same lo i steps e = rw (eq-eqb i lo e) refl
 
-pub stored-other : (lo i : ℕ) (steps : List ℕ) → (i ≡ lo → ⊥) → getD steps i 0 ≡ storedCount lo i steps
-stored-other lo i steps n = rw (ne-eqb i lo n) refl
+pub stored-other : (lo i c : ℕ) (steps : List ℕ) → (i ≡ lo → ⊥) → c ≡ getD steps i 0 → c ≡ storedCount lo i steps
+stored-other lo i c steps n e = rw (ne-eqb i lo n) e
 
 -- ---- one entry
 
@@ -121,7 +121,8 @@ module _ (s : Bytes) (lo : ℕ) where
   pub block-more : (i : ℕ) → lo ≤ i → i < length (names s) → block s lo (suc i) ≡ block s lo i ++ entry (before lo i (names s)) (getD (names s) i [])
   block-more i a b =
       ap (front []) (slice-more (names s) lo i a b) ∙ front-append [] (slice lo i (names s)) (getD (names s) i [] ∷ [])
-      ∙ ap (λ (r : Bytes). block s lo i ++ r) (ap (λ (p : Bytes). front p (getD (names s) i [] ∷ [])) (last-slice [] (names s) lo i a (omega arith)) ∙ front-one (before lo i (names s)) (getD (names s) i []))
+      ∙ ap (λ (p : Bytes). block s lo i ++ front p (getD (names s) i [] ∷ [])) (last-slice [] (names s) lo i a (omega arith))
+      ∙ ap (λ (r : Bytes). block s lo i ++ r) (front-one (before lo i (names s)) (getD (names s) i []))
 
   -- a block only grows
   pub block-grows : (i hi : ℕ) → lo ≤ i → i ≤ hi → hi ≤ length (names s) → length (block s lo i) ≤ length (block s lo hi)
@@ -145,12 +146,13 @@ pub record Sizing (s : Bytes) (lo hi i next size : ℕ) : Type 0 where
   pub low : lo ≤ i
   pub high : i ≤ hi
   pub here : next ≡ startOf s i
+  pub within : next ≤ length s
   pub is : size ≡ length (block s lo i)
   pub small : size + 202 * lo ≤ 202 * i
 
 module _ {s : Bytes} {steps : List ℕ} {lo at hi : ℕ} (a : BlockAsk s steps lo at hi) where
   pub sizing-start : Sizing s lo hi lo at 0
-  sizing-start = record { low = omega arith; high = a .order; here = a .here; is = sym (ap length (block-none s lo)); small = omega arith }
+  sizing-start = record { low = omega arith; high = a .order; here = a .here; within = omega (arith, a .here, start-within (a .ready) lo); is = sym (ap length (block-none s lo)); small = omega arith }
 
   module _ {i next size : ℕ} (z : Sizing s lo hi i next size) where
     pub sizing-all : hi ≤ i → BlockSize s lo hi size next
@@ -158,18 +160,12 @@ module _ {s : Bytes} {steps : List ℕ} {lo at hi : ℕ} (a : BlockAsk s steps l
         let e : i ≡ hi = omega (arith, z .high) in
         record { is = z .is ∙ ap (λ (k : ℕ). length (block s lo k)) e; small = omega (arith, z .small); here = z .here ∙ ap (startOf s) e }
 
-    pub sizing-few : size ≤ 404000
-    sizing-few = omega (arith, z .small, z .high, a .within, a .ready .few)
-
     module _ (h : i < hi) where
       in-list : i < a .n
       in-list = omega (arith, a .within)
 
       in-names : i < length (names s)
       in-names = omega (arith, a .within, a .ready .total)
-
-      pub sizing-steps : i < length steps
-      sizing-steps = omega (arith, a .within, a .ready .total, a .ready .noted .steps-room)
 
       pub sizing-record : next < length s
       sizing-record = omega (arith, z .here, start-fits (a .ready) i in-list)
@@ -224,6 +220,7 @@ module _ {s : Bytes} {steps : List ℕ} {lo at hi : ℕ} (a : BlockAsk s steps l
             low = omega (arith, z .low);
             high = omega arith;
             here = omega (arith, z .here, len-is, start-next (a .ready) i in-list, ap (startOf s) (add-one i));
+            within = omega (arith, sizing-fits);
             is =
                 sym (ap length grown ∙ length-append (block s lo i) (c ∷ (len - c) ∷ take (len - c) (drop (next + 1 + c) s))
                 ∙ omega (arith, z .is, sizing-count, part-length s (next + 1 + c) (len - c) (omega (arith, sizing-fits, sizing-count))));
@@ -259,6 +256,18 @@ module _ {s : Bytes} {steps : List ℕ} {lo at hi : ℕ} (a : BlockAsk s steps l
             sizing-count a (z .sizing) h len e c f,
             block-grows s lo (i + 1) hi (omega (arith, z .sizing .low)) (omega arith) (omega (arith, a .within, a .ready .total)),
           )
+
+      pub filling-count : c < 256
+      filling-count = omega (arith, sizing-low a (z .sizing) h len e, sizing-count a (z .sizing) h len e c f)
+
+      pub filling-rest : len - c < 256
+      filling-rest = omega (arith, sizing-low a (z .sizing) h len e)
+
+      pub filling-source : next + 1 + c + (len - c) ≤ length s
+      filling-source = omega (arith, sizing-fits a (z .sizing) h len e, sizing-count a (z .sizing) h len e c f)
+
+      pub filling-part : length (take (size + 2 + (len - c) - size) (drop size room)) ≡ len - c + 2
+      filling-part = simp (length-take, length-drop) (omega (arith, filling-fits))
 
       pub filling-more : (ys : Bytes) → ys ≡ c ∷ (len - c) ∷ take (len - c) (drop (next + 1 + c) s)
           → Filling s lo hi room₀ (take size room ++ (ys ++ drop (size + 2 + (len - c) - size) (drop size room))) (i + 1) (next + (1 + len)) (size + 2 + (len - c))

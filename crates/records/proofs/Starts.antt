@@ -1,5 +1,6 @@
 -- Where the records of a judged list begin, and what stands there.
 --     start-none, start-next, start-all    record by record
+--     start-within                         no record begins behind the list
 --     start-fits, start-name               the name behind the length byte
 --     start-byte                           the length byte
 --     ready-rises, ready-word, ready-size  the names' words
@@ -55,6 +56,16 @@ module _ {s : Bytes} {n : ℕ} {lens steps : List ℕ} (a : Ready s n lens steps
   pub start-all : startOf s n ≡ length s
   start-all = ap (λ (xs : List Bytes). length (encode xs)) (take-all n (names s) (omega (arith, a .total))) ∙ ap length (a .bytes)
 
+  pub start-within : (i : ℕ) → startOf s i ≤ length s
+  start-within i =
+      omega (
+        arith,
+        ap length (sym (a .bytes)),
+        ap (λ (xs : List Bytes). length (encode xs)) (sym (take-append-drop i (names s))),
+        ap length (encode-append (take i (names s)) (drop i (names s))),
+        length-append (encode (take i (names s))) (encode (drop i (names s))),
+      )
+
   module _ (i : ℕ) (h : i < n) where
     x : Bytes
     x = getD (names s) i []
@@ -76,15 +87,7 @@ module _ {s : Bytes} {n : ℕ} {lens steps : List ℕ} (a : Ready s n lens steps
         ∙ ap encode (drop-cons (names s) i [] inside) ∙ encode-cons (getD (names s) i []) (drop (suc i) (names s))
 
     pub start-fits : startOf s i + 1 + length (getD (names s) i []) ≤ length s
-    start-fits =
-        omega (
-          arith,
-          ap length (sym (a .bytes)),
-          ap (λ (xs : List Bytes). length (encode xs)) (sym (take-append-drop (suc i) (names s))),
-          ap length (encode-append (take (suc i) (names s)) (drop (suc i) (names s))),
-          length-append (encode (take (suc i) (names s))) (encode (drop (suc i) (names s))),
-          start-next,
-        )
+    start-fits = omega (arith, start-within (suc i), start-next)
 
     pub start-name : take (length (getD (names s) i [])) (drop (startOf s i + 1) s) ≡ getD (names s) i []
     start-name =

@@ -1,9 +1,9 @@
 -- `build::block_size` meets its contract. The loop's invariant is `Sizing`: the names before i are counted. The measure is what is left of the block.
 -- Assumes nothing.
-use Prim.Native.Nat.{_-_}
+use Prim.Native.Nat.{_-_, _≤_}
 use native.Mathlib.Omega.{arith}
 use borrow.Author.Needs.{needs}
-use Rattle.blocks.proofs.Writing.{Sizing, sizing-start, sizing-record, sizing-count, sizing-fits, sizing-more, sizing-all}
+use Rattle.blocks.proofs.Writing.{Sizing, sizing-start, sizing-record, sizing-count, sizing-more, sizing-all}
 use Rattle.blocks.proofs.block_size.Statement.{statement}
 use Rattle.blocks.proofs.block_size.Tie as tie
 
@@ -13,14 +13,10 @@ Inv-loop list steps lo at hi size₀ next₀ i₀ size next i = Sizing list lo h
 abbrev μ-loop : tie.MeasureT-loop
 μ-loop list steps lo at hi size₀ next₀ i₀ size next i = hi - i
 
-add-size : tie.Need-add-size Inv-loop μ-loop
-add-size c = omega (arith, c .wide .ensures .1)
-
 sub-size : tie.Need-sub-size Inv-loop μ-loop
-sub-size c = omega (arith, sizing-count (c .before .before .before .before .before .before .before .pre) (c .before .before .before .before .loop .inv) (omega arith) _ (c .before .wide .ensures .0) _ (c .count-of .ensures))
-
-add-next-2 : tie.Need-add-next-2 Inv-loop μ-loop
-add-next-2 c = omega (arith, sizing-fits (c .before .before .before .before .before .before .before .pre) (c .before .before .before .before .loop .inv) (omega arith) _ (c .before .wide .ensures .0))
+sub-size c =
+    let shorter : c .count-of .result ≤ c .before .wide .result = search (needs, sizing-count) in
+    omega arith
 
 pub block-size-spec : {M : Type 1} → statement M
 block-size-spec =
@@ -31,12 +27,12 @@ block-size-spec =
     (λ c. search (needs, sizing-start))
     (λ c. search (needs, sizing-record))
     (λ c κs. search needs)
-    add-size
+    (λ c. omega arith)
     (λ c κs. omega arith)
     sub-size
     (λ c. omega arith)
     (λ c. omega arith)
-    add-next-2
+    (λ c. omega arith)
     (λ c. omega arith)
     (λ c. omega arith)
     (λ c. search (needs, sizing-more))

@@ -14,20 +14,8 @@ Inv-loop list from c rest part₀ i₀ part i = Copying list from c rest part₀
 abbrev μ-loop : tie.MeasureT-loop
 μ-loop list from c rest part₀ i₀ part i = rest - i
 
-cast-part : tie.Need-cast-part Inv-loop μ-loop
-cast-part c = omega (arith, c .pre .0)
-
-slice-write-part : tie.Need-slice-write-part Inv-loop μ-loop
-slice-write-part c = omega (arith, c .pre .3)
-
-cast-part-2 : tie.Need-cast-part-2 Inv-loop μ-loop
-cast-part-2 c = omega (arith, c .pre .1)
-
 slice-write-part-2 : tie.Need-slice-write-part-2 Inv-loop μ-loop
-slice-write-part-2 c = simp length-set (omega (arith, c .pre .3))
-
-loop-holds : tie.Need-loop-holds Inv-loop μ-loop
-loop-holds c = copying-start _ _ _ _ (c .args .part .now) (c .pre .3)
+slice-write-part-2 c = simp length-set (omega arith)
 
 pub write-entry-spec : {M : Type 1} → statement M
 write-entry-spec =
@@ -35,11 +23,11 @@ write-entry-spec =
     (tie.spec
     Inv-loop
     μ-loop
-    cast-part
-    slice-write-part
-    cast-part-2
+    (λ c. omega arith)
+    (λ c. omega arith)
+    (λ c. omega arith)
     slice-write-part-2
-    loop-holds
+    (λ c. search (needs, copying-start))
     (λ c. omega arith)
     (λ c. omega arith)
     (λ c. omega arith)
