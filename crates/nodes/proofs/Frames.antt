@@ -1,4 +1,5 @@
 -- Laws of the open nodes.
+--     nodeOf            a record by its numbers
 --     deep-down         the depth of a span that begins one name earlier
 --     step-parts        two neighbours differ where they part
 --     open-sentinel, open-few, open-depth    bounds
@@ -22,6 +23,10 @@ use Rattle.format.specs.Nodes.{Node, deep, fork, leaf, nodeTable, rowTable, tab
 use Rattle.format.proofs.Groups.{Ranked, row-few, table-root}
 use Rattle.format.proofs.Spans.{ranked-rest, ranked-span, ranked-within, span-few, table-more, table-none, table-one, table-run}
 use Rattle.nodes.specs.Frames.{Cur, Open, more, none, stepAt, symbolOf}
+
+-- a record by its five numbers
+abbrev pub nodeOf : ℕ → ℕ → ℕ → ℕ → ℕ → Node
+nodeOf s d f n m = record { symbol = s; depth = d; first = f; names = n; nodes = m }
 
 module _ (ws : Words) (r : Rises ws) where
   -- the depth of a span that begins one name earlier
@@ -161,7 +166,8 @@ module _ (ws : Words) (r : Rises ws) where
           )
 
       -- in front of the top frame's rows it is the first of its row
-      row-of : (d e : ℕ) (rest : List Node) → getD depths top 0 ≡ suc d → left ≤ suc d → done ≡ nodeTable j (symbolOf (max left (getD depths top 0)) (nth ws j)) (span ws j c) ++ (rowTable c d (span ws c e) ++ rest)
+      row-of : (d e : ℕ) (rest : List Node) → getD depths top 0 ≡ suc d → left ≤ suc d
+          → done ≡ nodeTable j (symbolOf (max left (getD depths top 0)) (nth ws j)) (span ws j c) ++ (rowTable c d (span ws c e) ++ rest)
           → c < e → e ≤ length ws → stepAt ws c ≡ d → deep ws j e ≡ d → done ≡ rowTable j d (span ws j e) ++ rest
       row-of d e rest p l i a b s g =
           let q : max left (getD depths top 0) ≡ suc d = omega arith in
@@ -177,7 +183,7 @@ module _ (ws : Words) (r : Rises ws) where
         pub ends-within : getD ends top 0 ≤ length ws
         pub marks-behind : getD marks top 0 ≤ length done
         pub next : Cur ws depths ends marks j left (top - 1) (getD ends top 0) (getD marks top 0)
-            (record { symbol = symbolOf (max left (getD depths (top - 1) 0)) (nth ws j); depth = getD depths top 0 - 1; first = j; names = getD ends top 0 - j; nodes = length done - getD marks top 0 + 1 } ∷ done)
+            (nodeOf (symbolOf (max left (getD depths (top - 1) 0)) (nth ws j)) (getD depths top 0 - 1) j (getD ends top 0 - j) (length done - getD marks top 0 + 1) ∷ done)
 
       pub cur-close : getD depths 0 0 ≡ 0 → left < getD depths top 0 → Closes
       cur-close z h = go top refl (k .open-rows) (k .is)
@@ -197,9 +203,10 @@ module _ (ws : Words) (r : Rises ws) where
               let size : length done ≡ length row + length rest = ap length whole ∙ length-append row rest in
               let tab : nodeTable j sym-of (span ws j f) ≡ fork j sym-of d (span ws j f) row ∷ row =
               table-more ws sym-of j f r (omega arith) b ∙ ap (λ (x : ℕ). fork j sym-of x (span ws j f) (rowTable j x (span ws j f)) ∷ rowTable j x (span ws j f)) g in
-              let rec : Node = record { symbol = sym-of; depth = d; first = j; names = f - j; nodes = suc (length row) } in
-              let is-fork : _≡_ {A = Node} rec (fork j sym-of d (span ws j f) row) = ap (λ (x : ℕ). record { symbol = sym-of; depth = d; first = j; names = x; nodes = suc (length row) }) (sym (span-length ws j f b)) in
-              let fields : _≡_ {A = Node} (record { symbol = symbolOf (max left (getD depths (top - 1) 0)) (nth ws j); depth = getD depths top 0 - 1; first = j; names = getD ends top 0 - j; nodes = length done - getD marks top 0 + 1 }) rec = eq5 (ap (λ (x : ℕ). symbolOf (max left (getD depths x 0)) (nth ws j)) t′) (omega arith) (omega arith) (omega arith) in
+              let rec : Node = nodeOf sym-of d j (f - j) (suc (length row)) in
+              let is-fork : _≡_ {A = Node} rec (fork j sym-of d (span ws j f) row) = ap (λ (x : ℕ). nodeOf sym-of d j x (suc (length row))) (sym (span-length ws j f b)) in
+              let fields : nodeOf (symbolOf (max left (getD depths (top - 1) 0)) (nth ws j)) (getD depths top 0 - 1) j (getD ends top 0 - j) (length done - getD marks top 0 + 1) ≡ rec =
+              eq5 (ap (λ (x : ℕ). symbolOf (max left (getD depths x 0)) (nth ws j)) t′) (omega arith) (omega arith) (omega arith) in
               record {
                 some = omega arith;
                 ends-behind = omega arith;
@@ -215,7 +222,7 @@ module _ (ws : Words) (r : Rises ws) where
                 });
               }
             where
-              eq5 : {a b c d e f g h : ℕ} → a ≡ b → c ≡ d → e ≡ f → g ≡ h → _≡_ {A = Node} (record { symbol = a; depth = c; first = j; names = e; nodes = g }) (record { symbol = b; depth = d; first = j; names = f; nodes = h })
+              eq5 : {a b c d e f g h : ℕ} → a ≡ b → c ≡ d → e ≡ f → g ≡ h → nodeOf a c j e g ≡ nodeOf b d j f h
               eq5 x y z w = rw (x, y, z, w) refl
 
       -- on to the name before: a new frame, for a node that name j shares with it and with no frame yet

@@ -2,6 +2,10 @@
 --     ten-stored                    ten bytes, one by one
 --     back-full, back-more          a record in front of those at the end of a room
 --     symbol-past, symbol-here      a name's symbol, by a byte of the list
+--     leaf-closing                  the leaf of a name
+--     closing-some .. closing-more  the node of the top frame
+--     Shutting: shutting-deeper, shutting-done     frame after frame
+--     rowing-start .. rowing-all    the walk over all names
 -- Assumes nothing.
 use Prim.Native.Nat.{ℕ, zero, suc, _+_, _-_, _*_, _/_, _%_, _≤_, _<_, max, zero-le, pred}
 use native.Mathlib.Nat.{lt-irrefl, not-suc-le-zero}
@@ -11,6 +15,8 @@ use mathlib.Core.Path.{_≡_, refl, sym, ap, ap₂, _∙_, subst}
 use mathlib.Core.List.{List, [], _∷_, _++_}
 use lib.ListN.{length, getD, set, take, drop, length-append, length-drop, length-map, replicate, length-set}
 use lib.Seq.{drop-at, drop-drop, length-take-le, getD-take, getD-drop, getD-set-other, drop-length}
+use mir.Val.{Fits}
+use mir.Syntax.{w8, w16}
 use Rattle.words.specs.Words.{Bytes, at, nth, plain, shared, word}
 use Rattle.words.proofs.Rising.{nth-less}
 use Rattle.words.proofs.Words.{at-past, less-short, plain-injective, shared-word, word-at}
@@ -21,9 +27,9 @@ use Rattle.format.proofs.Numbers.{numbers-append}
 use Rattle.numbers.proofs.Parts.{part-length}
 use Rattle.records.specs.Lists.{Ready, names, startOf, words}
 use Rattle.records.proofs.Starts.{ready-rises, ready-size, ready-word, start-all, start-fits, start-name, start-next, words-length}
-use Rattle.nodes.specs.Frames.{Cur, Open, Tail, leftOf, none, stepAt, symbolOf}
+use Rattle.nodes.specs.Frames.{Cur, Tail, leftOf, none, stepAt, symbolOf}
 use Rattle.nodes.specs.Writing.{Asked, Closed, Closing, Counted, NameAt, NodesPut, PutBack, Rowing, Shut}
-use Rattle.nodes.proofs.Frames.{Closes, cur-all, cur-close, cur-few, cur-keep, cur-leaf, cur-push, open-depth, open-few, open-within}
+use Rattle.nodes.proofs.Frames.{Closes, cur-all, cur-close, cur-few, cur-keep, cur-leaf, cur-push, nodeOf, open-depth, open-few, open-within}
 
 -- ---- ten bytes
 
@@ -44,7 +50,8 @@ ten-stored (x ∷ y ∷ z ∷ u ∷ v ∷ w ∷ p ∷ q ∷ r ∷ []) a b c d e 
 ten-stored (x ∷ y ∷ z ∷ u ∷ v ∷ w ∷ p ∷ q ∷ r ∷ s ∷ []) a b c d e f g h i j l = refl
 ten-stored (x ∷ y ∷ z ∷ u ∷ v ∷ w ∷ p ∷ q ∷ r ∷ s ∷ t ∷ xs) a b c d e f g h i j l = absurd (omega arith)
 
-pub five-numbers : (a b c d e : ℕ) → numbers (a ∷ b ∷ c ∷ d ∷ e ∷ []) ≡ a % 256 ∷ a / 256 % 256 ∷ b % 256 ∷ b / 256 % 256 ∷ c % 256 ∷ c / 256 % 256 ∷ d % 256 ∷ d / 256 % 256 ∷ e % 256 ∷ e / 256 % 256 ∷ []
+pub five-numbers : (a b c d e : ℕ) → numbers (a ∷ b ∷ c ∷ d ∷ e ∷ [])
+    ≡ a % 256 ∷ a / 256 % 256 ∷ b % 256 ∷ b / 256 % 256 ∷ c % 256 ∷ c / 256 % 256 ∷ d % 256 ∷ d / 256 % 256 ∷ e % 256 ∷ e / 256 % 256 ∷ []
 unfolding numbers
 five-numbers a b c d e = refl
 
@@ -71,7 +78,7 @@ module _ (room : Bytes) (places w s d f n m : ℕ) where
             let k : a + (b - a) ≡ nodeSize * (places - length done) = omega arith in
             ap₂ drop o is ∙ drop-at (take a room) (ys ++ drop (b - a) (drop a room)) a front
             ∙ ap₂ (λ (x z : Bytes). x ++ z) y (drop-drop (b - a) a room ∙ ap (λ (i : ℕ). drop i room) k ∙ t (omega arith))
-            ∙ sym (node-cons (record { symbol = s; depth = d; first = f; names = n; nodes = m }) done);
+            ∙ sym (node-cons (nodeOf s d f n m) done);
       }
 
 -- ---- symbols
@@ -82,11 +89,11 @@ symbol-past s o len (suc p) h l =
     let x : Bytes = take len (drop (o + 1) s) in
     sym (at-past (word plain x) p (omega (arith, length-map x plain, part-length s (o + 1) len l)))
 
-pub symbol-here : (s : Bytes) (o len p : ℕ) → (p ≡ 0 → ⊥) → p ≤ len → o + 1 + len ≤ length s → getD s (o + p) 0 + 1 ≡ symbolOf p (word plain (take len (drop (o + 1) s)))
-symbol-here s o len zero z h l = absurd (z refl)
-symbol-here s o len (suc p) z h l =
+pub symbol-here : (s : Bytes) (o len p v : ℕ) → (p ≡ 0 → ⊥) → p ≤ len → o + 1 + len ≤ length s → v ≡ getD s (o + p) 0 → v + 1 ≡ symbolOf p (word plain (take len (drop (o + 1) s)))
+symbol-here s o len zero v z h l e = absurd (z refl)
+symbol-here s o len (suc p) v z h l e =
     let k : o + 1 + p ≡ o + suc p = omega arith in
-    add-one (getD s (o + suc p) 0)
+    ap (λ (n : ℕ). n + 1) e ∙ add-one (getD s (o + suc p) 0)
     ∙ sym (word-at plain (take len (drop (o + 1) s)) p (omega (arith, part-length s (o + 1) len l))
     ∙ ap suc (getD-take len (drop (o + 1) s) p 0 h ∙ getD-drop (o + 1) s p 0 ∙ ap (λ (i : ℕ). getD s i 0) k))
 
@@ -100,13 +107,13 @@ module _ {s : Bytes} {at len j left : ℕ} {depths ends marks : List ℕ} (a : N
   symbol-is : (p sy : ℕ) → sy ≡ symbolOf p (word plain (take len (drop (at + 1) s))) → sy ≡ symbolOf p (nth (words s) j)
   symbol-is p sy e = e ∙ ap (symbolOf p) (a .here)
 
-  pub leaf-closing : {top count places : ℕ} {room₀ room : Bytes} (p sy : ℕ) → Asked s j depths ends marks top count places room₀ → p ≡ max left (getD depths top 0)
+  pub leaf-closing : {top count places : ℕ} {room₀ room : Bytes} (x p sy : ℕ) → Asked s j depths ends marks top count places room₀ → x ≡ getD depths top 0 → p ≡ max left x
       → sy ≡ symbolOf p (word plain (take len (drop (at + 1) s))) → PutBack room₀ room places count sy (len + 1) j 1 1
       → Closing s j left depths ends marks top (count + 1) (j + 1) count places room
-  leaf-closing {top} {count} {places} {room₀} {room} p sy ask e f put =
+  leaf-closing {top} {count} {places} {room₀} {room} x p sy ask d e f put =
       let w : Counted (length (words s)) (suc j) places count room₀ (ask .done) = ask .written in
       let node : Node = leaf j (symbolOf (max left (getD depths top 0)) (nth (words s) j)) (nth (words s) j) in
-      let sy-is : sy ≡ symbolOf (max left (getD depths top 0)) (nth (words s) j) = symbol-is p sy f ∙ ap (λ (x : ℕ). symbolOf x (nth (words s) j)) e in
+      let sy-is : sy ≡ symbolOf (max left (getD depths top 0)) (nth (words s) j) = symbol-is p sy f ∙ ap (λ (q : ℕ). symbolOf q (nth (words s) j)) (e ∙ ap (max left) d) in
       let c : Cur (words s) depths ends marks j left top (suc j) (length (ask .done)) (node ∷ ask .done) = cur-leaf (words s) (a .rises) depths ends marks left (ask .rows) in
       record {
         slot = ask .slot;
@@ -114,7 +121,7 @@ module _ {s : Bytes} {at len j left : ℕ} {depths ends marks : List ℕ} (a : N
         done = node ∷ ask .done;
         written = record {
           counted = omega (arith, w .counted);
-          tail = subst (Tail places room) (ap₂ (λ (x y : ℕ). record { symbol = x; depth = y; first = j; names = 1; nodes = 1 } ∷ ask .done) sy-is name-size) (put .tail (ask .done) (sym (w .counted)) (w .tail));
+          tail = subst (Tail places room) (ap₂ (λ (x y : ℕ). nodeOf x y j 1 1 ∷ ask .done) sy-is name-size) (put .tail (ask .done) (sym (w .counted)) (w .tail));
           few = omega (arith, w .few);
         };
         cur = subst (λ (x : ℕ). Cur (words s) depths ends marks j left top x count (node ∷ ask .done)) (sym (add-one j))
@@ -129,36 +136,52 @@ module _ {s : Bytes} {at len j left : ℕ} {depths ends marks : List ℕ} (a : N
       pub closing-some : 0 < top
       closing-some = closes .some
 
-      pub closing-end : j ≤ getD ends top 0
-      closing-end = omega (arith, closes .ends-behind, k .cur .some)
+      pub closing-end : (r : ℕ) → r ≡ getD ends top 0 → j ≤ r
+      closing-end r e = omega (arith, closes .ends-behind, k .cur .some)
 
-      pub closing-mark : getD marks top 0 ≤ count
-      closing-mark = omega (arith, closes .marks-behind, k .written .counted)
+      pub closing-mark : (m : ℕ) → m ≡ getD marks top 0 → m ≤ count
+      closing-mark m e = omega (arith, closes .marks-behind, k .written .counted)
 
-      pub closing-more : {room : Bytes} (p sy : ℕ) → p ≡ max left (getD depths (top - 1) 0) → sy ≡ symbolOf p (word plain (take len (drop (at + 1) s)))
+      closed : {room : Bytes} (sy : ℕ) → sy ≡ symbolOf (max left (getD depths (top - 1) 0)) (nth (words s) j)
           → PutBack room₀ room places count sy (getD depths top 0 - 1) j (getD ends top 0 - j) (count - getD marks top 0 + 1)
           → Closed s j left depths ends marks top (top - 1) (count + 1) (getD ends top 0) (getD marks top 0) places room
-      closing-more {room} p sy e f put =
+      closed {room} sy sy-is put =
           let w : Counted (length (words s)) j places count room₀ (k .done) = k .written in
-          let sy-is : sy ≡ symbolOf (max left (getD depths (top - 1) 0)) (nth (words s) j) = symbol-is p sy f ∙ ap (λ (x : ℕ). symbolOf x (nth (words s) j)) e in
           let c = closes .next in
-          let node : Node = record { symbol = symbolOf (max left (getD depths (top - 1) 0)) (nth (words s) j); depth = getD depths top 0 - 1; first = j; names = getD ends top 0 - j; nodes = length (k .done) - getD marks top 0 + 1 } in
+          let node : ℕ → ℕ → Node = λ (x y : ℕ). nodeOf x (getD depths top 0 - 1) j (getD ends top 0 - j) (y - getD marks top 0 + 1) in
           record {
             fewer = omega (arith, closes .some);
             closing = record {
               slot = omega (arith, k .slot);
               whole = put .kept ∙ k .whole;
-              done = node ∷ k .done;
+              done = node (symbolOf (max left (getD depths (top - 1) 0)) (nth (words s) j)) (length (k .done)) ∷ k .done;
               written = record {
                 counted = omega (arith, w .counted);
-                tail = subst (Tail places room)
-                    (ap₂ (λ (x y : ℕ). record { symbol = x; depth = getD depths top 0 - 1; first = j; names = getD ends top 0 - j; nodes = y - getD marks top 0 + 1 } ∷ k .done) sy-is (w .counted))
-                    (put .tail (k .done) (sym (w .counted)) (w .tail));
+                tail = subst (Tail places room) (ap₂ (λ (x y : ℕ). node x y ∷ k .done) sy-is (w .counted)) (put .tail (k .done) (sym (w .counted)) (w .tail));
                 few = omega (arith, cur-few (words s) (a .rises) depths ends marks c, w .counted);
               };
               cur = c;
             };
           }
+
+      pub closing-more : {room : Bytes} (d r m x p sy : ℕ) → d ≡ getD depths top 0 → r ≡ getD ends top 0 → m ≡ getD marks top 0
+          → x ≡ getD depths (top - 1) 0 → p ≡ max left x → sy ≡ symbolOf p (word plain (take len (drop (at + 1) s)))
+          → PutBack room₀ room places count sy (d - 1) j (r - j) (count - m + 1) → Closed s j left depths ends marks top (top - 1) (count + 1) r m places room
+      closing-more {room} d r m x p sy de re me xe pe e put =
+          rw (re, me) (closed sy (symbol-is p sy e ∙ ap (λ (q : ℕ). symbolOf q (nth (words s) j)) (pe ∙ ap (max left) xe)) (rw (de, re, me) at put))
+
+-- the node of names j to `end` is whole, and `top` is the number of the frame in front of it
+pub record Shutting (s : Bytes) (j left : ℕ) (depths ends marks : List ℕ) (t count end mark places : ℕ) (room : Bytes) (top : ℕ) : Type 0 where
+  pub same : top ≡ t
+  pub closing : Closing s j left depths ends marks t count end mark places room
+
+module _ {s : Bytes} {j left : ℕ} {depths ends marks : List ℕ} {t count end mark places : ℕ} {room : Bytes} {top : ℕ}
+    (k : Shutting s j left depths ends marks t count end mark places room top) (x : ℕ) (d : x ≡ getD depths top 0) where
+  pub shutting-deeper : left < x → left < getD depths t 0
+  shutting-deeper h = omega (arith, ap (λ (i : ℕ). getD depths i 0) (k .same))
+
+  pub shutting-done : x ≤ left → Shut s j left depths ends marks t count end mark places room
+  shutting-done h = record { shallow = omega (arith, ap (λ (i : ℕ). getD depths i 0) (k .same)); closing = k .closing }
 
 -- ---- the walk over all names, from the last
 
@@ -208,30 +231,51 @@ module _ {s : Bytes} {n : ℕ} {lens steps : List ℕ} (a : Ready s n lens steps
   }
 
   module _ {depths ends marks : List ℕ} {places : ℕ} {room : Bytes} {top count at j : ℕ} (k : Rowing s n depths ends marks places room top count at j) where
-    pub rowing-room : 0 < j → pred j < length lens
-    rowing-room h = omega (arith, k .low, a .noted .lens-room, a .total)
+    pub rowing-ask : 0 < j → Asked s (j - 1) depths ends marks top count places room
+    rowing-ask h =
+        let is : suc (j - 1) ≡ j = omega arith in
+        let back : pred j ≡ j - 1 = omega arith in
+        record {
+          slot = k .slot;
+          whole = k .whole;
+          done = k .done;
+          written = rw is (k .written);
+          rows = rw (is, ← back) (k .rows h);
+        }
 
-    pub rowing-steps : 0 < j → pred j < length steps
-    rowing-steps h = omega (arith, k .low, a .noted .steps-room, a .total)
+    module _ (h : 0 < j) (len : ℕ) (size : len ≡ getD lens (j - 1) 0) where
+      abbrev i : ℕ
+      i = j - 1
 
-    module _ (h : 0 < j) (i len left at′ : ℕ) (is : suc i ≡ j) (size : len ≡ getD lens i 0) where
+      is : suc i ≡ j
+      is = omega arith
+
       len-is : len ≡ length (getD (names s) i [])
       len-is = size ∙ a .noted .sizes i (omega (arith, k .low, a .total))
 
       back : at ≡ startOf s i + 1 + len
       back = k .here ∙ ap (startOf s) (sym is) ∙ start-next a i (omega (arith, k .low)) ∙ omega (arith, len-is)
 
-      pub rowing-back : len + 1 ≤ at
+      pub rowing-back : 1 ≤ at
       rowing-back = omega (arith, back)
 
-      module _ (e : at′ ≡ at - 1 - len) (z : i ≡ 0 → left ≡ 0) (l : 0 < i → left ≡ suc (getD steps i 0)) where
+      pub rowing-back-name : len ≤ at - 1
+      rowing-back-name = omega (arith, back)
+
+      module _ (left : ℕ) (z : i ≡ 0 → left ≡ 0) (l : 0 < i → left ≡ suc (getD steps i 0)) where
         in-list : i < n
         in-list = omega (arith, k .low)
 
-        start-is : at′ ≡ startOf s i
+        start-is : at - 1 - len ≡ startOf s i
         start-is = omega (arith, back)
 
-        pub rowing-name : NameAt s at′ len i left depths ends marks
+        rowing-left : left ≤ 200
+        rowing-left = omega (arith, left-is i left in-list z l, left-low i in-list)
+
+        pub rowing-narrow : Fits w8 left
+        rowing-narrow = omega (arith, rowing-left)
+
+        pub rowing-name : NameAt s (at - 1 - len) len i left depths ends marks
         rowing-name =
             let y : Bytes = getD (names s) i [] in
             record {
@@ -242,42 +286,27 @@ module _ {s : Bytes} {n : ℕ} {lens steps : List ℕ} (a : Ready s n lens steps
                   ap (word plain) (ap₂ (λ (x o : ℕ). take x (drop (o + 1) s)) len-is start-is ∙ start-name a i in-list) ∙ sym (ready-word a i);
               size = omega (arith, len-is, ready-size a i in-list .1);
               within = omega (arith, all-words);
-              low = omega (arith, left-is i left in-list z l, left-low i in-list);
+              low = rowing-left;
               sentinel = k .sentinel;
               slots = k .slots;
               slots-ends = k .slots-ends;
               slots-marks = k .slots-marks;
             }
 
-        pub rowing-ask : Asked s i depths ends marks top count places room
-        rowing-ask = record {
-          slot = k .slot;
-          whole = k .whole;
-          done = k .done;
-          written = subst (λ (x : ℕ). Counted (length (words s)) x places count room (k .done)) (sym is) (k .written);
-          rows = subst (λ (x : ℕ). Open (words s) depths ends marks x top (suc i) (k .done)) (sym back-is) (subst (λ (x : ℕ). Open (words s) depths ends marks (pred j) top x (k .done)) (sym is) (k .rows h));
-        }
-          where
-            back-is : i ≡ pred j
-            back-is = omega arith
-
         module _ {top′ count′ end mark : ℕ} {room′ : Bytes} (t : Shut s i left depths ends marks top′ count′ end mark places room′) where
           cur : Cur (words s) depths ends marks i left top′ end mark (t .closing .done)
           cur = t .closing .cur
 
-          pub rowing-end : end < 65536
+          pub rowing-end : Fits w16 end
           rowing-end = omega (arith, open-within (words s) (ready-rises a) depths ends marks (cur .open-rows), all-words, a .few)
 
-          pub rowing-mark : mark < 65536
+          pub rowing-mark : Fits w16 mark
           rowing-mark =
               omega (arith, open-few (words s) (ready-rises a) depths ends marks (cur .open-rows) (cur .some), cur .behind, all-words, a .few)
 
-          pub rowing-left : left ≤ 200
-          rowing-left = omega (arith, left-is i left in-list z l, left-low i in-list)
-
           -- frames deepen, so there are at most as many as depths
-          pub rowing-slot : getD depths top′ 0 < left → top′ + 1 < 203
-          rowing-slot g = omega (arith, open-depth (words s) (ready-rises a) depths ends marks (k .sentinel) (cur .open-rows), rowing-left)
+          pub rowing-slot : (x : ℕ) → x ≡ getD depths top′ 0 → x < left → top′ + 1 < 203
+          rowing-slot x d g = omega (arith, open-depth (words s) (ready-rises a) depths ends marks (k .sentinel) (cur .open-rows), rowing-left)
 
           left-step : 0 < i → left ≡ suc (stepAt (words s) i)
           left-step g = left-is i left in-list z l ∙ go i g
@@ -286,8 +315,8 @@ module _ {s : Bytes} {n : ℕ} {lens steps : List ℕ} (a : Ready s n lens steps
               go zero q = absurd (not-suc-le-zero q)
               go (suc m) q = refl
 
-          pub rowing-keep : left ≤ getD depths top′ 0 → Rowing s n depths ends marks places room′ top′ count′ at′ i
-          rowing-keep g = record {
+          pub rowing-keep : (x : ℕ) → x ≡ getD depths top′ 0 → left ≤ x → Rowing s n depths ends marks places room′ top′ count′ (at - 1 - len) i
+          rowing-keep x d g = record {
             low = omega (arith, k .low);
             here = start-is;
             sentinel = k .sentinel;
@@ -302,26 +331,26 @@ module _ {s : Bytes} {n : ℕ} {lens steps : List ℕ} (a : Ready s n lens steps
             all = λ q. cur-all (words s) (ready-rises a) depths ends marks cur (k .sentinel) q (z q) (t .shallow);
           }
 
-          pub rowing-push : getD depths top′ 0 < left
-              → Rowing s n (set depths (top′ + 1) left) (set ends (top′ + 1) end) (set marks (top′ + 1) mark) places room′ (top′ + 1) count′ at′ i
-          rowing-push g = rw (add-one top′) (record {
+          pub rowing-push : (x : ℕ) → x ≡ getD depths top′ 0 → x < left
+              → Rowing s n (set depths (top′ + 1) left) (set ends (top′ + 1) end) (set marks (top′ + 1) mark) places room′ (top′ + 1) count′ (at - 1 - len) i
+          rowing-push x d g = let slot : top′ + 1 < 203 = rowing-slot x d g in rw (add-one top′) (record {
             low = omega (arith, k .low);
             here = start-is;
             sentinel = getD-set-other depths (suc top′) 0 left 0 (λ q. lt-irrefl 0 (omega arith)) ∙ k .sentinel;
             slots = length-set depths (suc top′) left ∙ k .slots;
             slots-ends = length-set ends (suc top′) end ∙ k .slots-ends;
             slots-marks = length-set marks (suc top′) mark ∙ k .slots-marks;
-            slot = omega (arith, rowing-slot g);
+            slot = omega arith;
             whole = t .closing .whole;
             done = t .closing .done;
             written = t .closing .written;
-            rows = λ q. cur-push (words s) (ready-rises a) depths ends marks cur q (left-step q) g (omega (arith, rowing-slot g, k .slots)) (omega (arith, rowing-slot g, k .slots-ends)) (omega (arith, rowing-slot g, k .slots-marks));
+            rows = λ q. cur-push (words s) (ready-rises a) depths ends marks cur q (left-step q) (omega arith) (omega arith) (omega arith) (omega arith);
             all = λ q. absurd (lt-irrefl 0 (omega (arith, z q)));
           })
 
-    pub rowing-all : j ≡ 0 → NodesPut s room places count
+    pub rowing-all : j ≤ 0 → NodesPut s room places count
     rowing-all h =
-        let e : k .done ≡ table (words s) = k .all h in
+        let e : k .done ≡ table (words s) = k .all (omega arith) in
         record {
           nodes = k .written .counted ∙ ap length e;
           put = λ p.
