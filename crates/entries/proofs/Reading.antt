@@ -1,4 +1,5 @@
 -- Laws of the code that reads and judges one block, one for each way through it.
+--     entry-not, entry-is       the last test of an entry
 --     Pasted, name-read         the cursor
 --     says-true, says-false, Held    the loop over a block, with its buffer
 --     shared-bytes, Alike       the loop over what two names share
@@ -17,8 +18,19 @@ use Rattle.words.specs.Words.{Bytes, less, plain, shared, word}
 use Rattle.words.proofs.Words.{false≠true, part-at, plain-injective, shared-comm, shared-le, shared-more, shared-word}
 use Rattle.streams.specs.Streams.{EntryAt, Stream, entry, entryEnd, nameAt}
 use Rattle.streams.specs.Runs.{RunTo, Step}
-use Rattle.streams.proofs.Walks.{Blocked, block-fits, blocked-apart, blocked-bad, blocked-done, blocked-entry, blocked-more, blocked-start, first-name}
+use Rattle.streams.proofs.Walks.{Blocked, block-fits, blocked-apart, blocked-bad, blocked-done, blocked-entry, blocked-more, blocked-start, first-name, not-above, step-is}
 use Rattle.entries.specs.Judging.{BlockSays, EntrySays, NameIs, NameRead, NextSays, ReadAsk}
+
+-- ---- one entry
+
+-- the last test of an entry, as the code makes it
+module _ (b prev : Bytes) (o e c : ℕ) where
+  pub entry-not : Step b o e prev → c ≡ getD b o 0 → c ≤ length prev → (length prev ≡ c → ⊥) → getD b (o + 2) 0 ≤ getD prev c 0 → ⊥
+  entry-not k ce sh apart h = not-above b prev o e c ce (omega arith) h k
+
+  pub entry-is : (n : ℕ) → c ≡ getD b o 0 → n ≡ getD b (o + 1) 0 → 2 ≤ e → o ≤ e - 2 → n ≤ e - 2 - o → (n ≡ 0 → ⊥) → c ≤ length prev → c + n ≤ 200
+      → getD prev c 0 < getD b (o + 2) 0 → Step b o e prev
+  entry-is n ce ne two from fits some sh short up = step-is b prev o e c n ce ne (omega arith) (omega arith) sh short (λ h. up)
 
 -- ---- the cursor
 
@@ -90,14 +102,14 @@ module _ {b : Bytes} {e o₀ m o : ℕ} {name : Bytes} {len left : ℕ} (w : Hel
   }
 
   -- the answers of each way out
-  pub held-bad : 0 < left → (Step b o e (take len name) → ⊥) → (len ≤ 200) × (length name ≡ 200) × BlockSays b o₀ e m false name len
-  held-bad h n = (w .room, w .size, blocked-bad b e o₀ m o (take len name) left (w .blocked) h n)
+  pub held-bad : 0 < left → (Step b o e (take len name) → ⊥) → BlockSays b o₀ e m false name len
+  held-bad h n = blocked-bad b e o₀ m o (take len name) left (w .blocked) h n
 
-  pub held-apart : left ≤ 0 → (o ≡ e → ⊥) → (len ≤ 200) × (length name ≡ 200) × BlockSays b o₀ e m false name len
-  held-apart h n = (w .room, w .size, blocked-apart b e o₀ m o (take len name) left (w .blocked) h n)
+  pub held-apart : left ≤ 0 → (o ≡ e → ⊥) → BlockSays b o₀ e m false name len
+  held-apart h n = blocked-apart b e o₀ m o (take len name) left (w .blocked) h n
 
-  pub held-done : left ≤ 0 → o ≡ e → (len ≤ 200) × (length name ≡ 200) × BlockSays b o₀ e m true name len
-  held-done h q = (w .room, w .size, blocked-done b e o₀ m o (take len name) left (w .blocked) h q)
+  pub held-done : left ≤ 0 → o ≡ e → BlockSays b o₀ e m true name len
+  held-done h q = blocked-done b e o₀ m o (take len name) left (w .blocked) h q
 
 -- ---- what two names share
 
@@ -109,9 +121,6 @@ pub record Alike (a c : Bytes) (i : ℕ) : Type 0 where
   pub shares : i ≤ shared a c
 
 module _ (a c : Bytes) where
-  pub alike-start : Alike a c 0
-  alike-start = record { low = omega arith; shares = omega arith }
-
   module _ (i : ℕ) (k : Alike a c i) where
     pub alike-more : i < length a → i < length c → getD a i 0 ≡ getD c i 0 → Alike a c (i + 1)
     alike-more h g e = record { low = omega arith; shares = omega (arith, shared-more a c i (k .shares) h g e) }
@@ -196,5 +205,3 @@ module _ {b : Bytes} {start count o : ℕ} {name : Bytes} {len i : ℕ} (w : Rea
   reached-done l next name' len' r =
       let z : i + 0 ≡ count = omega (arith, w .upto) in
       record { room = r .room; size = r .size; named = λ xs s h. r .name-is ∙ next-of xs s h .1 ∙ getD-drop i xs 0 [] ∙ ap (λ (x : ℕ). getD xs x []) z }
-
-pub ruleset reading = (alike-start, alike-more, alike-other, alike-left, alike-right, paste-start, paste-more, paste-done)

@@ -6,4 +6,4 @@ use Rattle.entries.proofs.block_end.Statement.{statement}
 use Rattle.entries.proofs.block_end.Tie as tie
 
 pub block-end-spec : {M : Type 1} → statement M
-block-end-spec = tie.close (tie.spec (λ c. search (needs, end-last)) (λ c. search needs) (λ c κs. search needs) (λ c. search (needs, end-next)))
+block-end-spec = tie.close (tie.spec (λ c. search end-last) (λ c. search needs) (λ c κs. search needs) (λ c. search end-next))

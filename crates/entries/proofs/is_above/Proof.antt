@@ -8,4 +8,4 @@ use Rattle.entries.proofs.is_above.Tie as tie
 pub is-above-spec : {M : Type 1} → statement M
 is-above-spec =
     tie.close
-    (tie.spec (λ c. search (needs, below-no)) (λ c. search (needs, below-end)) (λ c. search needs) (λ c. search needs) (λ c. search (needs, below-not)) (λ c. search (needs, below-is)))
+    (tie.spec (λ c. search below-no) (λ c. search below-end) (λ c. search needs) (λ c. search needs) (λ c. search below-not) (λ c. search below-is))

@@ -18,11 +18,11 @@ name-of-spec =
     (tie.spec
     Inv-loop
     μ-loop
-    (λ c. search (needs, reached-start))
+    (λ c. search reached-start)
     (λ c. search needs)
-    (λ c κs. search (needs, reached-entry))
+    (λ c κs. search reached-entry)
     (λ c. search needs)
     (λ c. search needs)
-    (λ c. search (needs, reached-more))
-    (λ c κs. search (needs, reached-entry))
-    (λ c. search (needs, reached-done)))
+    (λ c. search reached-more)
+    (λ c κs. search reached-entry)
+    (λ c. search reached-done))

@@ -2,7 +2,7 @@
 -- Assumes nothing.
 use Prim.Native.Nat.{_-_}
 use borrow.Author.Needs.{needs}
-use Rattle.entries.proofs.Reading.{Pasted, reading}
+use Rattle.entries.proofs.Reading.{Pasted, paste-start, paste-more, paste-done}
 use Rattle.entries.proofs.put_rest.Statement.{statement}
 use Rattle.entries.proofs.put_rest.Tie as tie
 
@@ -18,13 +18,13 @@ put-rest-spec =
     (tie.spec
     Inv-loop
     μ-loop
-    (λ c. search (needs, reading))
-    (λ c. search (needs, reading))
-    (λ c. search (needs, reading))
-    (λ c. search (needs, reading))
-    (λ c. search (needs, reading))
-    (λ c. search (needs, reading))
-    (λ c. search (needs, reading))
-    (λ c. search (needs, reading))
-    (λ c. search (needs, reading))
-    (λ c. search (needs, reading)))
+    (λ c. search paste-start)
+    (λ c. search needs)
+    (λ c. search needs)
+    (λ c. search needs)
+    (λ c. search needs)
+    (λ c. search needs)
+    (λ c. search needs)
+    (λ c. search paste-more)
+    (λ c. search needs)
+    (λ c. search paste-done))

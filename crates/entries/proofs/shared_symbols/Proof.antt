@@ -3,7 +3,7 @@
 use Prim.Native.Nat.{_-_}
 use lib.ListN.{length}
 use borrow.Author.Needs.{needs}
-use Rattle.entries.proofs.Reading.{Alike, reading}
+use Rattle.entries.proofs.Reading.{Alike, alike-more, alike-other, alike-left, alike-right}
 use Rattle.entries.proofs.shared_symbols.Statement.{statement}
 use Rattle.entries.proofs.shared_symbols.Tie as tie
 
@@ -19,12 +19,12 @@ shared-symbols-spec =
     (tie.spec
     Inv-loop
     μ-loop
-    (λ c. search (needs, reading))
-    (λ c. search (needs, reading))
-    (λ c. search (needs, reading))
-    (λ c. search (needs, reading))
-    (λ c. search (needs, reading))
-    (λ c. search (needs, reading))
-    (λ c. search (needs, reading))
-    (λ c. search (needs, reading))
-    (λ c. search (needs, reading)))
+    (λ c. search needs)
+    (λ c. search alike-right)
+    (λ c. search needs)
+    (λ c. search needs)
+    (λ c. search alike-other)
+    (λ c. search needs)
+    (λ c. search needs)
+    (λ c. search alike-more)
+    (λ c. search alike-left))

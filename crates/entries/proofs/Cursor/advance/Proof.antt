@@ -5,9 +5,6 @@ use borrow.Author.Needs.{needs}
 use Rattle.entries.proofs.Cursor.advance.Statement.{statement}
 use Rattle.entries.proofs.Cursor.advance.Tie as tie
 
-returns : tie.Need-returns
-returns c = name-read _ _ _ _ _ _ _ (c .before .before .before .before .before .before .before .before .before .before .pre .0) (c .before .before .before .before .before .before .before .before .before .before .pre .1) (c .before .before .before .before .before .before .before .before .before .before .pre .2) (c .before .before .before .before .before .before .wide .ensures .0) (c .before .before .before .before .wide2 .ensures .0) (c .before .before .put-rest .ensures)
-
 pub advance-spec : {M : Type 1} → statement M
 advance-spec =
     tie.close
@@ -23,4 +20,4 @@ advance-spec =
     (λ c. search needs)
     (λ c. search needs)
     (λ c. search needs)
-    returns)
+    (λ c. search name-read))
