@@ -15,7 +15,7 @@ abbrev μ-loop : tie.MeasureT-loop
 
 sub-size : tie.Need-sub-size Inv-loop μ-loop
 sub-size c =
-    let shorter : c .count-of .result ≤ c .before .wide .result = search (needs, sizing-count) in
+    let shorter : c .count-of .result ≤ c .before .wide .result = search sizing-count in
     omega arith
 
 pub block-size-spec : {M : Type 1} → statement M
@@ -24,8 +24,8 @@ block-size-spec =
     (tie.spec
     Inv-loop
     μ-loop
-    (λ c. search (needs, sizing-start))
-    (λ c. search (needs, sizing-record))
+    (λ c. search sizing-start)
+    (λ c. search sizing-record)
     (λ c κs. search needs)
     (λ c. omega arith)
     (λ c κs. omega arith)
@@ -35,5 +35,5 @@ block-size-spec =
     (λ c. omega arith)
     (λ c. omega arith)
     (λ c. omega arith)
-    (λ c. search (needs, sizing-more))
-    (λ c. search (needs, sizing-all)))
+    (λ c. search sizing-more)
+    (λ c. search sizing-all))

@@ -20,4 +20,4 @@ put-number-spec =
     (λ c. search needs)
     (λ c κs. search needs)
     (λ c. search needs)
-    (λ c. search (needs, number-more)))
+    (λ c. search number-more))

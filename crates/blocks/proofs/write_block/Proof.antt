@@ -15,7 +15,7 @@ abbrev μ-loop : tie.MeasureT-loop
 
 add-write-entry-2 : tie.Need-add-write-entry-2 Inv-loop μ-loop
 add-write-entry-2 c =
-    let shorter : c .count-of .result ≤ c .before .wide .result = search (needs, sizing-count) in
+    let shorter : c .count-of .result ≤ c .before .wide .result = search sizing-count in
     omega arith
 
 pub write-block-spec : {M : Type 1} → statement M
@@ -24,23 +24,23 @@ write-block-spec =
     (tie.spec
     Inv-loop
     μ-loop
-    (λ c. search (needs, filling-start))
-    (λ c. search (needs, sizing-record))
+    (λ c. search filling-start)
+    (λ c. search sizing-record)
     (λ c κs. search needs)
     (λ c κs. omega arith)
-    (λ c. search (needs, sizing-count))
+    (λ c. search sizing-count)
     (λ c. omega arith)
     (λ c. omega arith)
     (λ c. omega arith)
     add-write-entry-2
     (λ c. omega arith)
     (λ c. omega arith)
-    (λ c. search (needs, filling-fits))
-    (λ c κs. search (needs, filling-count, filling-rest, filling-source, filling-part))
+    (λ c. search filling-fits)
+    (λ c κs. search (filling-count, filling-rest, filling-source, filling-part))
     (λ c. omega arith)
     (λ c. omega arith)
     (λ c. omega arith)
     (λ c. omega arith)
-    (λ c. search (needs, filling-more))
+    (λ c. search filling-more)
     (λ c. omega arith)
-    (λ c. search (needs, filling-all)))
+    (λ c. search filling-all))

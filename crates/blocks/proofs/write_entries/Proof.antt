@@ -19,15 +19,15 @@ write-entries-spec =
     (tie.spec
     Inv-loop
     μ-loop
-    (λ c. search (needs, entered-start))
+    (λ c. search entered-start)
     (λ c. omega arith)
     (λ c κs. search needs)
     (λ c. omega arith)
     (λ c. omega arith)
     (λ c. omega arith)
-    (λ c κs. search (needs, blocked-ask, entered-part))
+    (λ c κs. search (blocked-ask, entered-part))
     (λ c. omega arith)
     (λ c. omega arith)
-    (λ c. search (needs, entered-more))
+    (λ c. search entered-more)
     (λ c. omega arith)
-    (λ c. search (needs, entered-all)))
+    (λ c. search entered-all))

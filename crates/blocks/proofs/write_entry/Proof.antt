@@ -27,7 +27,7 @@ write-entry-spec =
     (λ c. omega arith)
     (λ c. omega arith)
     slice-write-part-2
-    (λ c. search (needs, copying-start))
+    (λ c. search copying-start)
     (λ c. omega arith)
     (λ c. omega arith)
     (λ c. omega arith)

@@ -19,14 +19,14 @@ write-table-spec =
     (tie.spec
     Inv-loop
     μ-loop
-    (λ c. search (needs, tabled-start))
+    (λ c. search tabled-start)
     (λ c κs. omega arith)
     (λ c. omega arith)
     (λ c κs. search needs)
-    (λ c κs. search (needs, blocked-ask))
+    (λ c κs. search blocked-ask)
     (λ c. omega arith)
     (λ c. omega arith)
     (λ c. omega arith)
-    (λ c. search (needs, tabled-more))
+    (λ c. search tabled-more)
     (λ c. omega arith)
-    (λ c. search (needs, tabled-all)))
+    (λ c. search tabled-all))

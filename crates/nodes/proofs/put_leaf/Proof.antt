@@ -18,4 +18,4 @@ put-leaf-spec =
     (λ c. search needs)
     (λ c. search needs)
     (λ c. search needs)
-    (λ c. search (needs, leaf-closing)))
+    (λ c. search leaf-closing))

@@ -8,4 +8,4 @@ use Rattle.nodes.proofs.symbol_of.Tie as tie
 pub symbol-of-spec : {M : Type 1} → statement M
 symbol-of-spec =
     tie.close
-    (tie.spec (λ c. search needs) (λ c. search (needs, symbol-past)) (λ c. search needs) (λ c. search needs) (λ c κs. search needs) (λ c. search needs) (λ c. search (needs, symbol-here)))
+    (tie.spec (λ c. search needs) (λ c. search symbol-past) (λ c. search needs) (λ c. search needs) (λ c κs. search needs) (λ c. search needs) (λ c. search symbol-here))

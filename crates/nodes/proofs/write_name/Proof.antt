@@ -31,4 +31,4 @@ write-name-spec =
     (λ c. omega arith)
     (λ c. search needs)
     (λ c. omega arith)
-    (λ c. search (needs, shutting-done)))
+    (λ c. search shutting-done))

@@ -31,17 +31,17 @@ write-nodes-spec =
     (tie.spec
     Inv-loop
     μ-loop
-    (λ c. search (needs, rowing-start))
+    (λ c. search rowing-start)
     (λ c. omega arith)
     (λ c. omega arith)
     (λ c κs. search needs)
-    (λ c. search (needs, rowing-back))
-    (λ c. search (needs, rowing-back-name))
+    (λ c. search rowing-back)
+    (λ c. search rowing-back-name)
     (λ c κs. omega arith)
     (λ c. search needs)
     (λ c. search needs)
     (λ c. search needs)
-    (λ c κs. (search (needs, rowing-name), search (needs, rowing-ask)))
+    (λ c κs. (search rowing-name, search rowing-ask))
     (λ c. omega arith)
     (λ c κs. search needs)
     (λ c. omega arith)
@@ -58,4 +58,4 @@ write-nodes-spec =
     (λ c. omega arith)
     loop-again-2
     (λ c. omega arith)
-    (λ c. search (needs, rowing-all)))
+    (λ c. search rowing-all))
