@@ -40,9 +40,6 @@ pub climb-start : {b : Bytes} {start : ℕ} {p : List ℕ} {n m : ℕ} → OnPat
 climb-start t = record { nodes = t; within = t .some; above = λ i h. absurd (lt-irrefl i (omega arith)) }
 
 module _ {b : Bytes} {start : ℕ} {p : List ℕ} {n m j : ℕ} (k : Climbing b start p n m j) where
-  pub climb-room : j < 202
-  climb-room = omega (arith, k .within, k .nodes .few)
-
   module _ {v : ℕ} (e : v ≡ getD p j 0) where
     pub climb-numbered : Numbered b start v
     climb-numbered = record {
@@ -53,17 +50,18 @@ module _ {b : Bytes} {start : ℕ} {p : List ℕ} {n m j : ℕ} (k : Climbing b 
     pub climb-end : n ≤ j + 1 → Highest (wordsIn plain b) p n m v
     climb-end h = record { index = j; within = k .within; is = e; above = k .above; deep = inr (omega (arith, k .within)) }
 
-    pub climb-found : m ≤ node (wordsIn plain b) v .depth → Highest (wordsIn plain b) p n m v
-    climb-found h = record { index = j; within = k .within; is = e; above = k .above; deep = inl h }
+    -- d is the node's depth
+    pub climb-found : {d : ℕ} → d ≡ node (wordsIn plain b) v .depth → m ≤ d → Highest (wordsIn plain b) p n m v
+    climb-found de h = record { index = j; within = k .within; is = e; above = k .above; deep = inl (omega arith) }
 
-    pub climb-more : j + 1 < n → node (wordsIn plain b) v .depth < m → Climbing b start p n m (j + 1)
-    climb-more h l = record { nodes = k .nodes; within = h; above = λ i x. go i x (apart i j) }
+    pub climb-more : j + 1 < n → {d : ℕ} → d ≡ node (wordsIn plain b) v .depth → d < m → Climbing b start p n m (j + 1)
+    climb-more h {d} de l = record { nodes = k .nodes; within = h; above = λ i x. go i x (apart i j) }
       where
         go : (i : ℕ) → i < j + 1 → (i < j) ⊎ (j ≤ i) → node (wordsIn plain b) (getD p i 0) .depth < m
         go i x (inl y) = k .above i y
         go i x (inr y) =
             let f : v ≡ getD p i 0 = e ∙ ap (λ (a : ℕ). getD p a 0) {y = i} (omega arith) in
-            subst (λ (u : ℕ). node (wordsIn plain b) u .depth < m) f l
+            subst (λ (u : ℕ). node (wordsIn plain b) u .depth < m) f (omega arith)
 
 -- ---- `meet`
 
@@ -128,32 +126,44 @@ name-ask {b} {k} {start} {r} q a o = record {
   names = a .names;
 }
 
+-- at the end of a path
+pub end-ask : {b : Bytes} (q : Bytes) {k start r : ℕ} {p : List ℕ} {n last : ℕ} → Askable b k start → Descended (wordsIn plain b) (asked plain q) p n last
+    → r ≡ node (wordsIn plain b) last .first → NameAsk b k r
+end-ask {b} q a t f = name-ask (asked plain q) a (end-reached b q (a .searchable) t f)
+
 -- ---- `seat`
 
-module _ {b q : Bytes} {start v m s : ℕ} (a : AtSpot b start q v m s) where
-  pub seat-before : m < node (wordsIn plain b) v .depth → s < at (asked plain q) m → upto (wordsIn plain b) v ≡ place (asked plain q) (wordsIn plain b)
-  seat-before h l = edge-before (wordsIn plain b) (a .searchable .rises) (a .spot .located .found) h (omega (arith, a .spot .next))
+-- d is the node's depth, f its first name, n how many it has, y its number of nodes, t the question's symbol, c the child that was sought
+module _ {b q : Bytes} {start v m s : ℕ} (a : AtSpot b start q v m s) {d : ℕ} (de : d ≡ node (wordsIn plain b) v .depth) where
+  pub seat-before : {f n t : ℕ} → f ≡ node (wordsIn plain b) v .first → n ≡ node (wordsIn plain b) v .names → m < d → t ≡ at (asked plain q) m → s < t
+      → f + n ≡ place (asked plain q) (wordsIn plain b)
+  seat-before fe ne h e l =
+      omega (arith, edge-before (wordsIn plain b) (a .searchable .rises) (a .spot .located .found) (omega arith) (omega (arith, a .spot .next)))
 
-  pub seat-after : m < node (wordsIn plain b) v .depth → at (asked plain q) m ≤ s → from (wordsIn plain b) v ≡ place (asked plain q) (wordsIn plain b)
-  seat-after h l = edge-after (wordsIn plain b) (a .searchable .rises) (a .spot .located .found) h (omega (arith, a .spot .next))
+  pub seat-after : {f t : ℕ} → f ≡ node (wordsIn plain b) v .first → m < d → t ≡ at (asked plain q) m → t ≤ s → f ≡ place (asked plain q) (wordsIn plain b)
+  seat-after fe h e l =
+      omega (arith, edge-after (wordsIn plain b) (a .searchable .rises) (a .spot .located .found) (omega arith) (omega (arith, a .spot .next)))
 
-  module _ (h : node (wordsIn plain b) v .depth ≤ m) where
+  module _ (h : d ≤ m) where
+    deep : node (wordsIn plain b) v .depth ≤ m
+    deep = omega arith
+
     pub seat-fork : AtFork b start v
     seat-fork = record {
       searchable = a .searchable;
       sits = a .spot .located .found .sits;
-      several = fork-wide (wordsIn plain b) (a .searchable .rises) (a .spot .located .found) h;
+      several = fork-wide (wordsIn plain b) (a .searchable .rises) (a .spot .located .found) deep;
     }
 
-    module _ {t c : ℕ} (e : t ≡ at (asked plain q) m) (k : Sought (wordsIn plain b) v t c) where
+    module _ {t c y : ℕ} (e : t ≡ at (asked plain q) m) (k : Sought (wordsIn plain b) v t c) (ye : y ≡ node (wordsIn plain b) v .nodes) where
       sought : Sought (wordsIn plain b) v (at (asked plain q) m) c
-      sought = subst (λ (y : ℕ). Sought (wordsIn plain b) v y c) e k
+      sought = subst (λ (i : ℕ). Sought (wordsIn plain b) v i c) e k
 
-      pub seat-child : c < v + node (wordsIn plain b) v .nodes → from (wordsIn plain b) c ≡ place (asked plain q) (wordsIn plain b)
-      seat-child g = fork-child (wordsIn plain b) (a .searchable .rises) (a .spot .located .found) h sought g
+      pub seat-child : {f : ℕ} → f ≡ node (wordsIn plain b) c .first → c < v + y → f ≡ place (asked plain q) (wordsIn plain b)
+      seat-child fe g = fe ∙ fork-child (wordsIn plain b) (a .searchable .rises) (a .spot .located .found) deep sought (omega arith)
 
-      pub seat-end : v + node (wordsIn plain b) v .nodes ≤ c → upto (wordsIn plain b) v ≡ place (asked plain q) (wordsIn plain b)
-      seat-end g = fork-end (wordsIn plain b) (a .searchable .rises) (a .spot .located .found) h sought g
+      pub seat-end : {f n : ℕ} → f ≡ node (wordsIn plain b) v .first → n ≡ node (wordsIn plain b) v .names → v + y ≤ c → f + n ≡ place (asked plain q) (wordsIn plain b)
+      seat-end fe ne g = omega (arith, fork-end (wordsIn plain b) (a .searchable .rises) (a .spot .located .found) deep sought (omega arith))
 
 -- ---- the answers
 

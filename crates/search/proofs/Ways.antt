@@ -1,20 +1,26 @@
 -- The way down: what the functions of the descent keep, and how each of their ways ends.
 --     symbol-in, symbol-past    a byte's symbol; past the last byte stands the end symbol
 --     asked-length              a question has as many symbols as bytes
+--     seek-next, seek-less      the loop of `seek`
 --     stay-.., go-down          the ways out of `child`
---     Going, go-..              the loop of `descend`
+--     Going, way-.., go-..      the loop of `descend`
 -- Assumes nothing.
-use Prim.Native.Nat.{ℕ, _+_, _≤_, _<_}
+use Prim.Native.Nat.{ℕ, _+_, _-_, _≤_, _<_}
 use native.Mathlib.Numerals.{add-one}
 use native.Mathlib.Omega.{arith}
 use mathlib.Core.Path.{_≡_, _∙_, ap, subst, sym}
 use mathlib.Core.List.{List}
 use lib.ListN.{getD, length, length-map, set}
-use Rattle.words.specs.Words.{Bytes, Rises, at, plain}
+use mir.Val.{Fits}
+use mir.Syntax.{w16, w64}
+use Rattle.words.specs.Words.{Bytes, Rises, Words, at, plain}
 use Rattle.words.proofs.Words.{at-past, word-at}
-use Rattle.descent.specs.Vocabulary.{Descended, Halts, Passed, Searchable, Sits, Sought, Taken, asked, node, wordsIn}
+use Rattle.descent.specs.Vocabulary.{Descended, Halts, Passed, Searchable, Seeking, Sits, Sought, Taken, asked, node, wordsIn}
 use Rattle.descent.proofs.Paths.{halt-end, halt-leaf, halt-other, halt-short, passed-few, passed-on, passed-room, passed-sits, passed-start, taken}
-use Rattle.search.specs.Asks.{AtNode}
+use Rattle.descent.proofs.Rows.{seek-some, seek-stop}
+use Rattle.search.specs.Asks.{AtNode, WayOf}
+use Rattle.search.specs.declared.Way.{Way}
+use Rattle.search.specs.declared.Way.the-variants.{Down, Stay}
 
 -- ---- symbols by the plain rule
 
@@ -29,37 +35,53 @@ symbol-in s d h = add-one (getD s d 0) ∙ sym (word-at plain s d h)
 pub symbol-past : (s : Bytes) (d : ℕ) → length s ≤ d → 0 ≡ at (asked plain s) d
 symbol-past s d h = sym (at-past (asked plain s) d (omega (arith, asked-length s)))
 
+-- ---- `seek`
+
+-- the next child lies within the row, and further on
+module _ {b : Bytes} {start v s c : ℕ} (o : Searchable plain b start) (k : Seeking (wordsIn plain b) v s c) (x y : ℕ)
+    (xe : x ≡ node (wordsIn plain b) v .nodes) (h : c < v + x) (ye : y ≡ node (wordsIn plain b) c .nodes) where
+  pub seek-next : Fits w64 (c + y)
+  seek-next = omega (arith, seek-stop (wordsIn plain b) (o .rises) k (omega arith), k .row .limit, o .small)
+
+  pub seek-less : v + x - (c + y) < v + x - c
+  seek-less = omega (arith, seek-some (wordsIn plain b) (o .rises) k (omega arith))
+
 -- ---- `child`
 
-module _ (b q : Bytes) {v : ℕ} (r : Rises (wordsIn plain b)) (z : Sits (wordsIn plain b) v) where
-  pub stay-leaf : node (wordsIn plain b) v .names ≡ 1 → Halts (wordsIn plain b) (asked plain q) v
-  stay-leaf e = halt-leaf (wordsIn plain b) r (asked plain q) z e
+-- x is the node's number of names, d its depth, y its number of nodes, t the question's symbol there, c the child that was sought, u that one's symbol
+module _ (b q : Bytes) {v : ℕ} (r : Rises (wordsIn plain b)) (z : Sits (wordsIn plain b) v) {x : ℕ} (xe : x ≡ node (wordsIn plain b) v .names) where
+  pub stay-leaf : x ≡ 1 → Halts (wordsIn plain b) (asked plain q) v
+  stay-leaf e = halt-leaf (wordsIn plain b) r (asked plain q) z (omega arith)
 
-  module _ (n : node (wordsIn plain b) v .names ≡ 1 → ⊥) where
-    pub stay-short : length q < node (wordsIn plain b) v .depth → Halts (wordsIn plain b) (asked plain q) v
-    stay-short h = halt-short (wordsIn plain b) r (asked plain q) z n (omega (arith, asked-length q))
+  module _ (n : x ≡ 1 → ⊥) {d : ℕ} (de : d ≡ node (wordsIn plain b) v .depth) where
+    pub stay-short : length q < d → Halts (wordsIn plain b) (asked plain q) v
+    stay-short h = halt-short (wordsIn plain b) r (asked plain q) z (λ i. n (xe ∙ i)) (omega (arith, asked-length q))
 
-    -- d is the node's depth, t the question's symbol there, c the child that was sought
-    module _ (h : node (wordsIn plain b) v .depth ≤ length q) {d t c : ℕ} (f : d ≡ node (wordsIn plain b) v .depth)
-        (e : t ≡ at (asked plain q) d) (k : Sought (wordsIn plain b) v t c) where
+    module _ (h : d ≤ length q) {t c y : ℕ} (e : t ≡ at (asked plain q) d) (k : Sought (wordsIn plain b) v t c) (ye : y ≡ node (wordsIn plain b) v .nodes) where
       symbol : t ≡ at (asked plain q) (node (wordsIn plain b) v .depth)
-      symbol = e ∙ ap (at (asked plain q)) f
+      symbol = e ∙ ap (at (asked plain q)) de
 
       long : node (wordsIn plain b) v .depth ≤ length (asked plain q)
       long = omega (arith, asked-length q)
 
       sought : Sought (wordsIn plain b) v (at (asked plain q) (node (wordsIn plain b) v .depth)) c
-      sought = subst (λ (x : ℕ). Sought (wordsIn plain b) v x c) symbol k
+      sought = subst (λ (i : ℕ). Sought (wordsIn plain b) v i c) symbol k
 
-      pub stay-end : v + node (wordsIn plain b) v .nodes ≤ c → Halts (wordsIn plain b) (asked plain q) v
-      stay-end g = halt-end (wordsIn plain b) r (asked plain q) z n long sought g
+      pub stay-end : v + y ≤ c → Halts (wordsIn plain b) (asked plain q) v
+      stay-end g = halt-end (wordsIn plain b) r (asked plain q) z (λ i. n (xe ∙ i)) long sought (omega arith)
 
-      module _ (g : c < v + node (wordsIn plain b) v .nodes) where
-        pub stay-other : (node (wordsIn plain b) c .symbol ≡ t → ⊥) → Halts (wordsIn plain b) (asked plain q) v
-        stay-other o = halt-other (wordsIn plain b) r (asked plain q) z n long sought g (λ j. o (j ∙ sym symbol))
+      module _ (g : c < v + y) {u : ℕ} (ue : u ≡ node (wordsIn plain b) c .symbol) where
+        pub stay-other : (u ≡ t → ⊥) → Halts (wordsIn plain b) (asked plain q) v
+        stay-other o = halt-other (wordsIn plain b) r (asked plain q) z (λ i. n (xe ∙ i)) long sought (omega arith) (λ j. o (ue ∙ j ∙ sym symbol))
 
-        pub go-down : node (wordsIn plain b) c .symbol ≡ t → Taken (wordsIn plain b) (asked plain q) v c
-        go-down j = taken (wordsIn plain b) r (asked plain q) z n long sought g (j ∙ symbol)
+        went-down : u ≡ t → Taken (wordsIn plain b) (asked plain q) v c
+        went-down j = taken (wordsIn plain b) r (asked plain q) z (λ i. n (xe ∙ i)) long sought (omega arith) (sym ue ∙ j ∙ symbol)
+
+-- the same with the premises in the order in which a search finds them
+pub go-down : (b q : Bytes) {v x d t c y u : ℕ} → Sought (wordsIn plain b) v t c → u ≡ t → (x ≡ 1 → ⊥) → d ≤ length q → c < v + y → t ≡ at (asked plain q) d
+    → u ≡ node (wordsIn plain b) c .symbol → d ≡ node (wordsIn plain b) v .depth → x ≡ node (wordsIn plain b) v .names → y ≡ node (wordsIn plain b) v .nodes
+    → Rises (wordsIn plain b) → Sits (wordsIn plain b) v → Taken (wordsIn plain b) (asked plain q) v c
+go-down b q k j n h g e ue de xe ye r z = went-down b q r z xe n de h e k ye g ue j
 
 -- ---- `descend`
 
@@ -71,6 +93,12 @@ pub record Going (b : Bytes) (start : ℕ) (q : Bytes) (p : List ℕ) (n v : ℕ
 pub go-start : {b : Bytes} {start : ℕ} {q p : Bytes} → Searchable plain b start → length p ≡ 202 → getD p 0 0 ≡ 0 → Going b start q p 1 0
 go-start {b} {start} {q} {p} o l e = record { searchable = o; path = passed-start (wordsIn plain b) (o .rises) (asked plain q) p (o .some) l e }
 
+pub way-down : {ws : Words} {q : List ℕ} {v c : ℕ} {r : Way} → r ≡ Down c → WayOf ws q v r → Taken ws q v c
+way-down {ws} {q} {v} e w = rw e at w
+
+pub way-stay : {ws : Words} {q : List ℕ} {v : ℕ} {r : Way} → r ≡ Stay → WayOf ws q v r → Halts ws q v
+way-stay {ws} {q} {v} e w = rw e at w
+
 module _ {b q : Bytes} {start : ℕ} {p : List ℕ} {n v : ℕ} (g : Going b start q p n v) where
   pub go-at : AtNode b start v
   go-at = record { searchable = g .searchable; sits = passed-sits (wordsIn plain b) (g .searchable .rises) (g .path) (g .searchable .short) }
@@ -79,11 +107,15 @@ module _ {b q : Bytes} {start : ℕ} {p : List ℕ} {n v : ℕ} (g : Going b sta
   go-halt h = record { few = passed-few (wordsIn plain b) (g .searchable .rises) (g .path) (g .searchable .short); path = g .path; halts = h }
 
   module _ {c : ℕ} (k : Taken (wordsIn plain b) (asked plain q) v c) where
-    pub go-room : n < 202
+    go-room : n < 202
     go-room = passed-room (wordsIn plain b) (g .searchable .rises) (g .path) (g .searchable .short) k
 
-    pub go-small : c < 4000
+    pub go-small : Fits w16 c
     go-small = omega (arith, k .sits .inside, g .searchable .small)
 
     pub go-on : Going b start q (set p n c) (n + 1) c
     go-on = record { searchable = g .searchable; path = passed-on (wordsIn plain b) (g .searchable .rises) (g .path) (g .searchable .short) k }
+
+  -- there is room for the child
+  pub go-further : {c : ℕ} {r : Way} → r ≡ Down c → WayOf (wordsIn plain b) (asked plain q) v r → n < 202
+  go-further e w = go-room (way-down e w)

@@ -6,7 +6,8 @@ use native.Mathlib.Omega.{arith}
 use borrow.Author.Needs.{needs}
 use Rattle.words.specs.Words.{plain}
 use Rattle.descent.specs.Vocabulary.{Seeking, wordsIn}
-use Rattle.descent.proofs.Rows.{seek-end, seek-found, seek-more, seek-some, seek-start, seek-stop}
+use Rattle.descent.proofs.Rows.{seek-end, seek-found, seek-more, seek-start}
+use Rattle.search.proofs.Ways.{seek-next, seek-less}
 use Rattle.search.proofs.seek.Statement.{statement}
 use Rattle.search.proofs.seek.Tie as tie
 
@@ -15,13 +16,6 @@ Inv-loop book nodes v s end c₀ c = Seeking (wordsIn plain book) v s c
 
 abbrev μ-loop : tie.MeasureT-loop
 μ-loop book nodes v s end c₀ c = end - c
-
--- the next child lies within the row, and further on
-add-c-2 : tie.Need-add-c-2 Inv-loop μ-loop
-add-c-2 c = omega (arith, seek-stop _ (c .before .before .before .before .before .before .before .pre .searchable .rises) (c .before .before .before .before .loop .inv) (search needs))
-
-loop-less : tie.Need-loop-less Inv-loop μ-loop
-loop-less c = omega (arith, seek-some _ (c .before .before .before .before .before .before .before .pre .searchable .rises) (c .before .before .before .before .loop .inv) (search needs))
 
 pub seek-spec : {M : Type 1} → statement M
 seek-spec =
@@ -36,7 +30,7 @@ seek-spec =
     (λ c κs. search needs)
     (λ c. seek-found _ (search needs) (search needs) (search needs) (search needs))
     (λ c κs. search needs)
-    add-c-2
-    loop-less
+    (λ c. search seek-next)
+    (λ c. search seek-less)
     (λ c. seek-more _ (search needs) (search needs) (search needs) (search needs) (search needs))
     (λ c. seek-end _ (search needs) (search needs) (search needs)))
