@@ -3,7 +3,7 @@
 --     part-length               a part of a run of bytes
 --     over-length, over-all     a room that is written over
 --     lent, lent-front          a part behind what is written comes back with more, whole or at its front
---     number-is                 a number out of its two bytes
+--     number-is, number-small   a number out of its two bytes
 --     two-stored                two bytes, one by one
 --     Numbered: numbered-none, numbered-more, numbered-all     numbers in a row
 -- Assumes nothing.
@@ -28,9 +28,12 @@ Held b = (i : ℕ) → Fits w8 (getD b i 0)
 pub held-bytes : (b : Bytes) → Held b → InBytes b
 held-bytes b h i = omega (arith, h i)
 
-pub number-is : (b : Bytes) (o x y : ℕ) → x ≡ getD b o 0 → y ≡ getD b (o + 1) 0 → x < 256 → y < 256 → (x + 256 * y ≡ number b o) × (x + 256 * y < 65536)
+pub number-is : (b : Bytes) (o x y : ℕ) → x ≡ getD b o 0 → y ≡ getD b (o + 1) 0 → x + 256 * y ≡ number b o
 unfolding number
-number-is b o x y p q h k = (ap₂ (λ (u v : ℕ). u + 256 * v) p q, omega arith)
+number-is b o x y p q = ap₂ (λ (u v : ℕ). u + 256 * v) p q
+
+pub number-small : (x y : ℕ) → x < 256 → y < 256 → x + 256 * y < 65536
+number-small x y h k = omega arith
 
 -- a part of a run of bytes
 pub part-length : (s : Bytes) (o n : ℕ) → o + n ≤ length s → length (take n (drop o s)) ≡ n

@@ -217,17 +217,31 @@ module _ {s : Bytes} {lens steps : List ℕ} {o p m n len : ℕ} (r : StandsAt s
   bad-length : wellSized s o len ≡ false → Judged s lens steps (Bad 5 n)
   bad-length e = refused s lens steps 5 n (asked false _ _ e refl refl)
 
+-- where the list has not ended, and its next length byte is read
+module _ {s : Bytes} {lens steps : List ℕ} {o p m n len : ℕ} (r : ReadUpTo s lens steps o p m n) (more : o ≡ length s → ⊥) (byte : len ≡ getD s o 0) where
+  pub stands-at : StandsAt s lens steps o p m n len
+  stands-at = record { read = r; here = omega (arith, r .within); byte = byte }
+
   pub no-name : len ≡ 0 → Judged s lens steps (Bad 5 n)
-  no-name e = bad-length (rw (le-ltb 0 len (omega arith)))
+  no-name e = bad-length stands-at (rw (le-ltb 0 len (omega arith)))
 
   pub long-name : 200 < len → Judged s lens steps (Bad 5 n)
-  long-name l = bad-length (rw (lt-ltb 0 len (omega arith), lt-leb len 200 l))
+  long-name l = bad-length stands-at (rw (lt-ltb 0 len (omega arith), lt-leb len 200 l))
 
-  pub cut-name : 0 < len → len ≤ 200 → length s - (o + 1) < len → Judged s lens steps (Bad 5 n)
-  cut-name z l f = bad-length (rw (lt-ltb 0 len z, le-leb len 200 l, length-drop (o + 1) s, lt-leb len (length s - (o + 1)) f))
+  module _ (some : len ≡ 0 → ⊥) (l : len ≤ 200) where
+    pub cut-name : length s - (o + 1) < len → Judged s lens steps (Bad 5 n)
+    cut-name f = bad-length stands-at (rw (lt-ltb 0 len (omega arith), le-leb len 200 l, length-drop (o + 1) s, lt-leb len (length s - (o + 1)) f))
 
-  pub comparing-start : 0 < len → len ≤ 200 → o + 1 + len ≤ length s → Comparing s lens steps o p m n len 0
-  comparing-start z l f = record { stands = r; some = z; short = l; whole = f; in-old = zero-le; in-new = zero-le; agree = zero-le }
+    pub comparing-start : len ≤ length s - (o + 1) → Comparing s lens steps o p m n len 0
+    comparing-start f = record {
+      stands = stands-at;
+      some = omega arith;
+      short = l;
+      whole = omega (arith, stands-at .here);
+      in-old = zero-le;
+      in-new = zero-le;
+      agree = zero-le;
+    }
 
 module _ {s : Bytes} {lens steps : List ℕ} {o p m n len i : ℕ} (k : Comparing s lens steps o p m n len i) where
   sized : wellSized s o len ≡ true
@@ -242,12 +256,19 @@ module _ {s : Bytes} {lens steps : List ℕ} {o p m n len i : ℕ} (k : Comparin
   pub new-ends : i ≡ len → Judged s lens steps (Bad 6 n)
   new-ends e = not-above (no-symbol (part s p m) (part s (o + 1) len) i (k .agree) (omega (arith, new-length)))
 
-  pub old-ends : i ≡ m → i < len → NewAbove k
-  old-ends e h =
+  pub old-ends : i ≡ m → (i ≡ len → ⊥) → NewAbove k
+  old-ends e left =
+      let h : i < len = omega (arith, k .in-new) in
       symbol-above (part s p m) (part s (o + 1) len) i (k .agree)
       (rw (symbol-in s (o + 1) len (k .whole) i h, e, symbol-past s p m (k .stands .read .inside)) (omega arith))
 
-  module _ (old : i < m) (new : i < len) where
+  module _ (apart : i ≡ m → ⊥) (left : i ≡ len → ⊥) where
+    old : i < m
+    old = omega (arith, k .in-old)
+
+    new : i < len
+    new = omega (arith, k .in-new)
+
     old-symbol : at (word plain (part s p m)) i ≡ suc (getD s (p + i) 0)
     old-symbol = symbol-in s p m (k .stands .read .inside) i old
 
@@ -266,7 +287,7 @@ module _ {s : Bytes} {lens steps : List ℕ} {o p m n len i : ℕ} (k : Comparin
         let more : i < shared (part s p m) (part s (o + 1) len) =
         shared-more (part s p m) (part s (o + 1) len) i (k .agree) (omega (arith, part-length s p m inside)) (omega (arith, new-length))
         (omega (arith, part-byte s p m inside i old, part-byte s (o + 1) len (k .whole) i new)) in
-        record { stands = k .stands; some = k .some; short = k .short; whole = k .whole; in-old = omega arith; in-new = omega arith; agree = omega arith }
+        record { stands = k .stands; some = k .some; short = k .short; whole = k .whole; in-old = omega (arith, old); in-new = omega (arith, new); agree = omega arith }
 
   module _ (a : NewAbove k) where
     pub too-many : 2000 ≤ n → Judged s lens steps (Bad 7 n)

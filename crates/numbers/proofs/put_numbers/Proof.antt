@@ -3,7 +3,7 @@
 use Prim.Native.Nat.{_-_}
 use native.Mathlib.Omega.{arith}
 use borrow.Author.Needs.{needs}
-use lib.ListN.{length, length-take, length-drop}
+use lib.ListN.{length}
 use Rattle.numbers.proofs.Parts.{Numbered, numbered-none, numbered-more, numbered-all}
 use Rattle.numbers.proofs.put_numbers.Statement.{statement}
 use Rattle.numbers.proofs.put_numbers.Tie as tie
@@ -17,33 +17,6 @@ abbrev μ-loop : tie.MeasureT-loop
 loop-holds : tie.Need-loop-holds Inv-loop μ-loop
 loop-holds c = numbered-none _ _ (search needs)
 
-mul-a : tie.Need-mul-a Inv-loop μ-loop
-mul-a c = omega (arith, c .before .before .before .before .pre .0)
-
-add-b : tie.Need-add-b Inv-loop μ-loop
-add-b c = omega (arith, c .before .before .before .before .pre .0)
-
-part-put16-end : tie.Need-part-put16-end Inv-loop μ-loop
-part-put16-end c = omega (arith, c .before .loop .inv .kept, c .before .loop .inv .fits)
-
-mul-put16 : tie.Need-mul-put16 Inv-loop μ-loop
-mul-put16 c = omega (arith, c .before .before .before .before .before .pre .0)
-
-put16-requires : tie.Need-put16-requires Inv-loop μ-loop
-put16-requires c κs = simp (length-take, length-drop) (omega (arith, c .before .before .before .loop .inv .kept, c .before .before .before .loop .inv .fits))
-
-add-i : tie.Need-add-i Inv-loop μ-loop
-add-i c = omega (arith, c .before .before .before .before .before .before .before .before .before .pre .0)
-
-loop-again : tie.Need-loop-again Inv-loop μ-loop
-loop-again c = numbered-more (c .before .before .before .before .before .before .loop .inv) _ (omega arith) (c .before .before .put16 .ensures)
-
-same-length : tie.Need-same-length Inv-loop μ-loop
-same-length c = omega (arith, c .before .loop .inv .kept)
-
-returns : tie.Need-returns Inv-loop μ-loop
-returns c = numbered-all (c .before .loop .inv) (omega arith)
-
 pub put-numbers-spec : {M : Type 1} → statement M
 put-numbers-spec =
     tie.close
@@ -51,16 +24,16 @@ put-numbers-spec =
     Inv-loop
     μ-loop
     loop-holds
-    mul-a
-    add-b
-    (λ c. search needs)
-    (λ c. search needs)
-    part-put16-end
-    mul-put16
-    (λ c. search needs)
-    put16-requires
-    add-i
     (λ c. omega arith)
-    loop-again
-    same-length
-    returns)
+    (λ c. omega arith)
+    (λ c. search needs)
+    (λ c. search needs)
+    (λ c. omega arith)
+    (λ c. omega arith)
+    (λ c. search needs)
+    (λ c κs. omega arith)
+    (λ c. omega arith)
+    (λ c. omega arith)
+    (λ c. search (needs, numbered-more))
+    (λ c. omega arith)
+    (λ c. search (needs, numbered-all)))

@@ -22,54 +22,24 @@ Inv-records list lens₀ steps₀ at₀ prev₀ before₀ n₀ lens steps at pre
 abbrev μ-records : tie.MeasureT-records
 μ-records list lens₀ steps₀ at₀ prev₀ before₀ n₀ lens steps at prev before n = length list - at
 
-records-holds : tie.Need-records-holds Inv-bytes μ-bytes Inv-records μ-records
-records-holds c =
-    law.reading-start _ _ _
-    (c .before .before .before .pre .0) (c .before .before .before .pre .1)
-
--- a length byte is read
-stands : (c : tie.After-wide Inv-bytes μ-bytes Inv-records μ-records) → law.Next (c .before .before .before .records .inv) (c .wide .result)
-stands c = record { read = c .before .before .before .records .inv; here = omega arith; byte = c .wide .ensures .0 }
-
-bytes-holds : tie.Need-bytes-holds Inv-bytes μ-bytes Inv-records μ-records
-bytes-holds c = law.comparing-start (stands (c .before .before .before)) (omega arith) (omega arith) (omega arith)
-
 bytes-less : tie.Need-bytes-less Inv-bytes μ-bytes Inv-records μ-records
 bytes-less c = falls _ _ (omega arith)
-
-bytes-again : tie.Need-bytes-again Inv-bytes μ-bytes Inv-records μ-records
-bytes-again c = law.byte-same (c .before .before .before .before .before .before .bytes .inv) (omega arith) (omega arith) (c .before .if7 .left) (c .if8 .left)
 
 -- the comparison was left by either `break 'bytes`
 parted : (c : tie.Joined6 Inv-bytes μ-bytes Inv-records μ-records) → law.NewAbove (c .before .before .bytes .inv)
 parted c = ⊎-elim
-    (λ w. law.old-ends (c .before .before .bytes .inv) (w .taken) (omega arith))
-    (λ w. law.byte-above (c .before .before .bytes .inv) (omega arith) (omega arith) (w .4 .taken))
+    (λ w. search law.old-ends)
+    (λ w. search law.byte-above)
     (c .if6 .came)
 
 records-again : tie.Need-records-again Inv-bytes μ-bytes Inv-records μ-records
 records-again c = law.reading-more (c .before .before .before .bytes .inv) (parted (c .before)) (c .if9 .left)
 
-returns : tie.Need-returns Inv-bytes μ-bytes Inv-records μ-records
-returns c = law.good-list (c .before .records .inv) (c .if1 .taken)
-
-returns-2 : tie.Need-returns-2 Inv-bytes μ-bytes Inv-records μ-records
-returns-2 c = law.no-name (stands (c .before)) (c .if2 .taken)
-
-returns-3 : tie.Need-returns-3 Inv-bytes μ-bytes Inv-records μ-records
-returns-3 c = law.long-name (stands (c .before .before)) (c .if3 .taken)
-
-returns-4 : tie.Need-returns-4 Inv-bytes μ-bytes Inv-records μ-records
-returns-4 c = law.cut-name (stands (c .before .before .before)) (omega arith) (omega arith) (c .if4 .taken)
-
-returns-5 : tie.Need-returns-5 Inv-bytes μ-bytes Inv-records μ-records
-returns-5 c = law.new-ends (c .before .bytes .inv) (c .if5 .taken)
-
 returns-6 : tie.Need-returns-6 Inv-bytes μ-bytes Inv-records μ-records
-returns-6 c = law.byte-below (c .before .before .before .before .before .bytes .inv) (omega arith) (omega arith) (c .if7 .taken)
+returns-6 c = law.byte-below (c .before .before .before .before .before .bytes .inv) (search needs) (search needs) (c .if7 .taken)
 
 returns-7 : tie.Need-returns-7 Inv-bytes μ-bytes Inv-records μ-records
-returns-7 c = law.too-many (c .before .before .before .bytes .inv) (parted (c .before)) (c .if9 .taken)
+returns-7 c = search (law.too-many, parted (c .before))
 
 pub judge-spec : {M : Type 1} → statement M
 judge-spec =
@@ -79,19 +49,19 @@ judge-spec =
     μ-bytes
     Inv-records
     μ-records
-    records-holds
+    (λ c. search law.reading-start)
     (λ c. omega arith)
     (λ c κs. search needs)
     (λ c. omega arith)
     (λ c. omega arith)
-    bytes-holds
+    (λ c. search law.comparing-start)
     (λ c. omega arith)
     (λ c. omega arith)
     (λ c. omega arith)
     (λ c. omega arith)
     (λ c. omega arith)
     bytes-less
-    bytes-again
+    (λ c. search law.byte-same)
     (λ c. omega arith)
     (λ c. omega arith)
     (λ c. omega arith)
@@ -102,19 +72,19 @@ judge-spec =
     records-again
     (λ c. omega arith)
     (λ c. omega arith)
-    returns
+    (λ c. search law.good-list)
     (λ c. omega arith)
     (λ c. omega arith)
-    returns-2
+    (λ c. search law.no-name)
     (λ c. omega arith)
     (λ c. omega arith)
-    returns-3
+    (λ c. search law.long-name)
     (λ c. omega arith)
     (λ c. omega arith)
-    returns-4
+    (λ c. search law.cut-name)
     (λ c. omega arith)
     (λ c. omega arith)
-    returns-5
+    (λ c. search law.new-ends)
     (λ c. omega arith)
     (λ c. omega arith)
     returns-6
