@@ -10,7 +10,9 @@ use native.Mathlib.Omega.{arith}
 use mathlib.Core.Path.{_≡_, _∙_, ap, ap₂, refl, sym}
 use mathlib.Core.Bool.{Bool, false, not, true}
 use mathlib.Core.List.{[]}
-use lib.ListN.{getD, length, replicate}
+use lib.ListN.{getD, length, length-replicate, replicate}
+use mir.Val.{Fits}
+use mir.Syntax.{w8}
 use Rattle.words.specs.Words.{Bytes, InBytes, plain}
 use Rattle.words.proofs.Words.{false≠true}
 use Rattle.format.specs.Book.{Book, NoBook, Opened, opened, trailerSize}
@@ -74,9 +76,12 @@ module _ (b : Bytes) (n k s u : ℕ) (a : Asked b n k s u) where
   entries-fail true steps h = absurd (false≠true h)
   entries-fail false steps h = λ says. unsound b (λ p. says (here (p .entries)))
 
-  pub table-ask : (r : Bool) (steps : Bytes) → not r ≡ false → WalkSays b k s u n r steps → n ≤ length steps → TableAsk b steps u (length b - trailerSize) n
-  table-ask false steps h says room = absurd (false≠true (sym h))
-  table-ask true steps h says room =
+  -- the code lent a row of 2,000 steps
+  pub table-ask : (r : Bool) (steps : Bytes) → not r ≡ false → WalkSays b k s u n r steps → length steps ≡ length (replicate {A = ℕ} 2000 0)
+      → TableAsk b steps u (length b - trailerSize) n
+  table-ask false steps h says size = absurd (false≠true (sym h))
+  table-ask true steps h says size =
+      let room : n ≤ length steps = omega (arith, a .trail .few, a .names, length-replicate {A = ℕ} 2000 0) in
       let has = says .0 in
       let low : 1 ≤ k = omega (arith, a .trail .low, a .block) in
       let e : namesOf b ≡ has .names = has-names b k s u n inside has low (sym (a .table)) in
@@ -95,7 +100,7 @@ module _ (b : Bytes) (n k s u : ℕ) (a : Asked b n k s u) where
   table-fails true h = absurd (false≠true h)
   table-fails false h = λ q. unsound b (λ p. false≠true (q ∙ ap (λ (x : ℕ). isTable b x (length b - trailerSize)) (a .nodes) ∙ p .nodes))
 
-  pub all-pass : InBytes b → (r : Bool) (steps : Bytes) → not r ≡ false → WalkSays b k s u n r steps → (q : Bool) → not q ≡ false
+  pub all-pass : ((i : ℕ) → Fits w8 (getD b i 0)) → (r : Bool) (steps : Bytes) → not r ≡ false → WalkSays b k s u n r steps → (q : Bool) → not q ≡ false
       → q ≡ isTable b u (length b - trailerSize) → Sound n k ≡ checkedOf (opened plain b)
   all-pass bytes false steps h says q g t = absurd (false≠true (sym h))
   all-pass bytes true steps h says false g t = absurd (false≠true (sym g))
@@ -108,7 +113,7 @@ module _ (b : Bytes) (n k s u : ℕ) (a : Asked b n k s u) where
       } in
       let e : namesOf b ≡ has .names = has-names b k s u n inside has (omega (arith, a .trail .low, a .block)) (sym (a .table)) in
       let c : n ≡ length (namesOf b) = sym (ap length e ∙ has .count) in
-      ap₂ Sound c (a .block) ∙ ap checkedOf (sym (parts-opened b bytes p))
+      ap₂ Sound c (a .block) ∙ ap checkedOf (sym (parts-opened b (λ i. omega (arith, bytes i)) p))
 
 -- what an accepting answer says
 pub record SoundBook (b : Bytes) (n k : ℕ) : Type 0 where

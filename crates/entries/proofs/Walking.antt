@@ -10,11 +10,11 @@ use mathlib.Core.Path.{_≡_, refl, sym, ap, _∙_, subst}
 use mathlib.Core.Bool.{Bool, true, false, not}
 use mathlib.Core.List.{[]}
 use lib.Dec.{eqb}
-use lib.ListN.{length, replicate, set, take, length-replicate, length-set, length-take}
+use lib.ListN.{getD, length, replicate, set, take, length-replicate, length-set, length-take}
 use borrow.Author.Tests.{eqb-false, eqb-true}
 use mir.Val.{Fits}
 use mir.Syntax.{w8}
-use Rattle.words.specs.Words.{Bytes, InBytes, shared}
+use Rattle.words.specs.Words.{Bytes, shared}
 use Rattle.words.proofs.Words.{false≠true, shared-le}
 use Rattle.format.specs.Book.{number}
 use Rattle.streams.specs.Streams.{nameAt}
@@ -33,10 +33,10 @@ pub record Walking (b : Bytes) (k s u n t o : ℕ) (name : Bytes) (len i : ℕ) 
   pub walked : Walked b k s u n t o (take len name) i (n - i) steps
 
 module _ (b : Bytes) (k s u n : ℕ) (steps₀ : Bytes) where
-  pub walking-start : Frame b k s u → InBytes b → n ≤ length steps₀ → Blank steps₀ → Walking b k s u n s 0 (replicate 200 0) 0 0 steps₀ steps₀
+  pub walking-start : Frame b k s u → ((i : ℕ) → Fits w8 (getD b i 0)) → n ≤ length steps₀ → Blank steps₀ → Walking b k s u n s 0 (replicate 200 0) 0 0 steps₀ steps₀
   walking-start a bytes row blank =
       let e : n ≡ n - 0 = omega arith in
-      let w = walked-start b k s u n steps₀ a bytes row blank in
+      let w = walked-start b k s u n steps₀ a (λ i. omega (arith, bytes i)) row blank in
       record {
         size = length-replicate {A = ℕ} 200 0;
         room = omega arith;

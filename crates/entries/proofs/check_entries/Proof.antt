@@ -13,9 +13,6 @@ Inv-loop book n k s u steps₀ at₀ t₀ i₀ name₀ len₀ steps at t i name 
 abbrev μ-loop : tie.MeasureT-loop
 μ-loop book n k s u steps₀ at₀ t₀ i₀ name₀ len₀ steps at t i name len = n - i
 
-loop-holds : tie.Need-loop-holds Inv-loop μ-loop
-loop-holds c = walking-start _ _ _ _ _ _ (search needs) (λ i. omega (arith, c .before .shared-slice-known .given i)) (search needs) (search needs)
-
 returns-4 : tie.Need-returns-4 Inv-loop μ-loop
 returns-4 c = search (walking-bad, c .before .before .next-block .ensures .2)
 
@@ -36,7 +33,7 @@ check-entries-spec =
     (tie.spec
     Inv-loop
     μ-loop
-    loop-holds
+    (λ c. search walking-start)
     (λ c. omega arith)
     (λ c. search needs)
     (λ c. search walking-room)
