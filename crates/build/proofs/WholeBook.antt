@@ -1,8 +1,8 @@
 -- Laws of the whole book.
---     sizes-are                       the sizes, by writers without room
+--     sizes-are, nodes-fit, ..        the sizes, by writers without room
 --     trailer-is                      the trailer as eight numbers
 --     sized-..                        how the parts lie in a room that is large enough
---     book-lent                       four parts, each from where the one before ended, are the book
+--     put, nodes-part, book-lent      four parts, each from where the one before ended, are the book
 --     ends-nine, ends-four, ends-done how a build ends
 -- Assumes nothing.
 use Prim.Native.Nat.{ℕ, zero, suc, _+_, _-_, _*_, _≤_, _<_}
@@ -12,6 +12,8 @@ use mathlib.Core.Bool.{Bool, true, false}
 use mathlib.Core.List.{List, [], _∷_, _++_, map, append-assoc}
 use lib.Dec.{leb}
 use lib.ListN.{length, take, drop, length-append}
+use mir.Val.{Fits}
+use mir.Syntax.{w64}
 use borrow.Author.Tests.{le-leb, lt-leb}
 use Rattle.words.specs.Words.{Bytes, Words, pick, plain, word}
 use Rattle.format.specs.Book.{blockPart, book, entryPart, longestBook, mark, nodePart, numbers, trailer}
@@ -21,15 +23,19 @@ use Rattle.format.proofs.Book.{book-length, book-parts, nodes-length, records, 
 use Rattle.format.proofs.Groups.{table-empty}
 use Rattle.format.proofs.Spans.{table-few}
 use Rattle.answers.specs.Calls.{builtFrom, given, over, refused}
-use Rattle.numbers.proofs.Parts.{lent}
+use Rattle.numbers.proofs.Parts.{lent, over-length, part-length}
 use Rattle.records.specs.Lists.{names, words}
 use Rattle.records.proofs.Starts.{ready-rises, words-length}
 use Rattle.nodes.specs.Writing.{NodesPut}
 use Rattle.blocks.specs.Writing.{Surveyed}
 use Rattle.build.specs.Whole.{BuildAsk, Sized}
 
+-- a room with a part of it lent and filled
+abbrev pub put : Bytes → ℕ → ℕ → Bytes → Bytes
+put room from to x = take from room ++ (x ++ drop (to - from) (drop from room))
+
 module _ {s : Bytes} {n : ℕ} {lens steps : List ℕ} {k : ℕ} (a : BuildAsk s n lens steps k) where
-  pub nodes-few : {room : Bytes} {places m : ℕ} → NodesPut s room places m → m ≤ 4000
+  nodes-few : {room : Bytes} {places m : ℕ} → NodesPut s room places m → m ≤ 4000
   nodes-few {m = m} p = go (n) refl
     where
       go : (i : ℕ) → i ≡ n → m ≤ 4000
@@ -45,6 +51,15 @@ module _ {s : Bytes} {n : ℕ} {lens steps : List ℕ} {k : ℕ} (a : BuildAsk s
     whole = refl;
     few = omega (arith, t .small, t .few, nodes-few p);
   }
+
+  pub nodes-fit : {room : Bytes} {places m : ℕ} → NodesPut s room places m → Fits w64 (10 * m)
+  nodes-fit p = omega (arith, nodes-few p)
+
+  pub tables-fit : {room₀ room room₁ : Bytes} {places c e m : ℕ} → Surveyed s k room₀ room c e → NodesPut s room₁ places m → Fits w64 (e + 2 * c + 10 * m)
+  tables-fit t p = omega (arith, sizes-are t p .few)
+
+  pub book-fits : {room₀ room room₁ : Bytes} {places c e m : ℕ} → Surveyed s k room₀ room c e → NodesPut s room₁ places m → Fits w64 (e + 2 * c + 10 * m + 16)
+  book-fits t p = omega (arith, sizes-are t p .few)
 
   names-words : map (word plain) (names s) ≡ words s
   unfolding words
@@ -68,48 +83,72 @@ module _ {s : Bytes} {n : ℕ} {lens steps : List ℕ} {k : ℕ} (a : BuildAsk s
         six p q r t u = cc
 
     -- four parts, each from where the one before ended
-    module _ (room r₁ r₂ r₃ x y w v : Bytes) (big : total ≤ length room) (x-is : x ≡ entryPart k (names s)) (f : r₁ ≡ take 0 room ++ (x ++ drop (blocks - 0) (drop 0 room)))
-        (y-is : y ≡ blockPart k (names s)) (g : r₂ ≡ take blocks r₁ ++ (y ++ drop (nodes - blocks) (drop blocks r₁)))
-        (w-is : w ≡ nodePart (table (words s))) (h : r₃ ≡ take nodes r₂ ++ (w ++ drop (total - 16 - nodes) (drop nodes r₂)))
-        (v-is : v ≡ trailer n k blocks nodes count total) where
-      p₁ : r₁ ≡ over x room
-      p₁ = f ∙ lent [] room room x 0 (blocks - 0) refl refl (omega (arith, z .nodes-start, z .whole)) (ap length x-is ∙ omega (arith, z .blocks-start))
+    module _ (room x y : Bytes) {c e : ℕ} (big : total ≤ length room) (x-is : x ≡ entryPart k (names s))
+        (t : Surveyed s k (take (nodes - blocks) (drop blocks (put room 0 blocks x))) y c e) where
+      abbrev r₁ : Bytes
+      r₁ = put room 0 blocks x
+
+      abbrev r₂ : Bytes
+      r₂ = put r₁ blocks nodes y
 
       l₁ : length x ≡ blocks
       l₁ = ap length x-is ∙ sym (z .blocks-start)
 
+      p₁ : r₁ ≡ over x room
+      p₁ = lent [] room room x 0 (blocks - 0) refl refl (omega (arith, z .nodes-start, z .whole)) (omega (arith, l₁))
+
+      k₁ : length r₁ ≡ length room
+      k₁ = ap length p₁ ∙ over-length x room (omega (arith, l₁, z .nodes-start, z .whole))
+
+      y-is : y ≡ blockPart k (names s)
+      y-is = t .put (part-length r₁ blocks (nodes - blocks) (omega (arith, k₁, z .nodes-start, z .whole)) ∙ omega (arith, z .nodes-start, t .count-is))
+
       l₂ : length y ≡ nodes - blocks
       l₂ = ap length y-is ∙ omega (arith, z .nodes-start)
 
-      l₃ : length w ≡ total - 16 - nodes
-      l₃ = ap length w-is ∙ omega (arith, nodes-length (table (words s)), z .number, z .whole)
-
-      l₄ : length v ≡ 16
-      unfolding trailer numbers
-      l₄ = ap length v-is
-
       p₂ : r₂ ≡ over (x ++ y) room
-      p₂ = g ∙ lent x room r₁ y blocks (nodes - blocks) p₁ l₁ (omega (arith, z .nodes-start, z .whole)) l₂
+      p₂ = lent x room r₁ y blocks (nodes - blocks) p₁ l₁ (omega (arith, z .nodes-start, z .whole)) l₂
 
-      p₃ : r₃ ≡ over ((x ++ y) ++ w) room
-      p₃ = h ∙ lent (x ++ y) room r₂ w nodes (total - 16 - nodes) p₂ (length-append x y ∙ omega (arith, l₁, l₂, z .nodes-start)) (omega (arith, z .whole)) l₃
+      l₁₂ : length (x ++ y) ≡ nodes
+      l₁₂ = length-append x y ∙ omega (arith, l₁, l₂, z .nodes-start)
 
-      parts : ((x ++ y) ++ w) ++ v ≡ book plain k (names s)
-      parts =
-          let es : Bytes = entryPart k (names s) in
-          let bs : Bytes = blockPart k (names s) in
-          let ns : Bytes = nodePart (records plain k (names s)) in
-          let end : Bytes = numbers (trailerNumbers plain k (names s)) ++ mark in
-          let grouped : ((es ++ bs) ++ ns) ++ end ≡ es ++ (bs ++ (ns ++ end)) = simp append-assoc in
-          ap₂ (λ (i j : Bytes). ((i ++ y) ++ w) ++ j) x-is (v-is ∙ trailer-is)
-          ∙ ap₂ (λ (i j : Bytes). ((es ++ i) ++ j) ++ end) y-is (w-is ∙ ap (λ (ws : Words). nodePart (table ws)) (sym names-words))
-          ∙ grouped ∙ sym (book-parts plain k (names s))
+      pub nodes-part : length (take (total - 16 - nodes) (drop nodes (put (put room 0 blocks x) blocks nodes y))) ≡ 10 * count
+      nodes-part =
+          part-length r₂ nodes (total - 16 - nodes) (omega (arith, ap length p₂ ∙ over-length (x ++ y) room (omega (arith, l₁₂, z .whole)), z .whole)) ∙ omega (arith, z .whole)
 
-      pub book-lent : take (total - 16) r₃ ++ (v ++ drop (total - (total - 16)) (drop (total - 16) r₃)) ≡ over (book plain k (names s)) room
-      book-lent =
-          lent ((x ++ y) ++ w) room r₃ v (total - 16) (total - (total - 16)) p₃
-          (length-append (x ++ y) w ∙ omega (arith, length-append x y, l₁, l₂, l₃, z .nodes-start, z .whole)) (omega (arith, z .whole)) (l₄ ∙ omega (arith, z .whole))
-          ∙ ap (λ (i : Bytes). over i room) parts
+      module _ (w v : Bytes) {m : ℕ} (q : NodesPut s w count m) (v-is : v ≡ trailer n k blocks nodes count total) where
+        abbrev r₃ : Bytes
+        r₃ = put r₂ nodes (total - 16) w
+
+        w-is : w ≡ nodePart (table (words s))
+        w-is = q .put (z .number)
+
+        l₃ : length w ≡ total - 16 - nodes
+        l₃ = ap length w-is ∙ omega (arith, nodes-length (table (words s)), z .number, z .whole)
+
+        l₄ : length v ≡ 16
+        unfolding trailer numbers
+        l₄ = ap length v-is
+
+        p₃ : r₃ ≡ over ((x ++ y) ++ w) room
+        p₃ = lent (x ++ y) room r₂ w nodes (total - 16 - nodes) p₂ l₁₂ (omega (arith, z .whole)) l₃
+
+        parts : ((x ++ y) ++ w) ++ v ≡ book plain k (names s)
+        parts =
+            let es : Bytes = entryPart k (names s) in
+            let bs : Bytes = blockPart k (names s) in
+            let ns : Bytes = nodePart (records plain k (names s)) in
+            let end : Bytes = numbers (trailerNumbers plain k (names s)) ++ mark in
+            let grouped : ((es ++ bs) ++ ns) ++ end ≡ es ++ (bs ++ (ns ++ end)) = simp append-assoc in
+            ap₂ (λ (i j : Bytes). ((i ++ y) ++ w) ++ j) x-is (v-is ∙ trailer-is)
+            ∙ ap₂ (λ (i j : Bytes). ((es ++ i) ++ j) ++ end) y-is (w-is ∙ ap (λ (ws : Words). nodePart (table ws)) (sym names-words))
+            ∙ grouped ∙ sym (book-parts plain k (names s))
+
+        pub book-lent : put (put (put (put room 0 blocks x) blocks nodes y) nodes (total - 16) w) (total - 16) total v ≡ over (book plain k (names s)) room
+        book-lent =
+            lent ((x ++ y) ++ w) room r₃ v (total - 16) (total - (total - 16)) p₃ (length-append (x ++ y) w ∙ omega (arith, l₁₂, l₃, z .whole)) (omega (arith, z .whole))
+            (l₄ ∙ omega (arith, z .whole))
+            ∙ ap (λ (i : Bytes). over i room) parts
 
     -- ---- how it ends
 
