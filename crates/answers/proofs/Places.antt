@@ -150,19 +150,18 @@ place-le q (w ∷ ws) = go (less w q) (place-le q ws)
     go true h = omega arith
     go false h = omega arith
 
-not-same : (x y : List ℕ) → less x y ≡ true → same x y ≡ false
-not-same x y h = go (same x y) refl
+differ : (x y : List ℕ) → (x ≡ y → ⊥) → same x y ≡ false
+differ x y n = go (same x y) refl
   where
     go : (t : Bool) → same x y ≡ t → same x y ≡ false
     go false e = e
-    go true e = absurd (false≠true (sym (less-irrefl y) ∙ ap (λ (z : List ℕ). less z y) (sym (same-true x y e)) ∙ h))
+    go true e = absurd (n (same-true x y e))
+
+not-same : (x y : List ℕ) → less x y ≡ true → same x y ≡ false
+not-same x y h = differ x y (λ e. false≠true (sym (less-irrefl y) ∙ ap (λ (z : List ℕ). less z y) (sym e) ∙ h))
 
 not-same′ : (x y : List ℕ) → less y x ≡ true → same x y ≡ false
-not-same′ x y h = go (same x y) refl
-  where
-    go : (t : Bool) → same x y ≡ t → same x y ≡ false
-    go false e = e
-    go true e = absurd (false≠true (sym (less-irrefl y) ∙ ap (less y) (sym (same-true x y e)) ∙ h))
+not-same′ x y h = differ x y (λ e. false≠true (sym (less-irrefl y) ∙ ap (less y) (sym e) ∙ h))
 
 exact-none : (i : ℕ) (q : List ℕ) (ws : Words) → Above q ws → exactFrom i q ws ≡ (0, 0)
 unfolding exactFrom

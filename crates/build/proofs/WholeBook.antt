@@ -76,7 +76,9 @@ module _ {s : Bytes} {n : ℕ} {lens steps : List ℕ} {k : ℕ} (a : BuildAsk s
     trailer-is : trailer n k blocks nodes count total ≡ numbers (trailerNumbers plain k (names s)) ++ mark
     unfolding trailer
     trailer-is =
-        ap (λ (l : List ℕ). numbers l ++ mark) (six (a .ready .total) (z .blocks-start) (omega (arith, z .nodes-start, z .blocks-start)) (z .number ∙ ap (λ (ws : Words). length (table ws)) (sym names-words)) (omega (arith, trailer-at, z .whole)))
+        ap (λ (l : List ℕ). numbers l ++ mark)
+        (six (a .ready .total) (z .blocks-start) (omega (arith, z .nodes-start, z .blocks-start))
+        (z .number ∙ ap (λ (ws : Words). length (table ws)) (sym names-words)) (omega (arith, trailer-at, z .whole)))
       where
         six : {a₁ a₂ b₁ b₂ c₁ c₂ d₁ d₂ e₁ e₂ : ℕ} → a₁ ≡ a₂ → b₁ ≡ b₂ → c₁ ≡ c₂ → d₁ ≡ d₂ → e₁ ≡ e₂
             → _≡_ {A = List ℕ} (a₁ ∷ k ∷ b₁ ∷ c₁ ∷ d₁ ∷ e₁ ∷ []) (a₂ ∷ k ∷ b₂ ∷ c₂ ∷ d₂ ∷ e₂ ∷ [])

@@ -2,7 +2,7 @@
 --     part                       so many bytes of a list, from one place on
 --     AboveAt                    a name is above another, with which it shares so many bytes
 --     ReadUpTo                   so many names are read, and noted: reading-start
---     StandsAt, Next             the next record begins here, with this length
+--     StandsAt, stands-at        the next record begins here, with this length
 --     Comparing                  it is of good length, and its name agrees with the last so far: comparing-start, byte-same
 --     NewAbove                   its name is above the last: old-ends, byte-above; reading-more
 --     good-list                  how a list is judged that reads well
@@ -162,9 +162,6 @@ pub record Comparing (s : Bytes) (lens steps : List ℕ) (o p m n len i : ℕ) :
   pub agree : i ≤ shared (part s p m) (part s (o + 1) len)
 
 module _ {s : Bytes} {lens steps : List ℕ} {o p m n : ℕ} where
-  abbrev pub Next : ReadUpTo s lens steps o p m n → ℕ → Type 0
-  Next r len = StandsAt s lens steps o p m n len
-
   abbrev pub NewAbove : {len i : ℕ} → Comparing s lens steps o p m n len i → Type 0
   NewAbove {len} {i} k = AboveAt (part s p m) (part s (o + 1) len) i
 

@@ -6,4 +6,4 @@ use Rattle.accept.proofs.check_book.Statement.{statement}
 use Rattle.accept.proofs.check_book.Tie as tie
 
 pub check-book-spec : {M : Type 1} → statement M
-check-book-spec = tie.close (tie.spec (λ c κs. search needs) (λ c κs. search (needs, trail-passes)) (λ c. search needs) (λ c. search (needs, trail-fails)))
+check-book-spec = tie.close (tie.spec (λ c κs. search needs) (λ c κs. search trail-passes) (λ c. search needs) (λ c. search trail-fails))

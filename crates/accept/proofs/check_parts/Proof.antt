@@ -7,7 +7,8 @@ use Rattle.accept.proofs.check_parts.Tie as tie
 
 -- the four numbers are read
 asked : (c : tie.After-number-at4)
-    → Asked (c .before .before .before .before .before .args .book .now) (c .before .before .before .number-at .result) (c .before .before .number-at2 .result) (c .before .number-at3 .result) (c .number-at4 .result)
+    → Asked (c .before .before .before .before .before .args .book .now)
+    (c .before .before .before .number-at .result) (c .before .before .number-at2 .result) (c .before .number-at3 .result) (c .number-at4 .result)
 asked c = search needs
 
 check-table-requires : tie.Need-check-table-requires
@@ -33,7 +34,7 @@ check-parts-spec =
     (λ c κs. search needs)
     (λ c. search needs)
     (λ c κs. search (needs, walk-ask, zeros))
-    (λ c. search (needs, entries-fail))
+    (λ c. search entries-fail)
     (λ c. search needs)
     check-table-requires
     returns-2

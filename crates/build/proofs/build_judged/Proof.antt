@@ -8,4 +8,4 @@ use Rattle.build.proofs.build_judged.Tie as tie
 pub build-judged-spec : {M : Type 1} → statement M
 build-judged-spec =
     tie.close
-    (tie.spec (λ c κs. search needs) (λ c. search (needs, ends-nine)) (λ c. search (needs, ends-four)) (λ c κs. search needs) (λ c. search needs) (λ c. search (needs, ends-done)))
+    (tie.spec (λ c κs. search needs) (λ c. search ends-nine) (λ c. search ends-four) (λ c κs. search needs) (λ c. search needs) (λ c. search ends-done))

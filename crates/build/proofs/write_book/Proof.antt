@@ -7,14 +7,19 @@ use Rattle.build.proofs.write_book.Tie as tie
 
 write-nodes-requires : tie.Need-write-nodes-requires
 write-nodes-requires c κs =
-    let start : tie.Start = c .before .before .before .before .before .before .before .before .before .before .before .before .before in
-    (search needs, nodes-part (start .pre .0) (start .pre .1 .0) _ _ _ (start .pre .1 .1) (c .before .before .before .before .before .before .before .write-entries .ensures) (c .before .before .before .write-table .ensures))
+    let start : tie.Start = c .before .before .before .before .before .before .before .before .before .before .before .before .before in (
+      search needs,
+      nodes-part (start .pre .0) (start .pre .1 .0) _ _ _ (start .pre .1 .1)
+          (c .before .before .before .before .before .before .before .write-entries .ensures) (c .before .before .before .write-table .ensures),
+    )
 
 returns : tie.Need-returns
 returns c =
     let start : tie.Start = c .before .before .before .before .before .before .before .before .before .before .before .before .before .before .before .before .before .before .before .before in
     book-lent (start .pre .0) (start .pre .1 .0) _ _ _ (start .pre .1 .1)
-    (c .before .before .before .before .before .before .before .before .before .before .before .before .before .before .write-entries .ensures) (c .before .before .before .before .before .before .before .before .before .before .write-table .ensures) _ _ (c .before .before .before .before .before .before .write-nodes .ensures) (c .before .before .put-trailer .ensures)
+    (c .before .before .before .before .before .before .before .before .before .before .before .before .before .before .write-entries .ensures)
+    (c .before .before .before .before .before .before .before .before .before .before .write-table .ensures) _ _
+    (c .before .before .before .before .before .before .write-nodes .ensures) (c .before .before .put-trailer .ensures)
 
 pub write-book-spec : {M : Type 1} → statement M
 write-book-spec =

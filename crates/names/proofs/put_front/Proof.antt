@@ -1,6 +1,5 @@
 -- `names::put_front` meets its contract. The loop's invariant is `Fronted`: i of the bytes are written. The measure is what is left.
 -- Assumes nothing.
-use borrow.Author.Needs.{needs}
 use Prim.Native.Nat.{_-_}
 use native.Mathlib.Omega.{arith}
 use lib.ListN.{length}
@@ -28,6 +27,6 @@ put-front-spec =
     (λ c. omega arith)
     (λ c. omega arith)
     (λ c. omega arith)
-    (λ c. search (needs, fronted-more))
+    (λ c. search fronted-more)
     (λ c. omega arith)
-    (λ c. search (needs, fronted-all)))
+    (λ c. search fronted-all))

@@ -10,10 +10,10 @@ put-name-spec =
     tie.close
     (tie.spec
     (λ c κs. search needs)
-    (λ c. search (needs, put-short))
+    (λ c. search put-short)
     (λ c. search needs)
     (λ c. search needs)
     (λ c. search needs)
     (λ c κs. search needs)
     (λ c. search needs)
-    (λ c. search (needs, front-is, put-all)))
+    (λ c. search (front-is, put-all)))

@@ -34,4 +34,4 @@ read-name-spec =
     (λ c. omega (arith, here (c .before)))
     sub-name-of
     name-of-requires
-    (λ c. search (needs, found, found-name)))
+    (λ c. search (found, found-name)))

@@ -34,6 +34,6 @@ put-numbers-spec =
     (λ c κs. omega arith)
     (λ c. omega arith)
     (λ c. omega arith)
-    (λ c. search (needs, numbered-more))
+    (λ c. search numbered-more)
     (λ c. omega arith)
-    (λ c. search (needs, numbered-all)))
+    (λ c. search numbered-all))
