@@ -14,9 +14,6 @@ Inv-loop list from c rest part₀ i₀ part i = Copying list from c rest part₀
 abbrev μ-loop : tie.MeasureT-loop
 μ-loop list from c rest part₀ i₀ part i = rest - i
 
-slice-write-part-2 : tie.Need-slice-write-part-2 Inv-loop μ-loop
-slice-write-part-2 c = simp length-set (omega arith)
-
 pub write-entry-spec : {M : Type 1} → statement M
 write-entry-spec =
     tie.close
@@ -26,7 +23,7 @@ write-entry-spec =
     (λ c. omega arith)
     (λ c. omega arith)
     (λ c. omega arith)
-    slice-write-part-2
+    (λ c. simp length-set (omega arith))
     (λ c. search copying-start)
     (λ c. omega arith)
     (λ c. omega arith)

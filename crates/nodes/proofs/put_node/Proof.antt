@@ -8,36 +8,6 @@ use borrow.Author.Needs.{needs}
 use Rattle.nodes.proofs.put_node.Statement.{statement}
 use Rattle.nodes.proofs.put_node.Tie as tie
 
-slice-write-part-2 : tie.Need-slice-write-part-2
-slice-write-part-2 c = simp length-set (omega arith)
-
-slice-write-part-3 : tie.Need-slice-write-part-3
-slice-write-part-3 c = simp length-set (omega arith)
-
-slice-write-part-4 : tie.Need-slice-write-part-4
-slice-write-part-4 c = simp length-set (omega arith)
-
-slice-write-part-5 : tie.Need-slice-write-part-5
-slice-write-part-5 c = simp length-set (omega arith)
-
-slice-write-part-6 : tie.Need-slice-write-part-6
-slice-write-part-6 c = simp length-set (omega arith)
-
-slice-write-part-7 : tie.Need-slice-write-part-7
-slice-write-part-7 c = simp length-set (omega arith)
-
-slice-write-part-8 : tie.Need-slice-write-part-8
-slice-write-part-8 c = simp length-set (omega arith)
-
-slice-write-part-9 : tie.Need-slice-write-part-9
-slice-write-part-9 c = simp length-set (omega arith)
-
-slice-write-part-10 : tie.Need-slice-write-part-10
-slice-write-part-10 c = simp length-set (omega arith)
-
-same-length : tie.Need-same-length
-same-length c = simp length-set
-
 returns : tie.Need-returns
 returns c =
     ten-stored (c .args .part .now) _ _ _ _ _ _ _ _ _ _ (search needs) ∙ sym (five-numbers _ _ _ _ _)
@@ -49,22 +19,22 @@ put-node-spec =
     (λ c. search needs)
     (λ c. search needs)
     (λ c. search needs)
-    slice-write-part-2
+    (λ c. simp length-set (omega arith))
     (λ c. search needs)
-    slice-write-part-3
+    (λ c. simp length-set (omega arith))
     (λ c. search needs)
-    slice-write-part-4
+    (λ c. simp length-set (omega arith))
     (λ c. search needs)
-    slice-write-part-5
+    (λ c. simp length-set (omega arith))
     (λ c. search needs)
-    slice-write-part-6
+    (λ c. simp length-set (omega arith))
     (λ c. search needs)
-    slice-write-part-7
+    (λ c. simp length-set (omega arith))
     (λ c. search needs)
-    slice-write-part-8
+    (λ c. simp length-set (omega arith))
     (λ c. search needs)
-    slice-write-part-9
+    (λ c. simp length-set (omega arith))
     (λ c. search needs)
-    slice-write-part-10
-    same-length
+    (λ c. simp length-set (omega arith))
+    (λ c. simp length-set)
     returns)

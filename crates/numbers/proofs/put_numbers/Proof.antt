@@ -14,16 +14,13 @@ Inv-loop part₀ ns i₀ part i = Numbered ns part₀ part i
 abbrev μ-loop : tie.MeasureT-loop
 μ-loop part₀ ns i₀ part i = length ns - i
 
-loop-holds : tie.Need-loop-holds Inv-loop μ-loop
-loop-holds c = numbered-none _ _ (search needs)
-
 pub put-numbers-spec : {M : Type 1} → statement M
 put-numbers-spec =
     tie.close
     (tie.spec
     Inv-loop
     μ-loop
-    loop-holds
+    (λ c. numbered-none _ _ (search needs))
     (λ c. omega arith)
     (λ c. omega arith)
     (λ c. search needs)

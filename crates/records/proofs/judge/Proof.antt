@@ -22,9 +22,6 @@ Inv-records list lens₀ steps₀ at₀ prev₀ before₀ n₀ lens steps at pre
 abbrev μ-records : tie.MeasureT-records
 μ-records list lens₀ steps₀ at₀ prev₀ before₀ n₀ lens steps at prev before n = length list - at
 
-bytes-less : tie.Need-bytes-less Inv-bytes μ-bytes Inv-records μ-records
-bytes-less c = falls _ _ (omega arith)
-
 -- the comparison was left by either `break 'bytes`
 parted : (c : tie.Joined6 Inv-bytes μ-bytes Inv-records μ-records) → law.NewAbove (c .before .before .bytes .inv)
 parted c = ⊎-elim
@@ -60,7 +57,7 @@ judge-spec =
     (λ c. omega arith)
     (λ c. omega arith)
     (λ c. omega arith)
-    bytes-less
+    (λ c. falls _ _ (omega arith))
     (λ c. search law.byte-same)
     (λ c. omega arith)
     (λ c. omega arith)

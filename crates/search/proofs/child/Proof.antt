@@ -6,9 +6,6 @@ use Rattle.search.proofs.Ways.{go-down, stay-end, stay-leaf, stay-other
 use Rattle.search.proofs.child.Statement.{statement}
 use Rattle.search.proofs.child.Tie as tie
 
-symbol-of-requires : tie.Need-symbol-of-requires
-symbol-of-requires c κs = record { searchable = search needs; inside = omega arith }
-
 pub child-spec : {M : Type 1} → statement M
 child-spec =
     tie.close
@@ -22,6 +19,6 @@ child-spec =
     (λ c κs. search needs)
     (λ c. omega arith)
     (λ c. search stay-end)
-    symbol-of-requires
+    (λ c κs. record { searchable = search needs; inside = omega arith })
     (λ c. search stay-other)
     (λ c. search go-down))

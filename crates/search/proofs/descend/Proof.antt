@@ -19,9 +19,6 @@ abbrev μ-loop : tie.MeasureT-loop
 room : (c : tie.After-known-told Inv-loop μ-loop) → c .before .before .before .before .loop .n < 202
 room c = search go-further
 
-array-write-path : tie.Need-array-write-path Inv-loop μ-loop
-array-write-path c = room c
-
 pub descend-spec : {M : Type 1} → statement M
 descend-spec =
     tie.close
@@ -33,7 +30,7 @@ descend-spec =
     (λ c. search needs)
     (λ c. search (go-small, way-down))
     (λ c. omega (arith, room c))
-    array-write-path
+    (λ c. room c)
     (λ c. omega (arith, room c))
     (λ c. omega (arith, room c))
     (λ c. search (go-on, way-down))

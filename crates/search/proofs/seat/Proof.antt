@@ -6,9 +6,6 @@ use Rattle.search.proofs.Spots.{seat-after, seat-before, seat-child, se
 use Rattle.search.proofs.seat.Statement.{statement}
 use Rattle.search.proofs.seat.Tie as tie
 
-first-of-requires-2 : tie.Need-first-of-requires-2
-first-of-requires-2 c κs = record { searchable = search needs; inside = omega arith }
-
 pub seat-spec : {M : Type 1} → statement M
 seat-spec =
     tie.close
@@ -23,6 +20,6 @@ seat-spec =
     (λ c κs. search seat-fork)
     (λ c κs. search needs)
     (λ c. omega arith)
-    first-of-requires-2
+    (λ c κs. record { searchable = search needs; inside = omega arith })
     (λ c. search seat-child)
     (λ c. search seat-end))

@@ -11,9 +11,6 @@ use Rattle.search.proofs.symbol_at.Tie as tie
 returns : tie.Need-returns
 returns c = ap (λ (b : ℕ). b + 1) (c .wide .ensures .0) ∙ symbol-in _ _ (omega arith)
 
-returns-2 : tie.Need-returns-2
-returns-2 c = symbol-past _ _ (omega arith)
-
 pub symbol-at-spec : {M : Type 1} → statement M
 symbol-at-spec =
-    tie.close (tie.spec (λ c. search needs) (λ c κs. search needs) (λ c. search needs) returns returns-2)
+    tie.close (tie.spec (λ c. search needs) (λ c κs. search needs) (λ c. search needs) returns (λ c. symbol-past _ _ (omega arith)))
