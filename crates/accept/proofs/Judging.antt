@@ -11,8 +11,6 @@ use mathlib.Core.Path.{_≡_, _∙_, ap, ap₂, refl, sym}
 use mathlib.Core.Bool.{Bool, false, not, true}
 use mathlib.Core.List.{[]}
 use lib.ListN.{getD, length, length-replicate, replicate}
-use mir.Val.{Fits}
-use mir.Syntax.{w8}
 use Rattle.words.specs.Words.{Bytes, InBytes, plain}
 use Rattle.words.proofs.Words.{false≠true}
 use Rattle.format.specs.Book.{Book, NoBook, Opened, opened, trailerSize}
@@ -21,6 +19,7 @@ use Rattle.streams.specs.Streams.{namesOf}
 use Rattle.streams.proofs.Walks.{has-known, has-names, has-steps}
 use Rattle.entries.specs.Judging.{WalkSays}
 use Rattle.inspect.specs.Check.{TableAsk, isTable}
+use Rattle.numbers.proofs.Parts.{Held, held-bytes}
 use Rattle.accept.specs.Parts.{Parts, Trail, TrailSays, checkedOf, told, toldNames}
 use Rattle.accept.proofs.Opens.{has-at, opened-parts, parts-opened}
 use Rattle.accept.specs.declared.Checked.the-variants.{Sound, Unsound}
@@ -100,11 +99,11 @@ module _ (b : Bytes) (n k s u : ℕ) (a : Asked b n k s u) where
   table-fails true h = absurd (false≠true h)
   table-fails false h = λ q. unsound b (λ p. false≠true (q ∙ ap (λ (x : ℕ). isTable b x (length b - trailerSize)) (a .nodes) ∙ p .nodes))
 
-  pub all-pass : ((i : ℕ) → Fits w8 (getD b i 0)) → (r : Bool) (steps : Bytes) → not r ≡ false → WalkSays b k s u n r steps → (q : Bool) → not q ≡ false
+  pub all-pass : Held b → (r : Bool) (steps : Bytes) → not r ≡ false → WalkSays b k s u n r steps → (q : Bool) → not q ≡ false
       → q ≡ isTable b u (length b - trailerSize) → Sound n k ≡ checkedOf (opened plain b)
-  all-pass bytes false steps h says q g t = absurd (false≠true (sym h))
-  all-pass bytes true steps h says false g t = absurd (false≠true (sym g))
-  all-pass bytes true steps h says true g t =
+  all-pass held false steps h says q g t = absurd (false≠true (sym h))
+  all-pass held true steps h says false g t = absurd (false≠true (sym g))
+  all-pass held true steps h says true g t =
       let has = says .0 in
       let p : Parts b = record {
         trail = a .trail;
@@ -113,7 +112,7 @@ module _ (b : Bytes) (n k s u : ℕ) (a : Asked b n k s u) where
       } in
       let e : namesOf b ≡ has .names = has-names b k s u n inside has (omega (arith, a .trail .low, a .block)) (sym (a .table)) in
       let c : n ≡ length (namesOf b) = sym (ap length e ∙ has .count) in
-      ap₂ Sound c (a .block) ∙ ap checkedOf (sym (parts-opened b (λ i. omega (arith, bytes i)) p))
+      ap₂ Sound c (a .block) ∙ ap checkedOf (sym (parts-opened b (held-bytes b held) p))
 
 -- what an accepting answer says
 pub record SoundBook (b : Bytes) (n k : ℕ) : Type 0 where

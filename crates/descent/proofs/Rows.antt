@@ -1,5 +1,5 @@
 -- Nodes and rows of the flat table.
---     Told, told       what the record says where the table of a span stands
+--     NodeTold, told       what the record says where the table of a span stands
 --     seated           that is then a node
 --     root-sits        the root
 --     sits-..          a node's depth, its number, its size
@@ -42,7 +42,7 @@ headed (y ∷ t) (suc v) x rest e =
 
 module _ (ws : Words) where
   -- the record of a node of the names from lo up to hi, with what stands behind it
-  pub record Told (v lo hi led : ℕ) (behind : List Node) : Type 0 where
+  pub record NodeTold (v lo hi led : ℕ) (behind : List Node) : Type 0 where
     pub inside : v < length (table ws)
     pub first : node ws v .first ≡ lo
     pub names : node ws v .names ≡ hi - lo
@@ -55,11 +55,11 @@ module _ (ws : Words) where
     pub size : suc lo < hi → v + 1 + length (rowTable lo (deep ws lo hi) (span ws lo hi)) ≡ v + node ws v .nodes
 
   pub told : (v lo hi led : ℕ) (behind : List Node) → Rises ws → lo < hi → hi ≤ length ws
-      → drop v (table ws) ≡ nodeTable lo led (span ws lo hi) ++ behind → Told v lo hi led behind
+      → drop v (table ws) ≡ nodeTable lo led (span ws lo hi) ++ behind → NodeTold v lo hi led behind
   unfolding node
   told v lo hi led behind r a b e = go (eq-or-lt-of-le a)
     where
-      go : (suc lo ≡ hi) ⊎ (suc lo < hi) → Told v lo hi led behind
+      go : (suc lo ≡ hi) ⊎ (suc lo < hi) → NodeTold v lo hi led behind
       go (inl k) =
           let t : nodeTable lo led (span ws lo hi) ≡ leaf lo led (nth ws lo) ∷ [] =
           ap (λ (j : ℕ). nodeTable lo led (span ws lo j)) (sym k) ∙ table-one ws led lo (omega arith) in
@@ -130,7 +130,7 @@ module _ (ws : Words) where
       (table-root ws ∙ ap (nodeTable 0 0) (sym (take-length ws)) ∙ sym (append-nil (nodeTable 0 0 (span ws 0 (length ws)))))
 
   module _ (r : Rises ws) where
-    pub sits-told : {v : ℕ} → (s : Sits ws v) → Told v (from ws v) (upto ws v) (node ws v .symbol) (s .behind)
+    pub sits-told : {v : ℕ} → (s : Sits ws v) → NodeTold v (from ws v) (upto ws v) (node ws v .symbol) (s .behind)
     sits-told {v} s = told v (from ws v) (upto ws v) (node ws v .symbol) (s .behind) r (s .some) (s .within) (s .stands)
 
     -- a node whose record does not say one name has several

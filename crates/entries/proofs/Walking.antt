@@ -17,6 +17,7 @@ use mir.Syntax.{w8}
 use Rattle.words.specs.Words.{Bytes, shared}
 use Rattle.words.proofs.Words.{false≠true, shared-le}
 use Rattle.format.specs.Book.{number}
+use Rattle.numbers.proofs.Parts.{Held, held-bytes}
 use Rattle.streams.specs.Streams.{nameAt}
 use Rattle.streams.specs.Runs.{Frame, endOf}
 use Rattle.streams.proofs.Walks.{Walked, walked-bad, walked-done, walked-more, walked-past, walked-place, walked-room, walked-short, walked-start, walked-table, walked-told}
@@ -33,10 +34,10 @@ pub record Walking (b : Bytes) (k s u n t o : ℕ) (name : Bytes) (len i : ℕ) 
   pub walked : Walked b k s u n t o (take len name) i (n - i) steps
 
 module _ (b : Bytes) (k s u n : ℕ) (steps₀ : Bytes) where
-  pub walking-start : Frame b k s u → ((i : ℕ) → Fits w8 (getD b i 0)) → n ≤ length steps₀ → Blank steps₀ → Walking b k s u n s 0 (replicate 200 0) 0 0 steps₀ steps₀
-  walking-start a bytes row blank =
+  pub walking-start : Frame b k s u → Held b → n ≤ length steps₀ → Blank steps₀ → Walking b k s u n s 0 (replicate 200 0) 0 0 steps₀ steps₀
+  walking-start a held row blank =
       let e : n ≡ n - 0 = omega arith in
-      let w = walked-start b k s u n steps₀ a (λ i. omega (arith, bytes i)) row blank in
+      let w = walked-start b k s u n steps₀ a (held-bytes b held) row blank in
       record {
         size = length-replicate {A = ℕ} 200 0;
         room = omega arith;

@@ -13,8 +13,8 @@ use lib.Seq.{drop-cons, getD-take, getD-drop}
 use Rattle.words.specs.Words.{Bytes, at, nth, plain, word}
 use Rattle.words.proofs.Rising.{nth-word}
 use Rattle.words.proofs.Words.{at-past, word-at}
-use Rattle.streams.specs.Streams.{EntryAt, Known, Stream, entry, entryEnd, nameAt, namesOf, place, placeFrom, prevOf, wordsOf}
-use Rattle.streams.proofs.Places.{place-next, stream-at}
+use Rattle.streams.specs.Streams.{EntryAt, Known, Stream, entry, entryEnd, nameAt, namesOf, offsetAt, offsetFrom, prevOf, wordsOf}
+use Rattle.streams.proofs.Places.{offset-next, stream-at}
 use Rattle.inspect.specs.Check.{Here, restAt}
 
 -- ---- words
@@ -58,7 +58,7 @@ module _ (b : Bytes) (i a : ℕ) (k : Known b) (h : Here b i a) (l : i < length 
   comes =
       let s = stream-at b (namesOf b) i (k .stream) (omega arith) in
       subst (λ (o : ℕ). Comes b o (prevOf (namesOf b) i) (getD (namesOf b) i [])) (sym h)
-      (stream-comes (subst (Stream b (place b i) (prevOf (namesOf b) i)) (drop-cons (namesOf b) i [] l) s))
+      (stream-comes (subst (Stream b (offsetAt b i) (prevOf (namesOf b) i)) (drop-cons (namesOf b) i [] l) s))
 
   pub here-fits : entryEnd b a ≤ length b
   here-fits = comes .stands .fits
@@ -79,8 +79,8 @@ module _ (b : Bytes) (i a : ℕ) (k : Known b) (h : Here b i a) (l : i < length 
       ∙ omega (arith, front-length, length-take (getD b (a + 1) 0) (drop (a + 2) b), length-drop (a + 2) b, here-fits))
 
 pub here-next : (b : Bytes) (i a : ℕ) → Here b i a → Here b (suc i) (entryEnd b a)
-here-next b i a h = ap (entryEnd b) h ∙ sym (place-next b i)
+here-next b i a h = ap (entryEnd b) h ∙ sym (offset-next b i)
 
 pub first-low : (b : Bytes) → Known b → 0 < length (namesOf b) → getD b 0 0 ≡ 0
-unfolding placeFrom
+unfolding offsetFrom
 first-low b k l = omega (arith, (comes b 0 0 k refl l) .stands .shares)

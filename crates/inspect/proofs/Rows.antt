@@ -12,7 +12,7 @@ use lib.ListN.{length, getD}
 use Rattle.words.specs.Words.{Bytes, at, nth, plain, shared, word}
 use Rattle.words.proofs.Words.{false≠true}
 use Rattle.format.specs.Book.{nodeSize, number}
-use Rattle.streams.specs.Streams.{Known, Steps, entryEnd, namesOf, place, wordsOf}
+use Rattle.streams.specs.Streams.{Known, Steps, entryEnd, namesOf, offsetAt, wordsOf}
 use Rattle.standing.specs.Stands.{Child, GroupAt, NodeAt}
 use Rattle.standing.proofs.Walk.{Ahead, Walk, node-head, walk-done, walk-more, walk-next, walk-start}
 use Rattle.inspect.specs.declared.Seen.{Seen}
@@ -165,7 +165,7 @@ module _ (b steps : Bytes) (lo₀ n d o₀ : ℕ) where
             met : u ≡ shared (nth (wordsOf b) (pred (lo + x))) (nth (wordsOf b) (lo + x))
             met =
                 ue ∙ ap (λ (q : ℕ). getD b q 0 + getD steps (lo + x) 0) moved
-                ∙ subst (λ (i : ℕ). getD b (place b i) 0 + getD steps i 0 ≡ shared (nth (wordsOf b) (pred (lo + x))) (nth (wordsOf b) i)) back
+                ∙ subst (λ (i : ℕ). getD b (offsetAt b i) 0 + getD steps i 0 ≡ shared (nth (wordsOf b) (pred (lo + x))) (nth (wordsOf b) i)) back
                 (r .told .told (pred (lo + x)) (omega (arith, back, inside)))
 
             pub rows-parted : (u ≡ d → ⊥) → Refused

@@ -24,7 +24,7 @@ use Rattle.format.proofs.Groups.{table-root}
 use Rattle.format.proofs.Numbers.{bytes-all, take-bytes, word-high}
 use Rattle.format.proofs.Small.{Modest, table-small}
 use Rattle.numbers.proofs.Parts.{Held, held-bytes}
-use Rattle.streams.specs.Streams.{Stream, done, entry, namesOf, placeFrom, wordsOf}
+use Rattle.streams.specs.Streams.{Stream, done, entry, namesOf, offsetFrom, wordsOf}
 use Rattle.standing.specs.Stands.{NodeAt, Stands}
 use Rattle.standing.proofs.Bytes.{bytes-stand, stands-bytes}
 use Rattle.standing.proofs.Records.{stands-end}
@@ -120,7 +120,7 @@ module _ (b steps : Bytes) (start end n : ℕ) (t : TableAsk b steps start end n
       go m k = omega arith
 
   here : Here b 0 0
-  unfolding placeFrom
+  unfolding offsetFrom
   here = refl
 
   module _ (room : 10 ≤ end - start) where

@@ -17,7 +17,7 @@ use lib.Seq.{slice}
 use Rattle.words.specs.Words.{Bytes, same}
 use Rattle.format.specs.Book.{nodePart, nodeSize, number}
 use Rattle.format.specs.Nodes.{Node, table}
-use Rattle.streams.specs.Streams.{Known, Steps, namesOf, place, wordsOf}
+use Rattle.streams.specs.Streams.{Known, Steps, namesOf, offsetAt, wordsOf}
 use Rattle.standing.specs.Stands.{GroupAt, NodeAt, recordAt}
 use Rattle.inspect.specs.declared.Seen.{Seen}
 use Rattle.inspect.specs.declared.Seen.the-variants.{Bad, To}
@@ -26,7 +26,7 @@ abbrev pub restAt : Bytes → ℕ → Bytes
 restAt b a = take (getD b (a + 1) 0) (drop (a + 2) b)
 
 abbrev pub Here : Bytes → ℕ → ℕ → Type 0
-Here b i a = a ≡ place b i
+Here b i a = a ≡ offsetAt b i
 
 -- the length of the name of the entry at a
 abbrev pub lengthAt : Bytes → ℕ → ℕ

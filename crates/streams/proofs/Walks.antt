@@ -27,7 +27,7 @@ use Rattle.format.specs.Book.{entryPart, longestBook, number, trailerSize}
 use Rattle.format.specs.Entries.{front}
 use Rattle.format.specs.Records.{longest, mostNames, sound}
 use Rattle.streams.specs.Runs.{Frame, Has, Rest, Run, RunTo, Step, Told, done, endOf, lastOf, more}
-use Rattle.streams.specs.Streams.{EntryAt, Known, Steps, entryEnd, nameAt, namesOf, place, placeFrom, prevOf}
+use Rattle.streams.specs.Streams.{EntryAt, Known, Steps, entryEnd, nameAt, namesOf, offsetAt, offsetFrom, prevOf}
 use Rattle.streams.proofs.Blocks.{FirstBlock, none-rest, rest-first, rest-join, rest-none}
 use Rattle.streams.proofs.Fronts.{both-are, run-unique}
 use Rattle.streams.proofs.Places.{block-end, prev-last, told-block, told-start, told-steps}
@@ -287,7 +287,7 @@ same-last b e o m l j h g = sym (h .last) ∙ ap (lastOf []) (run-unique b e o [
 pub record Seen (b : Bytes) (k s u t o : ℕ) (prev steps : Bytes) (xs : List Bytes) (i : ℕ) : Type 0 where
   pub rest : Rest b k s u t o prev (drop i xs)
   pub before : prevOf xs i ≡ prev
-  pub here : place b i ≡ o
+  pub here : offsetAt b i ≡ o
   pub told : Told b steps xs i
 
 pub record Walked (b : Bytes) (k s u n t o : ℕ) (prev : Bytes) (i left : ℕ) (steps : Bytes) : Type 0 where
@@ -343,7 +343,7 @@ rest-passed b k s u left t o prev ask lo lt some (x ∷ xs) n r =
 
 module _ (b : Bytes) (k s u n : ℕ) where
   pub walked-start : (steps : Bytes) → Frame b k s u → InBytes b → n ≤ length steps → ((j : ℕ) → getD steps j 0 ≡ 0) → Walked b k s u n s 0 [] 0 n steps
-  unfolding placeFrom
+  unfolding offsetFrom
   walked-start steps a bytes row z = record {
     ask = a;
     bytes = bytes;

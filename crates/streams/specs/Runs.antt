@@ -15,7 +15,7 @@ use Rattle.words.specs.Words.{Bytes, pick, plain, shared}
 use Rattle.format.specs.Book.{entryPart, longestBook, number, numbers}
 use Rattle.format.specs.Entries.{blocks, offsets}
 use Rattle.format.specs.Records.{longest, rising}
-use Rattle.streams.specs.Streams.{entryEnd, nameAt, place, prevOf}
+use Rattle.streams.specs.Streams.{entryEnd, nameAt, offsetAt, prevOf}
 
 -- `above` is both: the count is the greatest possible, and the name is above the one before
 pub record Step (b : Bytes) (o e : ℕ) (prev : Bytes) : Type 0 where
@@ -64,5 +64,5 @@ abbrev pub endOf : Bytes → ℕ → ℕ → ℕ → ℕ → ℕ
 endOf b k s t left = pick (leb left k) s (number b (t + 2))
 
 pub record Told (b steps : Bytes) (xs : List Bytes) (i : ℕ) : Type 0 where
-  pub before : (j : ℕ) → j < i → getD b (place b j) 0 + getD steps j 0 ≡ shared (prevOf xs j) (getD xs j [])
+  pub before : (j : ℕ) → j < i → getD b (offsetAt b j) 0 + getD steps j 0 ≡ shared (prevOf xs j) (getD xs j [])
   pub behind : (j : ℕ) → i ≤ j → getD steps j 0 ≡ 0

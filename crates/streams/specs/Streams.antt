@@ -1,7 +1,7 @@
 -- The entries of a book as they stand in its bytes, one after the other from the front on.
 --     nameAt            the name of the entry at an offset, after a name
 --     EntryAt, Stream   an entry stands there; the entries of names stand there, after a name
---     place             where entry number i stands
+--     offsetAt          where entry number i stands
 --     prevOf            the name before name i, and none before the first
 --     namesOf, wordsOf  the names that `opened` reads, and their words
 --     Known             what a walk over the entries has shown of them
@@ -36,12 +36,12 @@ pub data Stream (b : Bytes) : ℕ → Bytes → List Bytes → Type 0 where
       → Stream b (entryEnd b o) x xs → Stream b o prev (x ∷ xs)
 
 -- entry number i after the one at o
-unfoldable pub placeFrom : Bytes → ℕ → ℕ → ℕ
-placeFrom b o zero = o
-placeFrom b o (suc i) = placeFrom b (entryEnd b o) i
+unfoldable pub offsetFrom : Bytes → ℕ → ℕ → ℕ
+offsetFrom b o zero = o
+offsetFrom b o (suc i) = offsetFrom b (entryEnd b o) i
 
-abbrev pub place : Bytes → ℕ → ℕ
-place b i = placeFrom b 0 i
+abbrev pub offsetAt : Bytes → ℕ → ℕ
+offsetAt b i = offsetFrom b 0 i
 
 abbrev pub prevOf : List Bytes → ℕ → Bytes
 prevOf xs zero = []
@@ -62,4 +62,4 @@ pub record Known (b : Bytes) : Type 0 where
 pub record Steps (b steps : Bytes) : Type 0 where
   pub size : length (namesOf b) ≤ length steps
   pub told : (i : ℕ) → suc i < length (namesOf b)
-      → getD b (place b (suc i)) 0 + getD steps (suc i) 0 ≡ shared (nth (wordsOf b) i) (nth (wordsOf b) (suc i))
+      → getD b (offsetAt b (suc i)) 0 + getD steps (suc i) 0 ≡ shared (nth (wordsOf b) i) (nth (wordsOf b) (suc i))

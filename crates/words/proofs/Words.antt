@@ -1,7 +1,7 @@
 -- Laws of words: what two words share, and their order. They hold of any lists of numbers, and where `Positive` is asked, of those
 -- without the end symbol in them, as every rule's words are.
 --     sides, apart              how two numbers stand to each other
---     word-positive, word-injective, shared-word; plain-lawful, plain-injective
+--     word-positive, shared-word; plain-lawful, plain-injective
 --     shared-self, -comm, -le, -at, -trans, -more, -parts; take-shared
 --     word-at                   a byte's symbol
 --     at-past, at-end           past the last symbol stands the end symbol, and nowhere else
@@ -249,17 +249,7 @@ less-extends [] [] p h = absurd (not-suc-le-zero h)
 less-extends [] (b ∷ y) p h = less-start b y ∙ lt-ltb 0 b (p .0)
 less-extends (a ∷ x) y p h = less-same a a x (x ++ y) refl ∙ less-extends x y p h
 
--- a rule that gives different bytes different symbols tells names apart
-pub word-injective : (ρ : Rule) → ((a b : ℕ) → ρ a ≡ ρ b → a ≡ b) → (s t : Bytes) → word ρ s ≡ word ρ t → s ≡ t
-word-injective ρ inj [] [] e = refl
-word-injective ρ inj [] (b ∷ t) e = absurd (let z : _≡_ {A = ℕ} 0 1 = cc in omega arith)
-word-injective ρ inj (a ∷ s) [] e = absurd (let z : _≡_ {A = ℕ} 0 1 = cc in omega arith)
-word-injective ρ inj (a ∷ s) (b ∷ t) e =
-    let h : ρ a ≡ ρ b = cc in
-    let k : word ρ s ≡ word ρ t = cc in
-    ap₂ (λ (c : ℕ) (z : List ℕ). c ∷ z) (inj a b h) (word-injective ρ inj s t k)
-
--- and then two names share as many bytes as their words do symbols
+-- under a rule that gives different bytes different symbols two names share as many bytes as their words do symbols
 pub shared-word : (ρ : Rule) → ((a b : ℕ) → ρ a ≡ ρ b → a ≡ b) → (s t : Bytes) → shared (word ρ s) (word ρ t) ≡ shared s t
 unfolding shared
 shared-word ρ inj [] t = refl
