@@ -22,7 +22,7 @@ use Rattle.shapes.specs.Shapes.{answered, rowOf}
 use Rattle.shapes.specs.declared.Answer.{Answer}
 use Rattle.shapes.specs.declared.Row.{Row}
 use Rattle.shapes.proofs.Shapes.{answerOf}
-use Rattle.questions.specs.Answers.{Accepted, openingOf, takesRows}
+use Rattle.questions.specs.Asking.{Accepted, openingOf, takesRows}
 use Rattle.questions.specs.declared.Opening.{Opening}
 use Rattle.book.specs.Answers.{batched}
 

@@ -10,7 +10,7 @@ use mathlib.Core.Path.{_≡_, refl, sym, ap, _∙_, subst}
 use mathlib.Core.Bool.{Bool, true, false, not}
 use mathlib.Core.List.{[]}
 use lib.Dec.{eqb}
-use lib.ListN.{getD, length, replicate, set, take, length-replicate, length-set, length-take}
+use lib.ListN.{length, replicate, set, take, length-replicate, length-set, length-take}
 use borrow.Author.Tests.{eqb-false, eqb-true}
 use mir.Val.{Fits}
 use mir.Syntax.{w8}

@@ -28,7 +28,7 @@ use Rattle.accept.proofs.Judging.{SoundBook, sound-book}
 use Rattle.search.specs.Asks.{KindAsk}
 use Rattle.shapes.specs.Shapes.{answered}
 use Rattle.shapes.specs.declared.Answer.{Answer}
-use Rattle.questions.specs.Answers.{Asking, KindNumber}
+use Rattle.questions.specs.Asking.{Asking, KindNumber}
 use Rattle.questions.proofs.Checks.{checked-sound, no-book}
 
 pub ask-unsound : (kind : ℕ) (b q : Bytes) (r : Answer) → answered r ≡ refused 2 → (v : Checked) → v ≡ checkedOf (opened plain b) → v ≡ Unsound

@@ -21,7 +21,7 @@ use Rattle.accept.specs.declared.Checked.the-variants.{Sound, Unsound}
 use Rattle.shapes.specs.Shapes.{answered}
 use Rattle.shapes.specs.declared.Answer.{Answer}
 use Rattle.shapes.proofs.Shapes.{answerOf}
-use Rattle.questions.specs.Answers.{closedBy, openingOf, takesRows}
+use Rattle.questions.specs.Asking.{closedBy, openingOf, takesRows}
 use Rattle.questions.specs.declared.Opening.{Opening}
 use Rattle.questions.proofs.Checks.{no-book}
 

@@ -7,7 +7,7 @@ ghost use Rattle.words.specs.Words.{plain};
 ghost use Rattle.format.specs.Book.{opened};
 ghost use Rattle.answers.specs.Calls.{question as askedOf, rowAnswer};
 ghost use Rattle.shapes.specs.Shapes.{answered, rowOf};
-ghost use Rattle.questions.specs.Answers.{Accepted, Asking, KindNumber, closedBy, openingOf, takesRows};
+ghost use Rattle.questions.specs.Asking.{Accepted, Asking, KindNumber, closedBy, openingOf, takesRows};
 
 // A question of a kind from 1 to 4 to a book of n names in blocks of k that the check has accepted: whoever has many questions checks
 // once. Refusals: 1, 10.

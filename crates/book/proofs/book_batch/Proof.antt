@@ -66,7 +66,7 @@ use Rattle.shapes.proofs.Row as R
 use Rattle.shapes.proofs.Row.Laws as R′
 use Rattle.shapes.proofs.Answer as P
 use Rattle.shapes.proofs.Answer.Laws as P′
-use Rattle.questions.specs.Answers.{Accepted}
+use Rattle.questions.specs.Asking.{Accepted}
 use Rattle.questions.specs.declared.Opening.{Opening}
 use Rattle.questions.proofs.Opening as O
 use Rattle.questions.proofs.Opening.Laws as O′
