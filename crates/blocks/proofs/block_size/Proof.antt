@@ -1,4 +1,4 @@
--- `build::block_size` meets its contract. The loop's invariant is `Sizing`: the names before i are counted. The measure is what is left of the block.
+-- `blocks::block_size` meets its contract. The loop's invariant is `Sizing`: the names before i are counted. The measure is what is left of the block.
 -- Assumes nothing.
 use Prim.Native.Nat.{_-_, _≤_}
 use native.Mathlib.Omega.{arith}

@@ -1,4 +1,4 @@
--- `build::count_of` meets its contract.
+-- `blocks::count_of` meets its contract.
 -- Assumes nothing.
 use Rattle.blocks.proofs.Writing.{stored-same, stored-other}
 use borrow.Author.Needs.{needs}

@@ -1,4 +1,4 @@
--- `build::put_number` meets its contract.
+-- `blocks::put_number` meets its contract.
 -- Assumes nothing.
 use Rattle.blocks.proofs.Walk.{number-not, number-more}
 use borrow.Author.Needs.{needs}

@@ -1,4 +1,4 @@
--- `build::write_block` meets its contract. The loop's invariant is `Filling`: the names before i are written. The measure is what is left of the block.
+-- `blocks::write_block` meets its contract. The loop's invariant is `Filling`: the names before i are written. The measure is what is left of the block.
 -- Assumes nothing.
 use Prim.Native.Nat.{_-_, _≤_}
 use native.Mathlib.Omega.{arith}

@@ -1,4 +1,4 @@
--- `build::write_entries` meets its contract. The loop's invariant is `Entered`: the blocks before lo are written. The measure is what is left of the names.
+-- `blocks::write_entries` meets its contract. The loop's invariant is `Entered`: the blocks before lo are written. The measure is what is left of the names.
 -- Assumes nothing.
 use Prim.Native.Nat.{_-_}
 use native.Mathlib.Omega.{arith}

@@ -1,4 +1,4 @@
--- `build::write_entry` meets its contract. The loop's invariant is `Copying`: the two counts and i bytes of the rest are written. The measure is what is left.
+-- `blocks::write_entry` meets its contract. The loop's invariant is `Copying`: the two counts and i bytes of the rest are written. The measure is what is left.
 -- Assumes nothing.
 use borrow.Author.Needs.{needs}
 use Prim.Native.Nat.{_-_}

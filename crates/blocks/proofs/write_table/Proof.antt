@@ -1,4 +1,4 @@
--- `build::write_table` meets its contract. The loop's invariant is `Tabled`: where the blocks before lo begin is noted. The measure is what is left of the names.
+-- `blocks::write_table` meets its contract. The loop's invariant is `Tabled`: where the blocks before lo begin is noted. The measure is what is left of the names.
 -- Assumes nothing.
 use Prim.Native.Nat.{_-_}
 use native.Mathlib.Omega.{arith}

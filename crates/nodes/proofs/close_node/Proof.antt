@@ -1,4 +1,4 @@
--- `build::close_node` meets its contract: the bounds and the record in front are laws of the open nodes.
+-- `nodes::close_node` meets its contract: the bounds and the record in front are laws of the open nodes.
 -- Assumes nothing.
 use Rattle.nodes.proofs.Writing.{closing-some, closing-end, closing-mark, closing-more}
 use borrow.Author.Needs.{needs}

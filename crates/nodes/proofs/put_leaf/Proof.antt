@@ -1,4 +1,4 @@
--- `build::put_leaf` meets its contract: one law says what the record in front leaves.
+-- `nodes::put_leaf` meets its contract: one law says what the record in front leaves.
 -- Assumes nothing.
 use Rattle.nodes.proofs.Writing.{leaf-closing}
 use borrow.Author.Needs.{needs}

@@ -1,4 +1,4 @@
--- `build::write_name` meets its contract. The loop's invariant is `Shutting`: what its callees give, and which frame is on top; the measure is the number of the top frame.
+-- `nodes::write_name` meets its contract. The loop's invariant is `Shutting`: what its callees give, and which frame is on top; the measure is the number of the top frame.
 -- Assumes nothing.
 use native.Mathlib.Omega.{arith}
 use borrow.Author.Needs.{needs}

@@ -1,4 +1,4 @@
--- `build::write_nodes` meets its contract. The loop's invariant is `Rowing`: the names from j on are written. The measure is j.
+-- `nodes::write_nodes` meets its contract. The loop's invariant is `Rowing`: the names from j on are written. The measure is j.
 -- Assumes nothing.
 use native.Mathlib.Omega.{arith}
 use borrow.Author.Needs.{needs}
