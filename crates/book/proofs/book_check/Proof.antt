@@ -14,5 +14,5 @@ book-check-spec =
     (λ c. search needs)
     (λ c κs. search needs)
     (λ c. search needs)
-    (λ c. search (needs, check-unsound))
-    (λ c. search (needs, check-sound)))
+    (λ c. search check-unsound)
+    (λ c. search check-sound))

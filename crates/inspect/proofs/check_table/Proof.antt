@@ -9,15 +9,15 @@ pub check-table-spec : {M : Type 1} → statement M
 check-table-spec =
     tie.close
     (tie.spec
-    (λ c. search (needs, law.table-nothing))
+    (λ c. search law.table-nothing)
     (λ c. search needs)
-    (λ c. search (needs, law.table-short))
+    (λ c. search law.table-short)
     (λ c. search needs)
-    (λ c. search (needs, law.table-long))
+    (λ c. search law.table-long)
     (λ c κs. search needs)
-    (λ c. search (needs, law.table-leaf))
-    (λ c κs. search (needs, law.table-asks))
+    (λ c. search law.table-leaf)
+    (λ c κs. search law.table-asks)
     (λ c. search needs)
     (λ c. search needs)
-    (λ c. search (needs, law.table-said))
-    (λ c. search (needs, law.table-unlike)))
+    (λ c. search law.table-said)
+    (λ c. search law.table-unlike))

@@ -11,12 +11,12 @@ may-be-child-spec =
     tie.close
     (tie.spec
     (λ c. search needs)
-    (λ c. search (needs, child-short))
+    (λ c. search child-short)
     (λ c. search needs)
     (λ c κs. search needs)
-    (λ c. search (needs, child-none))
-    (λ c. search (needs, child-whole))
-    (λ c. search (needs, child-over))
+    (λ c. search child-none)
+    (λ c. search child-whole)
+    (λ c. search child-over)
     (λ c. child-lone _ _ _ _ _ (omega arith) (omega arith) (omega arith) (omega arith))
     (λ c. search needs)
     (λ c κs. search needs)

@@ -6,10 +6,10 @@ use Rattle.inspect.proofs.symbol_of.Statement.{statement}
 use Rattle.inspect.proofs.symbol_of.Tie as tie
 
 returns : tie.Need-returns
-returns c = search (needs, symbol-in)
+returns c = search symbol-in
 
 returns-2 : tie.Need-returns-2
-returns-2 c = search (needs, symbol-none)
+returns-2 c = search symbol-none
 
 pub symbol-of-spec : {M : Type 1} → statement M
 symbol-of-spec =

@@ -10,10 +10,10 @@ ask-spec =
     tie.close
     (tie.spec
     (λ c κs. search needs)
-    (λ c. search (needs, ask-long))
+    (λ c. search ask-long)
     (λ c κs. search needs)
-    (λ c. search (needs, nearest-none))
+    (λ c. search nearest-none)
     (λ c κs. search needs)
-    (λ c. search (needs, ask-none))
-    (λ c κs. search (needs, askable))
-    (λ c. search (needs, ask-some)))
+    (λ c. search ask-none)
+    (λ c κs. search askable)
+    (λ c. search ask-some))

@@ -14,6 +14,6 @@ ask-alone-spec =
     (λ c. search needs)
     (λ c κs. search needs)
     (λ c. search needs)
-    (λ c κs. search (needs, check-sound))
-    (λ c. search (needs, ask-unsound))
+    (λ c κs. search check-sound)
+    (λ c. search ask-unsound)
     (λ c. search needs))

@@ -10,4 +10,4 @@ closed-spec =
     tie.close
     (tie.spec
     (λ c κs. search needs)
-    (λ c. search (needs, closed-is)))
+    (λ c. search closed-is))

@@ -18,5 +18,5 @@ open-batch-spec =
     (λ c. search needs)
     (λ c κs. search needs)
     (λ c. search needs)
-    (λ c. search (needs, unsound-opens))
-    (λ c. search (needs, sound-opens)))
+    (λ c. search unsound-opens)
+    (λ c. search sound-opens))
