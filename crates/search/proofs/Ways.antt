@@ -74,14 +74,13 @@ module _ (b q : Bytes) {v : ℕ} (r : Rises (wordsIn plain b)) (z : Sits (wordsI
         pub stay-other : (u ≡ t → ⊥) → Halts (wordsIn plain b) (asked plain q) v
         stay-other o = halt-other (wordsIn plain b) r (asked plain q) z (λ i. n (xe ∙ i)) long sought (omega arith) (λ j. o (ue ∙ j ∙ sym symbol))
 
-        went-down : u ≡ t → Taken (wordsIn plain b) (asked plain q) v c
-        went-down j = taken (wordsIn plain b) r (asked plain q) z (λ i. n (xe ∙ i)) long sought (omega arith) (sym ue ∙ j ∙ symbol)
-
--- the same with the premises in the order in which a search finds them
+-- its premises stand in the order in which a search finds them, not in the section's
 pub go-down : (b q : Bytes) {v x d t c y u : ℕ} → Sought (wordsIn plain b) v t c → u ≡ t → (x ≡ 1 → ⊥) → d ≤ length q → c < v + y → t ≡ at (asked plain q) d
     → u ≡ node (wordsIn plain b) c .symbol → d ≡ node (wordsIn plain b) v .depth → x ≡ node (wordsIn plain b) v .names → y ≡ node (wordsIn plain b) v .nodes
     → Rises (wordsIn plain b) → Sits (wordsIn plain b) v → Taken (wordsIn plain b) (asked plain q) v c
-go-down b q k j n h g e ue de xe ye r z = went-down b q r z xe n de h e k ye g ue j
+go-down b q k j n h g e ue de xe ye r z =
+    taken (wordsIn plain b) r (asked plain q) z (λ i. n (xe ∙ i)) (long b q r z xe n de h e k ye) (sought b q r z xe n de h e k ye) (omega arith)
+    (sym ue ∙ j ∙ symbol b q r z xe n de h e k ye)
 
 -- ---- `descend`
 
