@@ -2,6 +2,7 @@
 --     words-count, words-nth                    the names' words
 --     symbol-in, symbol-none                    ways out of `symbol_of`
 --     here-fits, here-symbol, here-length       the entry of name i: it ends inside, its name's symbol number d, its name's length
+--     name-short                                a name's length
 --     here-next, first-low                      the next name's entry; the first one stores 0
 -- Assumes nothing.
 use Prim.Native.Nat.{ℕ, suc, _+_, _-_, _≤_, _<_}
@@ -13,6 +14,7 @@ use lib.Seq.{drop-cons, getD-take, getD-drop}
 use Rattle.words.specs.Words.{Bytes, at, nth, plain, word}
 use Rattle.words.proofs.Rising.{nth-word}
 use Rattle.words.proofs.Words.{at-past, word-at}
+use Rattle.format.specs.Records.{longest}
 use Rattle.streams.specs.Streams.{EntryAt, Known, Stream, entry, entryEnd, nameAt, namesOf, offsetAt, offsetFrom, prevOf, wordsOf}
 use Rattle.streams.proofs.Places.{offset-next, stream-at}
 use Rattle.inspect.specs.Check.{Here, restAt}
@@ -77,6 +79,9 @@ module _ (b : Bytes) (i a : ℕ) (k : Known b) (h : Here b i a) (l : i < length 
       sym (ap length (words-nth b i) ∙ length-map (getD (namesOf b) i []) plain ∙ ap length (sym (comes .named))
       ∙ length-append (take (getD b a 0) (prevOf (namesOf b) i)) (restAt b a)
       ∙ omega (arith, front-length, length-take (getD b (a + 1) 0) (drop (a + 2) b), length-drop (a + 2) b, here-fits))
+
+pub name-short : (b : Bytes) (i : ℕ) → Known b → i < length (namesOf b) → length (nth (wordsOf b) i) ≤ longest
+name-short b i k l = omega (arith, here-length b i (offsetAt b i) k refl l, (comes b i (offsetAt b i) k refl l) .stands .short)
 
 pub here-next : (b : Bytes) (i a : ℕ) → Here b i a → Here b (suc i) (entryEnd b a)
 here-next b i a h = ap (entryEnd b) h ∙ sym (offset-next b i)

@@ -1,6 +1,6 @@
 -- A leaf's record, and a child's, by their fields.
 --     leaf-symbol, leaf-depth, leaf-first, leaf-names, leaf-nodes     ways out of `is_leaf`
---     child-short, child-none, child-whole, child-over, child-lone, child-deeper    ways out of `may_be_child`
+--     child-short, child-none, child-whole, child-over, child-lone, child-deep, child-deeper    ways out of `may_be_child`
 -- Assumes nothing.
 use Prim.Native.Nat.{ℕ, suc, _+_, _-_, _≤_, _<_}
 use native.Mathlib.Nat.{lt-irrefl}
@@ -57,12 +57,15 @@ module _ (b : Bytes) (o n d left : ℕ) where
     child-over h k = lt-irrefl left (omega (arith, k .upto))
 
   pub child-lone : o + 10 ≤ length b → number b (o + 6) < n → number b (o + 6) ≤ left → number b (o + 6) ≡ 1 → ChildSays b o n d left true
-  child-lone room proper upto one = record { room = room; some = omega arith; proper = proper; upto = upto; below = λ h. absurd (lt-irrefl 1 (omega arith)) }
+  child-lone room proper upto one = record { room = room; some = omega arith; proper = proper; upto = upto; below = λ h. absurd (lt-irrefl 1 (omega arith)); shallow = λ h. absurd (lt-irrefl 1 (omega arith)) }
+
+  pub child-deep : 1 < number b (o + 6) → (y : ℕ) → y ≡ number b (o + 2) → 200 ≤ y → ChildSays b o n d left false
+  child-deep many y ye h k = lt-irrefl 200 (omega (arith, k .shallow many))
 
   pub child-deeper : o + 10 ≤ length b → 1 < number b (o + 6) → number b (o + 6) < n → number b (o + 6) ≤ left
-      → (y : ℕ) → y ≡ number b (o + 2) → ChildSays b o n d left (leb (suc d) y)
-  child-deeper room many proper upto y ye = go (leb (suc d) y) refl
+      → (y : ℕ) → y ≡ number b (o + 2) → y < 200 → ChildSays b o n d left (leb (suc d) y)
+  child-deeper room many proper upto y ye low = go (leb (suc d) y) refl
     where
       go : (t : Bool) → leb (suc d) y ≡ t → ChildSays b o n d left t
-      go true q = record { room = room; some = omega arith; proper = proper; upto = upto; below = λ h. omega (arith, leb-true (suc d) y q) }
+      go true q = record { room = room; some = omega arith; proper = proper; upto = upto; below = λ h. omega (arith, leb-true (suc d) y q); shallow = λ h. omega arith }
       go false q = λ k. lt-irrefl d (omega (arith, k .below many, leb-false (suc d) y q))

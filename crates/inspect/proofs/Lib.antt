@@ -2,5 +2,6 @@
 pub mod Fields
 pub mod Entry
 pub mod Nodes
+pub mod Nesting
 pub mod Rows
 pub mod Table

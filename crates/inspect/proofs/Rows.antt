@@ -12,14 +12,15 @@ use lib.ListN.{length, getD}
 use Rattle.words.specs.Words.{Bytes, at, nth, plain, shared, word}
 use Rattle.words.proofs.Words.{false≠true}
 use Rattle.format.specs.Book.{nodeSize, number}
+use Rattle.format.specs.Records.{longest}
 use Rattle.streams.specs.Streams.{Known, Steps, entryEnd, namesOf, offsetAt, wordsOf}
 use Rattle.standing.specs.Stands.{Child, GroupAt, NodeAt}
-use Rattle.standing.proofs.Walk.{Ahead, Walk, node-head, walk-done, walk-more, walk-next, walk-start}
+use Rattle.standing.proofs.Walk.{Ahead, Walk, deep-short, node-head, walk-done, walk-more, walk-next, walk-start}
 use Rattle.inspect.specs.declared.Seen.{Seen}
 use Rattle.inspect.specs.declared.Seen.the-variants.{Bad, To}
 use Rattle.inspect.specs.Check.{Ask, ChildSays, Here, LeafSays, MayBeChild, NodeAsk, NodeSays, RowAsk, RowSays, lengthAt, restAt}
 use Rattle.inspect.proofs.Nodes.{leaf-stands, leaf-unlike}
-use Rattle.inspect.proofs.Entry.{here-fits, here-next, here-symbol, words-count}
+use Rattle.inspect.proofs.Entry.{here-fits, here-next, here-symbol, name-short, words-count}
 
 pub record Rows (b steps : Bytes) (lo₀ n d o₀ o lo a : ℕ) : Type 0 where
   pub known : Known b
@@ -83,7 +84,15 @@ module _ (b steps : Bytes) (lo₀ n d o₀ : ℕ) where
       rows-unlike true k h e g = false≠true h
       rows-unlike false never h e g =
           let k = next r e g in
-          never (record { room = k .room; some = k .some; proper = omega (arith, k .proper); upto = k .upto; below = k .below })
+          never (record { room = k .room; some = k .some; proper = omega (arith, k .proper); upto = k .upto; below = k .below; shallow = shallow k })
+        where
+          -- several words share less than any name can have
+          shallow : Ahead b (wordsOf b) lo₀ (lo₀ + n) d lo o → 1 < number b (o + 6) → number b (o + 2) < longest
+          shallow k many =
+              let end : lo + number b (o + 6) ≤ length (wordsOf b) = omega (arith, fit r, k .upto, r .upto) in
+              let hd = node-head b (wordsOf b) (r .known .rises) _ lo (lo + number b (o + 6)) o (k .end) (omega (arith, k .some)) end (k .node) in
+              let short : length (nth (wordsOf b) (pred (lo + number b (o + 6)))) ≤ longest = name-short b (pred (lo + number b (o + 6))) (r .known) (omega (arith, end, words-count b)) in
+              omega (arith, hd .depth (omega arith), deep-short (wordsOf b) (r .known .rises) lo (lo + number b (o + 6)) longest (omega arith) end short)
 
       -- the record may be a child's, and x is the number of names that it tells
       module _ (k : MayBeChild b o n d (lo₀ + n - lo)) (x : ℕ) (xe : x ≡ number b (o + 6)) where

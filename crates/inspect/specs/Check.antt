@@ -17,6 +17,7 @@ use lib.Seq.{slice}
 use Rattle.words.specs.Words.{Bytes, same}
 use Rattle.format.specs.Book.{nodePart, nodeSize, number}
 use Rattle.format.specs.Nodes.{Node, table}
+use Rattle.format.specs.Records.{longest}
 use Rattle.streams.specs.Streams.{Known, Steps, namesOf, offsetAt, wordsOf}
 use Rattle.standing.specs.Stands.{GroupAt, NodeAt, recordAt}
 use Rattle.inspect.specs.declared.Seen.{Seen}
@@ -45,12 +46,14 @@ LeafSays b o lo s len false = recordAt b o ≡ leafOf lo s len → ⊥
 -- ---- nodes and rows
 
 -- the record at o fits, and has some of the `left` names that are left of a row of n, not all n; if several, a depth greater than the row's
+-- and less than any name's length can be
 pub record MayBeChild (b : Bytes) (o n d left : ℕ) : Type 0 where
   pub room : o + nodeSize ≤ length b
   pub some : 1 ≤ number b (o + 6)
   pub proper : number b (o + 6) < n
   pub upto : number b (o + 6) ≤ left
   pub below : 1 < number b (o + 6) → d < number b (o + 2)
+  pub shallow : 1 < number b (o + 6) → number b (o + 2) < longest
 
 abbrev pub ChildSays : Bytes → ℕ → ℕ → ℕ → ℕ → Bool → Type 0
 ChildSays b o n d left true = MayBeChild b o n d left

@@ -79,7 +79,8 @@ fn meet(book: &[u8], steps: &[u8], a: usize, i: usize) -> usize
 }
 
 // Whether the record at an offset can be a child's, in the row of a node of depth d and n names of which `left` are left: it fits, its
-// names are some of those left, and not all n, and if they are several, its depth is greater.
+// names are some of those left, and not all n, and if they are several, its depth is greater and below 200: two different names share no
+// more than 199 symbols. So depths bound how far nodes nest, whatever the bytes.
 fn may_be_child(book: &[u8], o: usize, n: usize, d: usize, left: usize) -> bool
     requires { ⌜ nodeSize ≤ length (now book) ⌝ }
     ensures { λ r. ⌜ ChildSays (now (book .entry)) o n d left r ⌝ }
@@ -100,7 +101,11 @@ fn may_be_child(book: &[u8], o: usize, n: usize, d: usize, left: usize) -> bool
     if names == 1 {
         return true;
     }
-    d < numbers::number_at(book, o + 2)
+    let depth = numbers::number_at(book, o + 2);
+    if 200 <= depth {
+        return false;
+    }
+    d < depth
 }
 
 // The node at an offset, of the n names from number lo on, of which there are several, the first one's entry at a, to which s led: its

@@ -6,6 +6,7 @@
 --     walk-done            the last child, which is not the whole group: the group's row stands
 --     Ahead, walk-next      what has to stand at o if the group's row stands: each test of the code is one of its fields
 --     group-end            a row ends at one place
+--     deep-short           several words share less than their greatest length
 -- Assumes nothing.
 use Prim.Native.Nat.{ℕ, suc, _+_, _-_, _*_, pred, _≤_, _<_}
 use native.Mathlib.Nat.{lt-irrefl, eq-or-lt-of-le}
@@ -14,7 +15,8 @@ use mathlib.Core.Path.{_≡_, refl, sym, ap, _∙_, subst}
 use mathlib.Core.Logic.{_⊎_, inl, inr}
 use lib.ListN.{length}
 use Rattle.words.specs.Words.{Bytes, Rises, Words, at, nth, shared, span}
-use Rattle.words.proofs.Words.{shared-comm, shared-le}
+use Rattle.words.proofs.Rising.{nth-less}
+use Rattle.words.proofs.Words.{less-short, shared-comm, shared-le}
 use Rattle.format.specs.Book.{number}
 use Rattle.format.specs.Nodes.{Node, deep, nodeTable, rowTable}
 use Rattle.format.proofs.Spans.{span-share}
@@ -51,6 +53,10 @@ pub record Ahead (b : Bytes) (ws : Words) (lo₀ hi d lo o : ℕ) : Type 0 where
 -- a row ends at one place
 pub group-end : (b : Bytes) (ws : Words) (lo hi d o e f : ℕ) → GroupAt b ws lo hi d o e → GroupAt b ws lo hi d o f → e ≡ f
 group-end b ws lo hi d o e f g h = stands-end b (rowTable lo d (span ws lo hi)) o e (g .stands) ∙ sym (stands-end b (rowTable lo d (span ws lo hi)) o f (h .stands))
+
+pub deep-short : (ws : Words) → Rises ws → (lo hi n : ℕ) → suc lo < hi → hi ≤ length ws → length (nth ws (pred hi)) ≤ n → deep ws lo hi < n
+unfolding deep
+deep-short ws r lo hi n a l h = omega (arith, less-short (nth ws lo) (nth ws (pred hi)) (nth-less ws lo (pred hi) r (omega arith) (omega arith)))
 
 module _ (b : Bytes) (ws : Words) (r : Rises ws) where
   pub node-head : (s lo hi o e : ℕ) → lo < hi → hi ≤ length ws → NodeAt b ws lo hi s o e → Head b ws lo hi o e

@@ -1,6 +1,7 @@
--- `inspect::check_node` and `inspect::check_row` meet their contracts, in one cycle: a node's names are those of its row, and a child
--- has fewer, so twice the names, and one more for a node, is the measure. The loop over a row has the invariant `Rows`, and the
--- names that are left are its measure. Each way through is a law of proofs/Nodes.antt or proofs/Rows.antt.
+-- `inspect::check_node` and `inspect::check_row` meet their contracts, in one cycle: a node's names and depth are those of its row, and a
+-- child has fewer names and a greater depth, so the lesser of the names and of the depths that are left falls: twice that, and one more
+-- for a node, is the measure (proofs/Nesting.antt). The loop over a row has the invariant `Rows`, and the names that are left are its
+-- measure. Each way through is a law of proofs/Nodes.antt or proofs/Rows.antt.
 -- Assumes nothing.
 use Prim.Native.Nat.{ℕ, _*_, _+_, _-_, _<_}
 use native.Mathlib.Omega.{arith}
@@ -8,7 +9,9 @@ use mathlib.Core.Logic.{⊎-elim}
 use borrow.Author.Needs.{needs}
 use borrow.Fn.Kinds.{In}
 use borrow.Fn.PlainCycle.{Measures, is, falls, and}
+use Rattle.format.specs.Book.{number}
 use Rattle.inspect.specs.Check.{MayBeChild}
+use Rattle.inspect.proofs.Nesting.{child-falls, levelsLeft}
 use Rattle.inspect.proofs.Nodes as node
 use Rattle.inspect.proofs.Rows as law
 use Rattle.inspect.proofs.Rows.{Rows, Turn}
@@ -28,10 +31,10 @@ use Rattle.inspect.proofs.+check_node+check_row.{statement}
 use Rattle.inspect.proofs.+check_node+check_row.Tie.{close}
 
 abbrev μ-check-node : Measures 2 check-node-kinds.ps ℕ
-μ-check-node κs a = 2 * a .1 .1 .1 .1 .0 + 1
+μ-check-node κs a = 2 * levelsLeft (a .1 .1 .1 .1 .0) (number (a .0 .now) (a .1 .1 .0 + 2)) + 1
 
 abbrev μ-check-row : Measures 2 check-row-kinds.ps ℕ
-μ-check-row κs a = 2 * a .1 .1 .1 .1 .0
+μ-check-row κs a = 2 * levelsLeft (a .1 .1 .1 .1 .0) (a .1 .1 .1 .1 .1 .0)
 
 abbrev check-node-at : ℕ → In 2 check-node-kinds.ps
 check-node-at t =
@@ -120,7 +123,7 @@ pub +check-node+check-row-spec : {M : Type 1} → statement M
     (λ c κs. omega (arith, like t (c .before .before .before)))
     (λ c. search (law.rows-no-leaf, law.child-like))
     (λ c. omega (arith, like t (c .before .before .before .before .before)))
-    (λ c κs. (omega (arith, like t (c .before .before .before)), search (law.rows-asks, law.child-like)))
+    (λ c κs. (child-falls (like t (c .before .before .before)) (c .before .before .number-at .ensures .0) (c .if2 .left) (c .before .before .before .before .before .before .before .before .pre .0), search (law.rows-asks, law.child-like)))
     (λ c. search needs)
     (λ c. search needs)
     (λ c. search (law.rows-node, law.child-like))

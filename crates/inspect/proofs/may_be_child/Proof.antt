@@ -2,7 +2,7 @@
 -- Assumes nothing.
 use native.Mathlib.Omega.{arith}
 use borrow.Author.Needs.{needs}
-use Rattle.inspect.proofs.Fields.{child-short, child-none, child-whole, child-over, child-lone, child-deeper}
+use Rattle.inspect.proofs.Fields.{child-short, child-none, child-whole, child-over, child-lone, child-deep, child-deeper}
 use Rattle.inspect.proofs.may_be_child.Statement.{statement}
 use Rattle.inspect.proofs.may_be_child.Tie as tie
 
@@ -20,4 +20,5 @@ may-be-child-spec =
     (λ c. child-lone _ _ _ _ _ (omega arith) (omega arith) (omega arith) (omega arith))
     (λ c. search needs)
     (λ c κs. search needs)
-    (λ c. child-deeper _ _ _ _ _ (omega arith) (omega arith) (omega arith) (omega arith) _ (c .number-at2 .ensures .0)))
+    (λ c. child-deep _ _ _ _ _ (omega arith) _ (c .before .number-at2 .ensures .0) (omega arith))
+    (λ c. child-deeper _ _ _ _ _ (omega arith) (omega arith) (omega arith) (omega arith) _ (c .before .number-at2 .ensures .0) (omega arith)))
