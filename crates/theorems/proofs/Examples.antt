@@ -1,13 +1,18 @@
--- Document 01's examples, computed: the two books byte for byte, and the twelve rows marked P.
+-- Document 01's examples, computed: the two books byte for byte, and the twelve rows marked P, asked of the book's 85 bytes.
 --     example-books, example-lengths, example-rows
 -- Assumes nothing.
-use mathlib.Core.Path.{_≡_}
+use mathlib.Core.Path.{_≡_, refl}
 use mathlib.Core.List.{[], _∷_, map}
 use lib.ListN.{length}
-use Rattle.words.specs.Words.{Bytes, plain}
-use Rattle.format.specs.Book.{book}
-use Rattle.format.proofs.Example.{book-lengths, book80, book85, books, example}
-use Rattle.answers.proofs.Example.{Marked, all-marked, got, marked}
+use Rattle.words.specs.Words.{Bytes, begins, less, plain, same, shared}
+use Rattle.format.specs.Book.{allFields, blockPart, book, entryPart, fits, joined, nodePart, number, numbers, opened, trailer}
+use Rattle.format.specs.Entries.{blocks, blocksFrom, decode, decodeFrom, entry, front, offsets}
+use Rattle.format.specs.Nodes.{depth, glue, groups, nodeTable, rowOf, table, tableWithin}
+use Rattle.format.specs.Records.{rising, sound}
+use Rattle.format.proofs.Example.{book-lengths, book80, book85, books, example, text}
+use Rattle.answers.specs.Calls.{Answer, given, question, questionOf}
+use Rattle.answers.specs.Questions.{answer, ask, childOf, count, exact, exactFrom, nearest, place, range, reachWithin, reached}
+use Rattle.answers.proofs.Example.{Marked, marked}
 
 pub example-books : map (λ k. book plain k example) (2 ∷ 4 ∷ []) ≡ book85 ∷ book80 ∷ []
 example-books = books
@@ -15,5 +20,13 @@ example-books = books
 pub example-lengths : map (λ (s : Bytes). length s) (book85 ∷ book80 ∷ []) ≡ 85 ∷ 80 ∷ []
 example-lengths = book-lengths
 
-pub example-rows : map got marked ≡ map (λ (a : Marked). a .2) marked
-example-rows = all-marked
+-- a row as the call gives it, and as the table has it
+abbrev asked : Marked → Answer
+asked a = question plain (a .0) book85 (text (a .1))
+
+abbrev listed : Marked → Answer
+listed a = given (a .2 .0) (a .2 .1)
+
+pub example-rows : map asked marked ≡ map listed marked
+unfolding shared less begins same depth glue groups rowOf tableWithin nodeTable table numbers joined entry blocksFrom front blocks offsets entryPart blockPart allFields nodePart trailer book decodeFrom decode number rising sound fits opened childOf reachWithin reached count exactFrom exact place range nearest ask answer questionOf question
+example-rows = refl

@@ -2,21 +2,30 @@
 --     list-read, list-written    a sound list is read from its records, and what is read is sound and those records
 --     entries-read, block-read   entries decode to the names, also from any block's start on and after any name
 --     build-writes, book-reads   building writes the book of a list, and reading back gives each of its names
+--     round-trip                 both at once, from the code 0 of a build: the list is given again
+--     rest-some                  the rest of an entry is never empty
 -- Assumes nothing.
-use Prim.Native.Nat.{ℕ, _*_, _≤_, _<_}
-use mathlib.Core.Path.{_≡_, refl}
-use mathlib.Core.Bool.{true}
-use mathlib.Core.List.{List, []}
-use lib.ListN.{length, getD, drop}
-use borrow.Author.Tests.{le-leb, lt-ltb}
-use Rattle.words.specs.Words.{Bytes, Rule}
-use Rattle.format.specs.Book.{book, entryPart, fits, longestBook}
+use Prim.Native.Nat.{ℕ, suc, _*_, _≤_, _<_}
+use native.Mathlib.Omega.{arith}
+use mathlib.Core.Path.{_≡_, refl, sym, ap, _∙_, subst}
+use mathlib.Core.Bool.{Bool, false, true}
+use mathlib.Core.List.{List, [], map}
+use lib.Dec.{leb}
+use lib.ListN.{length, getD, drop, take, length-drop, length-map}
+use lib.Seq.{take-append-seam}
+use borrow.Author.Tests.{le-leb, leb-true, lt-ltb}
+use Rattle.words.specs.Words.{Bytes, Lawful, Rule, less, pick, shared, word}
+use Rattle.words.proofs.Lists.{all-at}
+use Rattle.words.proofs.Rising.{nth-less, nth-word}
+use Rattle.words.proofs.Words.{both-true, false≠true, less-short, shared-word-le}
+use Rattle.format.specs.Book.{book, entryPart, fits, goodBlock, longestBook}
 use Rattle.format.specs.Entries.{blocks, decode, decodeFrom, offsets}
-use Rattle.format.specs.Records.{Names, encode, readList, sound}
-use Rattle.format.proofs.Book.{Fits, fits-parts, opened-book}
+use Rattle.format.specs.Records.{Names, Reading, Refused, encode, readList, sound}
+use Rattle.format.proofs.Book.{Fits, fits-parts, opened-book, parts-fits}
 use Rattle.format.proofs.Entries.{decode-at, decode-entries}
-use Rattle.format.proofs.Records.{read-encode, read-sound}
-use Rattle.answers.specs.Calls.{build, builtFrom, given, over, readBack, readBackOf}
+use Rattle.format.proofs.Records.{read-encode, read-refused, read-sound, rising-sizes, sound-rises, sound-rising}
+use Rattle.answers.specs.Calls.{Written, build, builtFrom, check, checkOf, given, over, readBack, readBackOf, refused, write}
+use Rattle.theorems.specs.Demands.{RoundTrip}
 
 module _ (ρ : Rule) where
   pub list-read : (xs : List Bytes) → sound ρ xs ≡ true → readList ρ (encode xs) ≡ Names xs
@@ -46,3 +55,73 @@ module _ (ρ : Rule) where
           → readBack ρ (book ρ k xs) i room ≡ record { answer = given (length (getD xs i [])) 0; room = over (getD xs i []) room }
       unfolding readBack readBackOf
       book-reads i room l h = rw (opened-book ρ k xs fit, lt-ltb i (length xs) l, le-leb (length (getD xs i [])) (length room) h) refl
+
+-- ---- from the code of a build
+
+module _ (ρ : Rule) (list : Bytes) (k : ℕ) (room : Bytes) where
+  abbrev Trip : Written → Type 0
+  Trip w = w .answer .code ≡ 0 → RoundTrip ρ list k room w
+
+  -- the book of a list that fits, written into a room that holds it
+  module _ (xs : List Bytes) (listed : encode xs ≡ list) (fit : fits ρ k xs ≡ true) where
+    trip : RoundTrip ρ list k room (record { answer = given (length (book ρ k xs)) 0; room = over (book ρ k xs) room })
+    unfolding check checkOf
+    trip = record {
+      names = xs;
+      listed = listed;
+      wrote = refl;
+      checked = ap (check ρ) front ∙ ap checkOf (opened-book ρ k xs fit);
+      reads = λ i lent l h. ap (λ (s : Bytes). readBack ρ s i lent) front ∙ book-reads ρ k xs fit i lent l h;
+    }
+      where
+        front : take (length (book ρ k xs)) (over (book ρ k xs) room) ≡ book ρ k xs
+        front = take-append-seam (book ρ k xs) (drop (length (book ρ k xs)) room)
+
+  trip-from : goodBlock k ≡ true → (r : Reading) → readList ρ list ≡ r → Trip (builtFrom ρ k room r)
+  unfolding builtFrom
+  trip-from good (Refused code i) p e = absurd (omega (arith, read-refused ρ list code i p))
+  trip-from good (Names xs) p e = short (leb (length (book ρ k xs)) longestBook) refl e
+    where
+      a : (encode xs ≡ list) × (sound ρ xs ≡ true)
+      a = read-sound ρ list xs p
+
+      g : (leb 1 k ≡ true) × (leb k 64 ≡ true)
+      g = both-true (leb 1 k) (leb k 64) good
+
+      fit : leb (length (book ρ k xs)) longestBook ≡ true → fits ρ k xs ≡ true
+      fit h = parts-fits ρ k xs (record { low = leb-true 1 k (g .0); high = leb-true k 64 (g .1); sound = a .1; short = leb-true (length (book ρ k xs)) longestBook h })
+
+      put : leb (length (book ρ k xs)) longestBook ≡ true → (t : Bool)
+          → Trip (pick t (record { answer = given (length (book ρ k xs)) 0; room = over (book ρ k xs) room }) (record { answer = refused 4; room = room }))
+      put h true e = trip xs (a .0) (fit h)
+      put h false e = absurd (omega (arith, e))
+
+      short : (t : Bool) → leb (length (book ρ k xs)) longestBook ≡ t → Trip (pick t (write (book ρ k xs) room) (record { answer = refused 9; room = room }))
+      short true h e = put h (leb (length (book ρ k xs)) (length room)) e
+      short false h e = absurd (omega (arith, e))
+
+  pub round-trip : build ρ list k room .answer .code ≡ 0 → RoundTrip ρ list k room (build ρ list k room)
+  unfolding build
+  round-trip = go (goodBlock k) refl
+    where
+      go : (t : Bool) → goodBlock k ≡ t → Trip (pick t (builtFrom ρ k room (readList ρ list)) (record { answer = refused 8; room = room }))
+      go true h e = trip-from h (readList ρ list) refl e
+      go false h e = absurd (omega (arith, e))
+
+-- ---- what an entry adds
+
+-- after no name, as at a block's start, and after any name before it
+pub rest-some : (ρ : Rule) → Lawful ρ → (xs : List Bytes) → sound ρ xs ≡ true → (i : ℕ) → i < length xs
+    → (0 < length (drop (shared [] (getD xs i [])) (getD xs i []))) × ((j : ℕ) → j < i → 0 < length (drop (shared (getD xs j []) (getD xs i [])) (getD xs i [])))
+unfolding shared
+rest-some ρ ok xs is i h = (omega (arith, size), λ j l. omega (arith, length-drop (shared (getD xs j []) (getD xs i [])) (getD xs i []), fewer j l))
+  where
+    size : 1 ≤ length (getD xs i [])
+    size = all-at [] xs (rising-sizes ρ [] xs (sound-rising ρ xs is)) i h .0
+
+    below : (j : ℕ) → j < i → less (word ρ (getD xs j [])) (word ρ (getD xs i [])) ≡ true
+    below j l = rw (← nth-word ρ xs j, ← nth-word ρ xs i) (nth-less (map (word ρ) xs) j i (sound-rises ρ ok xs is) l (omega (arith, length-map xs (word ρ))))
+
+    fewer : (j : ℕ) → j < i → shared (getD xs j []) (getD xs i []) < length (getD xs i [])
+    fewer j l =
+        omega (arith, shared-word-le ρ (getD xs j []) (getD xs i []), length-map (getD xs i []) ρ, less-short (word ρ (getD xs j [])) (word ρ (getD xs i [])) (below j l))

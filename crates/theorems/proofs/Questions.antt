@@ -4,24 +4,29 @@
 --     exact-is          a name that equals the question stands at its place
 --     exact-finds       every name is found at its position, also where it is a beginning of others
 --     nearest-greatest  nearest's number is what its name shares with the question, and no name shares more
---     nearest-bytes     under document 01's rule those are leading bytes
+--     before-bytes      document 01's order of names is that of their bytes
+--     place-bytes, range-bytes, exact-bytes, nearest-bytes     the same in bytes, under document 01's rule
 -- Assumes nothing.
 use Prim.Native.Nat.{ℕ, _+_, _≤_, _<_}
+use native.Mathlib.Decide.{ℕ-discrete}
 use native.Mathlib.Omega.{arith}
 use mathlib.Core.Path.{_≡_, refl, sym, ap, ap₂, _∙_, subst}
-use mathlib.Core.Bool.{true}
-use mathlib.Core.List.{List, [], map}
-use lib.Dec.{leb, ltb}
+use mathlib.Core.Logic.{_⊎_, inl, inr}
+use mathlib.Core.Bool.{Bool, false, true}
+use mathlib.Core.List.{List, [], _∷_, map}
+use lib.Dec.{eqb, leb, ltb}
 use lib.ListN.{length, getD, length-map}
+use borrow.Author.Tests.{eq-eqb, le-ltb, lt-ltb, ltb-true, ne-eqb}
 use Rattle.words.specs.Words.{Bytes, Lawful, Rises, Rule, Words, begins, both, less, nth, pick, plain, same, shared, word}
 use Rattle.words.proofs.Rising.{nth-word}
-use Rattle.words.proofs.Words.{plain-injective, plain-lawful, shared-word, word-positive}
+use Rattle.words.proofs.Words.{apart, both-true, less-nil, less-other, less-same, less-start, plain-injective, plain-lawful, same-true, shared-word, word-injective, word-positive}
 use Rattle.format.specs.Records.{sound}
 use Rattle.format.proofs.Records.{sound-rises}
 use Rattle.answers.specs.Questions.{Pair, answer, ask, nearest, place, range, reached}
 use Rattle.answers.proofs.Nearest.{reached-most, reached-within}
 use Rattle.answers.proofs.Places.{exact-place, place-at, range-at}
 use Rattle.descent.proofs.Cuts.{exact-here}
+use Rattle.theorems.specs.Demands.{comesBefore}
 
 module _ (ρ : Rule) (ok : Lawful ρ) (xs : List Bytes) (is : sound ρ xs ≡ true) (q : Bytes) where
   -- a name's word
@@ -77,6 +82,54 @@ module _ (ρ : Rule) (ok : Lawful ρ) (xs : List Bytes) (is : sound ρ xs ≡ tr
         most = λ i l. subst (λ (w : List ℕ). shared (word ρ q) w ≤ shared (word ρ q) (nth (map (word ρ) xs) r)) (nth-word ρ xs i)
             (reached-most (word ρ q) (map (word ρ) xs) rises i (inside l));
       }
+
+-- ---- in bytes
+
+pub before-bytes : (x y : Bytes) → less (word plain x) (word plain y) ≡ comesBefore x y
+unfolding comesBefore
+before-bytes [] [] = less-nil []
+before-bytes [] (b ∷ y) = less-start (plain b) (word plain y) ∙ lt-ltb 0 (plain b) (omega arith)
+before-bytes (a ∷ x) [] = less-nil (word plain (a ∷ x))
+before-bytes (a ∷ x) (b ∷ y) = elim (ℕ-discrete a b) [
+  | yes e ↦ less-same (plain a) (plain b) (word plain x) (word plain y) (ap plain e) ∙ before-bytes x y
+      ∙ ap (λ (t : Bool). pick t (comesBefore x y) (ltb a b)) (sym (eq-eqb a b e))
+  | no n ↦ less-other (plain a) (plain b) (word plain x) (word plain y) (λ e. n (plain-injective a b e)) ∙ plain-ltb (apart a b)
+      ∙ ap (λ (t : Bool). pick t (comesBefore x y) (ltb a b)) (sym (ne-eqb a b n))
+]
+  where
+    plain-ltb : (a < b) ⊎ (b ≤ a) → ltb (plain a) (plain b) ≡ ltb a b
+    plain-ltb (inl l) = lt-ltb (plain a) (plain b) (omega arith) ∙ sym (lt-ltb a b l)
+    plain-ltb (inr l) = le-ltb (plain a) (plain b) (omega arith) ∙ sym (le-ltb a b l)
+
+module _ (xs : List Bytes) (is : sound plain xs ≡ true) (q : Bytes) where
+  -- the names before the question are those up to its place
+  pub place-bytes : (i : ℕ) → i < length xs → comesBefore (getD xs i []) q ≡ ltb i (answer plain 2 q xs .0)
+  place-bytes i h = sym (before-bytes (getD xs i []) q) ∙ place-below plain plain-lawful xs is q i h
+
+  -- the names that have the question's bytes in front are those of the range
+  pub range-bytes : (i : ℕ) → i < length xs
+      → begins q (getD xs i []) ≡ both (leb (answer plain 3 q xs .0) i) (ltb i (answer plain 3 q xs .0 + answer plain 3 q xs .1))
+  unfolding begins
+  range-bytes i h =
+      ap₂ (λ (a b : ℕ). eqb a b) (sym (shared-word plain plain-injective q (getD xs i []))) (sym (length-map q plain)) ∙ range-is plain plain-lawful xs is q i h
+
+  -- the question is name number i, or it is no name
+  pub exact-bytes : ((i : ℕ) → i < length xs → getD xs i [] ≡ q → answer plain 1 q xs ≡ (i, 1))
+      × (((i : ℕ) → i < length xs → getD xs i [] ≡ q → ⊥) → answer plain 1 q xs ≡ (0, 0))
+  exact-bytes = (λ i h e. exact-finds plain plain-lawful xs is q i h (ap (word plain) e), λ n. exact-is plain plain-lawful xs is q ∙ none n)
+    where
+      p : ℕ
+      p = answer plain 2 q xs .0
+
+      none : ((i : ℕ) → i < length xs → getD xs i [] ≡ q → ⊥)
+          → _≡_ {A = Pair} (pick (both (ltb p (length xs)) (same (word plain (getD xs p [])) (word plain q))) (p, 1) (0, 0)) (0, 0)
+      none n = go (both (ltb p (length xs)) (same (word plain (getD xs p [])) (word plain q))) refl
+        where
+          go : (t : Bool) → both (ltb p (length xs)) (same (word plain (getD xs p [])) (word plain q)) ≡ t → _≡_ {A = Pair} (pick t (p, 1) (0, 0)) (0, 0)
+          go false e = refl
+          go true e =
+              let b = both-true (ltb p (length xs)) (same (word plain (getD xs p [])) (word plain q)) e in
+              absurd (n p (ltb-true p (length xs) (b .0)) (word-injective plain plain-injective (getD xs p []) q (same-true (word plain (getD xs p [])) (word plain q) (b .1))))
 
 -- shared symbols are shared bytes
 pub nearest-bytes : (xs : List Bytes) → sound plain xs ≡ true → (q : Bytes) → 0 < length xs

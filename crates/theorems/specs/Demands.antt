@@ -1,16 +1,20 @@
 -- Demand 3, and document 01's 'A path from the root': what the theorems speak of besides the layout and the calls.
 --     BookOf            the layout yields these bytes for this block size and this list of names
+--     RoundTrip         what a build that is not refused leaves, and what reading it back gives
+--     comesBefore       document 01's order, by bytes
 --     Path              the depths of the nodes on a path down from the node of some words
 -- Assumes nothing: these are definitions.
 use Prim.Native.Nat.{ℕ, suc, _≤_, _<_}
 use mathlib.Core.Path.{_≡_}
-use mathlib.Core.Bool.{true}
+use mathlib.Core.Bool.{Bool, false, true}
 use mathlib.Core.List.{List, [], _∷_}
-use lib.ListN.{length, getD}
-use Rattle.words.specs.Words.{Bytes, Words, Rule, InBytes, word, less}
-use Rattle.format.specs.Records.{longest, mostNames}
+use lib.Dec.{eqb, ltb}
+use lib.ListN.{length, getD, take}
+use Rattle.words.specs.Words.{Bytes, Words, Rule, InBytes, pick, word, less}
+use Rattle.format.specs.Records.{encode, longest, mostNames}
 use Rattle.format.specs.Nodes.{depth, groups}
 use Rattle.format.specs.Book.{longestBook, book}
+use Rattle.answers.specs.Calls.{Written, check, given, over, readBack}
 
 pub record BookOf (ρ : Rule) (s : Bytes) (k : ℕ) (xs : List Bytes) : Type 0 where
   pub block : (1 ≤ k) × (k ≤ 64)
@@ -20,6 +24,23 @@ pub record BookOf (ρ : Rule) (s : Bytes) (k : ℕ) (xs : List Bytes) : Type 0 w
   pub rises : (i j : ℕ) → i < j → j < length xs → less (word ρ (getD xs i [])) (word ρ (getD xs j [])) ≡ true
   pub layout : book ρ k xs ≡ s
   pub short : length s ≤ longestBook
+
+-- w is what the build left; the list is the records of `names`, the room holds their book, and the bytes that the answer counts are checked
+-- and read back as any book is, each name into any room that holds it
+pub record RoundTrip (ρ : Rule) (list : Bytes) (k : ℕ) (room : Bytes) (w : Written) : Type 0 where
+  pub names : List Bytes
+  pub listed : encode names ≡ list
+  pub wrote : w ≡ record { answer = given (length (book ρ k names)) 0; room = over (book ρ k names) room }
+  pub checked : check ρ (take (w .answer .first) (w .room)) ≡ given (length names) k
+  pub reads : (i : ℕ) (lent : Bytes) → i < length names → length (getD names i []) ≤ length lent
+      → readBack ρ (take (w .answer .first) (w .room)) i lent ≡ record { answer = given (length (getD names i [])) 0; room = over (getD names i []) lent }
+
+-- by the first byte in which two names differ; a name comes before its own extensions
+unfoldable pub comesBefore : Bytes → Bytes → Bool
+comesBefore [] [] = false
+comesBefore [] (b ∷ y) = true
+comesBefore (a ∷ x) [] = false
+comesBefore (a ∷ x) (b ∷ y) = let more = comesBefore x y in pick (eqb a b) more (ltb a b)
 
 unfoldable pub nodeDepth : Words → ℕ
 nodeDepth [] = 0

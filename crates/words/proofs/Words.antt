@@ -1,7 +1,7 @@
 -- Laws of words: what two words share, and their order. They hold of any lists of numbers, and where `Positive` is asked, of those
 -- without the end symbol in them, as every rule's words are.
 --     sides, apart              how two numbers stand to each other
---     word-positive, shared-word; plain-lawful, plain-injective
+--     word-positive, shared-word, shared-word-le, word-injective; plain-lawful, plain-injective
 --     shared-self, -comm, -le, -at, -trans, -more, -parts; take-shared
 --     word-at                   a byte's symbol
 --     at-past, at-end           past the last symbol stands the end symbol, and nowhere else
@@ -19,7 +19,7 @@ use mathlib.Core.Logic.{_⊎_, inl, inr}
 use mathlib.Core.Bool.{Bool, true, false}
 use mathlib.Core.List.{List, [], _∷_, _++_}
 use lib.Dec.{ltb, eqb}
-use lib.ListN.{getD, length, take}
+use lib.ListN.{drop, getD, length, take}
 use borrow.Author.Tests.{ltb-true, eqb-true, lt-ltb, le-ltb, eq-eqb, ne-eqb}
 use Rattle.words.specs.Words.{Bytes, Lawful, Positive, Rule, at, begins, both, less, plain, same, shared, word}
 
@@ -258,6 +258,26 @@ shared-word ρ inj (a ∷ s) (b ∷ t) = elim (ℕ-discrete a b) [
   | yes e ↦ shared-same (ρ a) (ρ b) (word ρ s) (word ρ t) (ap ρ e) ∙ ap suc (shared-word ρ inj s t) ∙ sym (shared-same a b s t e)
   | no n ↦ shared-other (ρ a) (ρ b) (word ρ s) (word ρ t) (λ e. n (inj a b e)) ∙ sym (shared-other a b s t n)
 ]
+
+-- equal bytes have equal symbols under every rule
+pub shared-word-le : (ρ : Rule) (s t : Bytes) → shared s t ≤ shared (word ρ s) (word ρ t)
+unfolding shared
+shared-word-le ρ [] t = zero-le
+shared-word-le ρ (a ∷ s) [] = zero-le
+shared-word-le ρ (a ∷ s) (b ∷ t) = elim (ℕ-discrete a b) [
+  | yes e ↦ omega (arith, shared-same a b s t e, shared-same (ρ a) (ρ b) (word ρ s) (word ρ t) (ap ρ e), shared-word-le ρ s t)
+  | no n ↦ omega (arith, shared-other a b s t n)
+]
+
+-- and names whose words are equal are equal
+pub word-injective : (ρ : Rule) → ((a b : ℕ) → ρ a ≡ ρ b → a ≡ b) → (s t : Bytes) → word ρ s ≡ word ρ t → s ≡ t
+word-injective ρ inj [] [] e = refl
+word-injective ρ inj [] (b ∷ t) e = absurd (let z : 0 ≡ suc (length (word ρ t)) = ap length e in omega arith)
+word-injective ρ inj (a ∷ s) [] e = absurd (let z : suc (length (word ρ s)) ≡ 0 = ap length e in omega arith)
+word-injective ρ inj (a ∷ s) (b ∷ t) e =
+    let h : ρ a ≡ ρ b = ap (λ (w : List ℕ). at w 0) e in
+    let r : word ρ s ≡ word ρ t = ap (λ (w : List ℕ). drop 1 w) e in
+    ap₂ (λ (c : ℕ) (z : Bytes). c ∷ z) (inj a b h) (word-injective ρ inj s t r)
 
 pub plain-injective : (a b : ℕ) → plain a ≡ plain b → a ≡ b
 plain-injective a b e = omega arith
