@@ -14,15 +14,15 @@ use lib.ListN.{getD, length, length-replicate, replicate}
 use Rattle.words.specs.Words.{Bytes, InBytes, plain}
 use Rattle.words.proofs.Words.{false≠true}
 use Rattle.format.specs.Book.{Book, NoBook, Opened, opened, trailerSize}
+use Rattle.format.specs.Outcomes.{Answer, checkOf, given, refused}
 use Rattle.streams.specs.Runs.{Frame, Has}
 use Rattle.streams.specs.Streams.{namesOf}
 use Rattle.streams.proofs.Walks.{has-known, has-names, has-steps}
 use Rattle.entries.specs.Judging.{WalkSays}
 use Rattle.inspect.specs.Check.{TableAsk, isTable}
 use Rattle.numbers.proofs.Parts.{Held, held-bytes}
-use Rattle.accept.specs.Parts.{Parts, Trail, TrailSays, checkedOf, told, toldNames}
+use Rattle.accept.specs.Parts.{Parts, Trail, TrailSays, told, toldNames}
 use Rattle.accept.proofs.Opens.{has-at, opened-parts, parts-opened}
-use Rattle.accept.specs.declared.Checked.the-variants.{Sound, Unsound}
 
 -- a row of zeros
 pub zeros : (n j : ℕ) → getD {A = ℕ} (replicate n 0) j 0 ≡ 0
@@ -30,14 +30,15 @@ zeros zero j = refl
 zeros (suc n) zero = refl
 zeros (suc n) (suc j) = zeros n j
 
-pub unsound : (b : Bytes) → (Parts b → ⊥) → Unsound ≡ checkedOf (opened plain b)
+pub unsound : (b : Bytes) → (Parts b → ⊥) → refused 2 ≡ checkOf (opened plain b)
+unfolding checkOf
 unsound b fails = go (opened plain b) refl
   where
-    go : (o : Opened) → opened plain b ≡ o → Unsound ≡ checkedOf o
+    go : (o : Opened) → opened plain b ≡ o → refused 2 ≡ checkOf o
     go (Book k xs) e = absurd (fails (opened-parts b k xs e))
     go NoBook e = refl
 
-pub trail-fails : (b : Bytes) (r : Bool) → r ≡ false → TrailSays b r → Unsound ≡ checkedOf (opened plain b)
+pub trail-fails : (b : Bytes) (r : Bool) → r ≡ false → TrailSays b r → refused 2 ≡ checkOf (opened plain b)
 trail-fails b true h = absurd (false≠true (sym h))
 trail-fails b false h = λ says. unsound b (λ p. says (p .trail))
 
@@ -71,7 +72,7 @@ module _ (b : Bytes) (n k s u : ℕ) (a : Asked b n k s u) where
   there : Has b k s u n s 0 [] → Has b (told b 2) (told b 4) (told b 6) (toldNames b) (told b 4) 0 []
   there = has-at b k (told b 2) s (told b 4) u (told b 6) n (toldNames b) (a .block) (a .table) (a .nodes) (a .names)
 
-  pub entries-fail : (r : Bool) (steps : Bytes) → not r ≡ true → WalkSays b k s u n r steps → Unsound ≡ checkedOf (opened plain b)
+  pub entries-fail : (r : Bool) (steps : Bytes) → not r ≡ true → WalkSays b k s u n r steps → refused 2 ≡ checkOf (opened plain b)
   entries-fail true steps h = absurd (false≠true h)
   entries-fail false steps h = λ says. unsound b (λ p. says (here (p .entries)))
 
@@ -95,12 +96,13 @@ module _ (b : Bytes) (n k s u : ℕ) (a : Asked b n k s u) where
         told = has-steps b k s u n inside has low (sym (a .table)) steps room (says .1);
       }
 
-  pub table-fails : (r : Bool) → not r ≡ true → r ≡ isTable b u (length b - trailerSize) → Unsound ≡ checkedOf (opened plain b)
+  pub table-fails : (r : Bool) → not r ≡ true → r ≡ isTable b u (length b - trailerSize) → refused 2 ≡ checkOf (opened plain b)
   table-fails true h = absurd (false≠true h)
   table-fails false h = λ q. unsound b (λ p. false≠true (q ∙ ap (λ (x : ℕ). isTable b x (length b - trailerSize)) (a .nodes) ∙ p .nodes))
 
   pub all-pass : Held b → (r : Bool) (steps : Bytes) → not r ≡ false → WalkSays b k s u n r steps → (q : Bool) → not q ≡ false
-      → q ≡ isTable b u (length b - trailerSize) → Sound n k ≡ checkedOf (opened plain b)
+      → q ≡ isTable b u (length b - trailerSize) → given n k ≡ checkOf (opened plain b)
+  unfolding checkOf
   all-pass held false steps h says q g t = absurd (false≠true (sym h))
   all-pass held true steps h says false g t = absurd (false≠true (sym g))
   all-pass held true steps h says true g t =
@@ -112,7 +114,7 @@ module _ (b : Bytes) (n k s u : ℕ) (a : Asked b n k s u) where
       } in
       let e : namesOf b ≡ has .names = has-names b k s u n inside has (omega (arith, a .trail .low, a .block)) (sym (a .table)) in
       let c : n ≡ length (namesOf b) = sym (ap length e ∙ has .count) in
-      ap₂ Sound c (a .block) ∙ ap checkedOf (sym (parts-opened b (held-bytes b held) p))
+      ap₂ given c (a .block) ∙ ap checkOf (sym (parts-opened b (held-bytes b held) p))
 
 -- what an accepting answer says
 pub record SoundBook (b : Bytes) (n k : ℕ) : Type 0 where
@@ -121,19 +123,20 @@ pub record SoundBook (b : Bytes) (n k : ℕ) : Type 0 where
   pub block : k ≡ told b 2
   pub count : n ≡ length (namesOf b)
 
-pub sound-book : (b : Bytes) (n k : ℕ) → InBytes b → Sound n k ≡ checkedOf (opened plain b) → SoundBook b n k
+pub sound-book : (b : Bytes) (n k : ℕ) → InBytes b → given n k ≡ checkOf (opened plain b) → SoundBook b n k
+unfolding checkOf
 sound-book b n k bytes s = go (opened plain b) refl s
   where
-    go : (o : Opened) → opened plain b ≡ o → Sound n k ≡ checkedOf o → SoundBook b n k
-    go NoBook e q = absurd (let z : _≡_ {A = ℕ} 0 1 = cc in omega arith)
+    go : (o : Opened) → opened plain b ≡ o → given n k ≡ checkOf o → SoundBook b n k
+    go NoBook e q = absurd (let z : _≡_ {A = ℕ} 0 2 = ap (λ (a : Answer). a .code) q in omega arith)
     go (Book j xs) e q =
         let p : Parts b = opened-parts b j xs e in
         let f : opened plain b ≡ Book (told b 2) (namesOf b) = parts-opened b bytes p in
         let g : Book j xs ≡ Book (told b 2) (namesOf b) = sym e ∙ f in
         let jt : j ≡ told b 2 = cc in
         let xn : xs ≡ namesOf b = cc in
-        let kj : k ≡ j = cc in
-        let nx : n ≡ length xs = cc in
+        let kj : k ≡ j = ap (λ (a : Answer). a .second) q in
+        let nx : n ≡ length xs = ap (λ (a : Answer). a .first) q in
         record {
           parts = p;
           book = f ∙ ap (λ (x : ℕ). Book x (namesOf b)) (sym (kj ∙ jt));

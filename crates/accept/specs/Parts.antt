@@ -2,7 +2,7 @@
 --     told, toldNames   the numbers of the trailer
 --     Trail             what is asked of the trailer alone
 --     Parts             the trailer, the entries with their block table, the node table
---     checkedOf         what the check says of opened bytes
+--     checkedNumbers    document 01's numbers for each answer of the check
 -- proofs/Opens.antt shows that these are just the books. Assumes nothing: these are definitions.
 use Prim.Native.Nat.{ℕ, _*_, _+_, _-_, _≤_}
 use mathlib.Core.Path.{_≡_}
@@ -10,7 +10,8 @@ use mathlib.Core.Bool.{Bool, false, true}
 use mathlib.Core.List.{[]}
 use lib.ListN.{length}
 use Rattle.words.specs.Words.{Bytes}
-use Rattle.format.specs.Book.{Book, NoBook, Opened, longestBook, nodeSize, number, trailerSize}
+use Rattle.format.specs.Book.{longestBook, nodeSize, number, trailerSize}
+use Rattle.format.specs.Outcomes.{Answer, given, refused}
 use Rattle.format.specs.Records.{mostNames}
 use Rattle.streams.specs.Runs.{Has}
 use Rattle.inspect.specs.Check.{isTable}
@@ -46,6 +47,6 @@ pub record Parts (b : Bytes) : Type 0 where
   pub entries : Has b (told b 2) (told b 4) (told b 6) (toldNames b) (told b 4) 0 []
   pub nodes : isTable b (told b 6) (length b - trailerSize) ≡ true
 
-abbrev pub checkedOf : Opened → Checked
-checkedOf (Book k xs) = Sound (length xs) k
-checkedOf NoBook = Unsound
+abbrev pub checkedNumbers : Checked → Answer
+checkedNumbers (Sound n k) = given n k
+checkedNumbers Unsound = refused 2

@@ -2,7 +2,8 @@
 ghost use mathlib.Core.Path.{_≡_};
 ghost use Rattle.words.specs.Words.{plain};
 ghost use Rattle.format.specs.Book.{opened};
-ghost use Rattle.accept.specs.Parts.{Trail, TrailSays, checkedOf};
+ghost use Rattle.format.specs.Outcomes.{checkOf};
+ghost use Rattle.accept.specs.Parts.{Trail, TrailSays, checkedNumbers};
 
 // How many names a book has, in blocks of how many; or that the bytes are no book.
 pub enum Checked {
@@ -54,7 +55,7 @@ fn is_trailer(book: &[u8]) -> bool
 // Whether bytes whose trailer passes are a book: the entries with their block table, then the node table.
 fn check_parts(book: &[u8]) -> Checked
     requires { ⌜ Trail (now book) ⌝ }
-    ensures { λ r. ⌜ r ≡ checkedOf (opened plain (now (book .entry))) ⌝ }
+    ensures { λ r. ⌜ checkedNumbers r ≡ checkOf (opened plain (now (book .entry))) ⌝ }
 {
     let at = book.len() - 16;
     let n = numbers::number_at(book, at);
@@ -73,7 +74,7 @@ fn check_parts(book: &[u8]) -> Checked
 
 // Whether bytes are a book, and of how many names in blocks of how many.
 pub fn check_book(book: &[u8]) -> Checked
-    ensures { λ r. ⌜ r ≡ checkedOf (opened plain (now (book .entry))) ⌝ }
+    ensures { λ r. ⌜ checkedNumbers r ≡ checkOf (opened plain (now (book .entry))) ⌝ }
 {
     if is_trailer(book) {
         check_parts(book)

@@ -20,7 +20,8 @@ use Rattle.format.specs.Records.{Names, Reading, Refused, longest, readList}
 use Rattle.format.specs.Book.{Book, NoBook, Opened, book, goodBlock, longestBook, opened, trailerSize}
 use Rattle.format.proofs.Book.{book-length, book-opened, fits-parts}
 use Rattle.format.proofs.Records.{read-refused}
-use Rattle.answers.specs.Calls.{Answer, Batched, Row, Written, batch, batchOf, build, builtFrom, check, checkOf, given, goodRow, over, questionOf, readBack, readBackOf, refused, rowAnswer, write}
+use Rattle.format.specs.Outcomes.{Answer, Written, checkOf, given, over, refused, write}
+use Rattle.answers.specs.Calls.{Batched, Row, batch, batchOf, build, builtFrom, check, goodRow, questionOf, readBack, readBackOf, rowAnswer}
 use Rattle.answers.specs.Questions.{Pair, answer}
 
 -- where the code is 0, the number counts bytes that stand in the room

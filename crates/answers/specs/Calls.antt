@@ -1,53 +1,29 @@
 -- Document 01, 'Numbers given back when a call says no': each public call as one function of what came in. It gives the three numbers
 -- and every lent byte and row afterwards; refusals stand in the document's order, the first match is given, and a refused call
--- changes nothing. A contract cites these functions, and nothing else.
+-- changes nothing. A contract cites these functions, and nothing else. What an answer is, and what is written into a room, stands in
+-- Outcomes of the crate format.
 --     build, check, readBack, question, batch
 -- The laws are in proofs/Calls.antt. Assumes nothing: these are definitions.
 use Prim.Native.Nat.{ℕ, _+_}
 use mathlib.Core.Bool.{Bool}
-use mathlib.Core.List.{List, [], _++_, map}
+use mathlib.Core.List.{List, [], map}
 use lib.Dec.{leb, ltb, eqb}
 use lib.ListN.{length, getD, take, drop}
 use Rattle.words.specs.Words.{Bytes, Rule, pick, both}
 use Rattle.format.specs.Records.{Reading, Names, Refused, readList, longest}
 use Rattle.format.specs.Book.{Opened, Book, NoBook, longestBook, goodBlock, book, opened}
+use Rattle.format.specs.Outcomes.{Answer, Written, checkOf, given, numbered, over, refused, write}
 use Rattle.answers.specs.Questions.{answer}
-
-pub record Answer : Type 0 where
-  pub code : ℕ
-  pub first : ℕ
-  pub second : ℕ
-
--- an answer, and the lent room afterwards
-pub record Written : Type 0 where
-  pub answer : Answer
-  pub room : Bytes
 
 -- an answer, and the lent answer rows afterwards
 pub record Batched : Type 0 where
   pub answer : Answer
   pub rows : List Answer
 
-abbrev pub given : ℕ → ℕ → Answer
-given a b = record { code = 0; first = a; second = b }
-
-abbrev pub refused : ℕ → Answer
-refused c = record { code = c; first = 0; second = 0 }
-
--- the front of the room is written, and the rest as it was
-abbrev pub over : Bytes → Bytes → Bytes
-over out room = out ++ drop (length out) room
-
--- 4 where the room is shorter than the output
-abbrev pub write : Bytes → Bytes → Written
-write out room = pick (leb (length out) (length room))
-    (record { answer = given (length out) 0; room = over out room })
-    (record { answer = refused 4; room = room })
-
 -- ---- build: 8; then record by record 5, 6, 7; then 9; then 4
 
 unfoldable pub builtFrom : Rule → ℕ → Bytes → Reading → Written
-builtFrom ρ k room (Refused c i) = record { answer = record { code = c; first = i; second = 0 }; room = room }
+builtFrom ρ k room (Refused c i) = record { answer = numbered c i; room = room }
 builtFrom ρ k room (Names xs) =
     pick (leb (length (book ρ k xs)) longestBook) (write (book ρ k xs) room) (record { answer = refused 9; room = room })
 
@@ -55,10 +31,6 @@ unfoldable pub build : Rule → Bytes → ℕ → Bytes → Written
 build ρ list k room = pick (goodBlock k) (builtFrom ρ k room (readList ρ list)) (record { answer = refused 8; room = room })
 
 -- ---- check: 2
-
-unfoldable pub checkOf : Opened → Answer
-checkOf NoBook = refused 2
-checkOf (Book k xs) = given (length xs) k
 
 unfoldable pub check : Rule → Bytes → Answer
 check ρ s = checkOf (opened ρ s)

@@ -17,7 +17,7 @@ use Rattle.format.specs.Book.{blockPart, entryPart, joined, numbers}
 use Rattle.format.specs.Entries.{blocks, blocksFrom, front, offsets}
 use Rattle.format.proofs.Entries.{blocks-first}
 use Rattle.format.proofs.Numbers.{numbers-append, numbers-length}
-use Rattle.answers.specs.Calls.{over}
+use Rattle.format.specs.Outcomes.{over}
 use Rattle.numbers.proofs.Parts.{lent, lent-front, over-all, over-length}
 use Rattle.records.specs.Lists.{names, startOf}
 use Rattle.records.proofs.Starts.{start-none}

@@ -19,7 +19,7 @@ use borrow.Author.Tests.{eq-eqb, ne-eqb}
 use Rattle.words.specs.Words.{Bytes, pick, shared}
 use Rattle.words.proofs.Words.{shared-comm, shared-le}
 use Rattle.format.specs.Entries.{entry, front}
-use Rattle.answers.specs.Calls.{over}
+use Rattle.format.specs.Outcomes.{over}
 use Rattle.numbers.proofs.Parts.{lent, over-all, over-length, part-length}
 use Rattle.records.specs.Lists.{names, startOf}
 use Rattle.records.proofs.Starts.{ready-size, start-byte, start-fits, start-name, start-next, start-within}

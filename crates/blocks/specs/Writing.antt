@@ -16,7 +16,7 @@ use lib.Seq.{slice}
 use Rattle.words.specs.Words.{Bytes, pick}
 use Rattle.format.specs.Entries.{front}
 use Rattle.format.specs.Book.{numbers, blockPart, entryPart}
-use Rattle.answers.specs.Calls.{over}
+use Rattle.format.specs.Outcomes.{over}
 use Rattle.records.specs.Lists.{names}
 use Rattle.records.specs.Lists.{Ready, startOf}
 

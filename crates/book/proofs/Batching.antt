@@ -17,7 +17,8 @@ use borrow.Author.Tests.{eqb-true}
 use Rattle.words.specs.Words.{Bytes, pick, plain}
 use Rattle.words.proofs.Words.{both-true}
 use Rattle.format.specs.Book.{Book, NoBook, Opened, opened}
-use Rattle.answers.specs.Calls.{Answer as Numbers, Batched, batch, batchOf, check, checkOf, given, refused, rowAnswer}
+use Rattle.format.specs.Outcomes.{Answer as Numbers, checkOf, given, refused}
+use Rattle.answers.specs.Calls.{Batched, batch, batchOf, check, rowAnswer}
 use Rattle.shapes.specs.Shapes.{answered, rowOf}
 use Rattle.shapes.specs.declared.Answer.{Answer}
 use Rattle.shapes.specs.declared.Row.{Row}

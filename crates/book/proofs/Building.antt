@@ -13,15 +13,16 @@ use borrow.Author.Tests.{le-leb, lt-leb}
 use Rattle.words.specs.Words.{Bytes, pick, plain}
 use Rattle.format.specs.Book.{goodBlock}
 use Rattle.format.specs.Records.{Names, Reading, Refused, readList, sound}
-use Rattle.format.proofs.Records.{read-sound, sound-few}
-use Rattle.answers.specs.Calls.{Answer as Numbers, Written, build, builtFrom, given, refused}
-use Rattle.records.specs.Lists.{Judged, names, namesIn, verdictOf}
+use Rattle.format.proofs.Records.{read-refused, read-sound, sound-few}
+use Rattle.format.specs.Outcomes.{Answer as Numbers, Written, given, numbered, readingOf, refused}
+use Rattle.answers.specs.Calls.{build, builtFrom}
+use Rattle.records.specs.Lists.{Judged, names, namesIn, verdictNumbers}
 use Rattle.build.specs.Whole.{BuildAsk, shownBuilt}
 use Rattle.build.specs.declared.Built.{Built}
 use Rattle.build.specs.declared.Built.the-variants.{Refused as Stopped, Written as Wrote}
 use Rattle.records.specs.declared.Verdict.{Verdict}
 use Rattle.records.specs.declared.Verdict.the-variants.{Good, Bad}
-use Rattle.shapes.specs.Shapes.{answered, numbered}
+use Rattle.shapes.specs.Shapes.{answered}
 use Rattle.shapes.specs.declared.Answer.{Answer}
 use Rattle.book.specs.Answers.{written}
 
@@ -46,30 +47,27 @@ module _ (s : Bytes) (k : ℕ) (room : Bytes) where
 
     pub build-bad : (r : Answer) (code i : ℕ) → Ends r code i → (lens steps : List ℕ) (v : Verdict) → Judged s lens steps v → v ≡ Bad code i
         → written r room ≡ build plain s k room
-    unfolding builtFrom
+    unfolding builtFrom readingOf
     build-bad r code i e lens steps v j u =
-        build-good (written r room) (ap (λ (a : Numbers). record { answer = a; room = room }) e ∙ go (readList plain s) (sym u ∙ j .verdict))
+        build-good (written r room) (ap (λ (a : Numbers). record { answer = a; room = room }) e ∙ go (readList plain s) (ap verdictNumbers (sym u) ∙ j .verdict))
       where
-        bad : (c j : ℕ) → code ≡ c → i ≡ j → record { answer = numbered code i; room = room } ≡ builtFrom plain k room (Refused c j)
-        bad c j f g = rw (f, g) refl
-
-        go : (x : Reading) → Bad code i ≡ verdictOf x → record { answer = numbered code i; room = room } ≡ builtFrom plain k room x
-        go (Names xs) f = absurd (let y : _≡_ {A = ℕ} 0 1 = cc in omega arith)
-        go (Refused c j) f = bad c j (cc) (cc)
+        go : (x : Reading) → numbered code i ≡ readingOf x → record { answer = numbered code i; room = room } ≡ builtFrom plain k room x
+        go (Names xs) f = absurd (let y : code ≡ 0 = ap (λ (a : Numbers). a .code) f in omega (arith, j .refuses code i u))
+        go (Refused c j) f = ap (λ (a : Numbers). record { answer = a; room = room }) f
 
     pub judged-asks : (n : ℕ) (lens steps : List ℕ) (v : Verdict) → Judged s lens steps v → v ≡ Good n → BuildAsk s n lens steps k
-    unfolding names
-    judged-asks n lens steps v j e = go (readList plain s) refl (sym e ∙ j .verdict)
+    unfolding names readingOf
+    judged-asks n lens steps v j e = go (readList plain s) refl (ap verdictNumbers (sym e) ∙ j .verdict)
       where
         names-are : (xs : List Bytes) → readList plain s ≡ Names xs → names s ≡ xs
         names-are xs p = ap namesIn p
 
-        go : (x : Reading) → readList plain s ≡ x → Good n ≡ verdictOf x → BuildAsk s n lens steps k
-        go (Refused c i) p f = absurd (let y : _≡_ {A = ℕ} 0 1 = cc in omega arith)
+        go : (x : Reading) → readList plain s ≡ x → given n 0 ≡ readingOf x → BuildAsk s n lens steps k
+        go (Refused c i) p f = absurd (let y : 0 ≡ c = ap (λ (a : Numbers). a .code) f in omega (arith, read-refused plain s c i p))
         go (Names xs) p f =
             let all : names s ≡ xs = names-are xs p in
             let b = read-sound plain s (names s) (p ∙ ap Names (sym all)) in
-            let count : n ≡ length xs = cc in
+            let count : n ≡ length xs = ap (λ (a : Numbers). a .first) f in
             let size : n ≡ length (names s) = count ∙ ap length (sym all) in
             record {
               read = p ∙ ap Names (sym all);

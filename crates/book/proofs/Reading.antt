@@ -16,10 +16,11 @@ use Rattle.words.proofs.Lists.{all-at}
 use Rattle.format.specs.Book.{Book, opened}
 use Rattle.format.proofs.Book.{book-opened, fits-parts}
 use Rattle.format.proofs.Records.{rising-sizes, sound-rising}
-use Rattle.answers.specs.Calls.{Answer as Numbers, Written, check, checkOf, given, over, readBack, readBackOf, refused, write}
+use Rattle.format.specs.Outcomes.{Answer as Numbers, Written, checkOf, given, over, refused, write}
+use Rattle.answers.specs.Calls.{check, readBack, readBackOf}
 use Rattle.numbers.proofs.Parts.{Held, held-bytes}
 use Rattle.streams.specs.Streams.{namesOf}
-use Rattle.accept.specs.Parts.{checkedOf}
+use Rattle.accept.specs.Parts.{checkedNumbers}
 use Rattle.accept.specs.declared.Checked.{Checked}
 use Rattle.accept.specs.declared.Checked.the-variants.{Sound, Unsound}
 use Rattle.accept.proofs.Judging.{SoundBook, sound-book}
@@ -31,7 +32,7 @@ use Rattle.book.specs.Answers.{written}
 
 -- ---- the check
 
-pub check-unsound : (b : Bytes) (r : Answer) → answered r ≡ refused 2 → (v : Checked) → v ≡ checkedOf (opened plain b) → v ≡ Unsound → answered r ≡ check plain b
+pub check-unsound : (b : Bytes) (r : Answer) → answered r ≡ refused 2 → (v : Checked) → checkedNumbers v ≡ checkOf (opened plain b) → v ≡ Unsound → answered r ≡ check plain b
 unfolding check checkOf
 check-unsound b r e v s u = e ∙ sym (ap checkOf (no-book b v s u))
 
@@ -40,14 +41,14 @@ check-unsound b r e v s u = e ∙ sym (ap checkOf (no-book b v s u))
 abbrev ended : Bytes → Numbers → Written
 ended room a = record { answer = a; room = room }
 
-pub read-unsound : (b room : Bytes) (i : ℕ) (r : Answer) → answered r ≡ refused 2 → (v : Checked) → v ≡ checkedOf (opened plain b) → v ≡ Unsound
+pub read-unsound : (b room : Bytes) (i : ℕ) (r : Answer) → answered r ≡ refused 2 → (v : Checked) → checkedNumbers v ≡ checkOf (opened plain b) → v ≡ Unsound
     → written r room ≡ readBack plain b i room
 unfolding readBack readBackOf
 read-unsound b room i r e v s u = ap (ended room) e ∙ sym (ap (readBackOf i room) (no-book b v s u))
 
-module _ (b room : Bytes) (i n k : ℕ) (held : Held b) (v : Checked) (s : v ≡ checkedOf (opened plain b)) (u : v ≡ Sound n k) where
+module _ (b room : Bytes) (i n k : ℕ) (held : Held b) (v : Checked) (s : checkedNumbers v ≡ checkOf (opened plain b)) (u : v ≡ Sound n k) where
   shown : SoundBook b n k
-  shown = sound-book b n k (held-bytes b held) (sym u ∙ s)
+  shown = sound-book b n k (held-bytes b held) (ap checkedNumbers (sym u) ∙ s)
 
   abbrev name : Bytes
   name = getD (namesOf b) i []

@@ -4,7 +4,8 @@
 -- An answer by itself is `answered`, in the crate shapes. Assumes nothing: these are definitions.
 use mathlib.Core.List.{List, map}
 use Rattle.words.specs.Words.{Bytes}
-use Rattle.answers.specs.Calls.{Batched, Written}
+use Rattle.format.specs.Outcomes.{Written}
+use Rattle.answers.specs.Calls.{Batched}
 use Rattle.shapes.specs.Shapes.{answered}
 use Rattle.shapes.specs.declared.Answer.{Answer}
 

@@ -22,7 +22,8 @@ use Rattle.format.specs.Records.{readList}
 use Rattle.format.proofs.Book.{book-length, book-parts, nodes-length, records, trailerAt, trailerNumbers}
 use Rattle.format.proofs.Groups.{table-empty}
 use Rattle.format.proofs.Spans.{table-few}
-use Rattle.answers.specs.Calls.{builtFrom, given, over, refused}
+use Rattle.format.specs.Outcomes.{given, over, refused}
+use Rattle.answers.specs.Calls.{builtFrom}
 use Rattle.numbers.proofs.Parts.{lent, over-length, part-length}
 use Rattle.records.specs.Lists.{names, words}
 use Rattle.records.proofs.Starts.{ready-rises, words-length}

@@ -11,7 +11,7 @@ use Rattle.words.specs.Words.{Bytes, plain}
 use Rattle.format.specs.Nodes.{table}
 use Rattle.format.specs.Records.{Names, readList}
 use Rattle.format.specs.Book.{entryPart, blockPart}
-use Rattle.answers.specs.Calls.{Written, given, refused}
+use Rattle.format.specs.Outcomes.{Written, given, refused}
 use Rattle.records.specs.Lists.{names, words}
 use Rattle.records.specs.Lists.{Ready}
 use Rattle.build.specs.declared.Built.{Built}

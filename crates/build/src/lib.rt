@@ -6,7 +6,8 @@ ghost use lib.ListN.{length};
 ghost use Rattle.words.specs.Words.{plain};
 ghost use Rattle.format.specs.Records.{readList};
 ghost use Rattle.format.specs.Book.{trailer, book};
-ghost use Rattle.answers.specs.Calls.{over, builtFrom};
+ghost use Rattle.format.specs.Outcomes.{over};
+ghost use Rattle.answers.specs.Calls.{builtFrom};
 ghost use Rattle.records.specs.Lists.{names};
 ghost use Rattle.build.specs.Whole.{BuildAsk, Sized, shownBuilt};
 

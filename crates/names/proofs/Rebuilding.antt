@@ -14,7 +14,7 @@ use lib.Seq.{getD-drop, length-take-le, paste, paste-suc, paste-zero, take-all}
 use borrow.Author.Tests.{le-leb, lt-leb}
 use Rattle.words.specs.Words.{Bytes}
 use Rattle.format.specs.Book.{number}
-use Rattle.answers.specs.Calls.{over}
+use Rattle.format.specs.Outcomes.{over}
 use Rattle.streams.specs.Runs.{Rest}
 use Rattle.streams.specs.Streams.{namesOf}
 use Rattle.streams.proofs.Rereading.{block-from}

@@ -9,7 +9,7 @@ use lib.Dec.{leb}
 use lib.ListN.{length, take}
 use Rattle.words.specs.Words.{Bytes, pick}
 use Rattle.format.specs.Records.{longest}
-use Rattle.answers.specs.Calls.{over}
+use Rattle.format.specs.Outcomes.{over}
 use Rattle.streams.specs.Streams.{namesOf}
 use Rattle.accept.specs.Parts.{Parts, told}
 

@@ -3,7 +3,7 @@ ghost use mathlib.Core.Path.{_≡_};
 ghost use mathlib.Core.List.{[]};
 ghost use Prim.Native.Nat.{_≤_};
 ghost use lib.ListN.{getD, length};
-ghost use Rattle.answers.specs.Calls.{over};
+ghost use Rattle.format.specs.Outcomes.{over};
 ghost use Rattle.streams.specs.Streams.{namesOf};
 ghost use Rattle.names.specs.Names.{Named, PositionAsk, Put};
 

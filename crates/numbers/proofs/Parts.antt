@@ -19,7 +19,7 @@ use mir.Val.{Fits}
 use Rattle.words.specs.Words.{Bytes, InBytes}
 use Rattle.format.specs.Book.{number, numbers}
 use Rattle.format.proofs.Numbers.{numbers-append, numbers-length}
-use Rattle.answers.specs.Calls.{over}
+use Rattle.format.specs.Outcomes.{over}
 
 -- what is known of a slice that is lent
 abbrev pub Held : Bytes → Type 0

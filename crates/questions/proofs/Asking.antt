@@ -14,14 +14,15 @@ use Rattle.words.specs.Words.{Bytes, InBytes, plain, word}
 use Rattle.words.proofs.Words.{plain-lawful}
 use Rattle.format.specs.Book.{Book, Opened, opened}
 use Rattle.format.specs.Records.{longest}
-use Rattle.answers.specs.Calls.{given, question, questionOf, refused}
+use Rattle.format.specs.Outcomes.{checkOf, given, refused}
+use Rattle.answers.specs.Calls.{check, question, questionOf}
 use Rattle.answers.proofs.Calls.{question-given, question-long, question-none}
 use Rattle.answers.specs.Questions.{Pair, answer, ask, count, exact, exactFrom, place, range}
 use Rattle.descent.specs.Vocabulary.{asked, openedNames, startIn, wordsIn}
 use Rattle.descent.proofs.Bytes.{opened-searchable}
 use Rattle.streams.specs.Streams.{namesOf, wordsOf}
 use Rattle.numbers.proofs.Parts.{Held, held-bytes}
-use Rattle.accept.specs.Parts.{checkedOf}
+use Rattle.accept.specs.Parts.{checkedNumbers}
 use Rattle.accept.specs.declared.Checked.{Checked}
 use Rattle.accept.specs.declared.Checked.the-variants.{Unsound}
 use Rattle.accept.proofs.Judging.{SoundBook, sound-book}
@@ -29,9 +30,9 @@ use Rattle.search.specs.Asks.{KindAsk}
 use Rattle.shapes.specs.Shapes.{answered}
 use Rattle.shapes.specs.declared.Answer.{Answer}
 use Rattle.questions.specs.Asking.{Asking, KindNumber}
-use Rattle.questions.proofs.Checks.{checked-sound, no-book}
+use Rattle.questions.proofs.Checks.{no-book}
 
-pub ask-unsound : (kind : ℕ) (b q : Bytes) (r : Answer) → answered r ≡ refused 2 → (v : Checked) → v ≡ checkedOf (opened plain b) → v ≡ Unsound
+pub ask-unsound : (kind : ℕ) (b q : Bytes) (r : Answer) → answered r ≡ refused 2 → (v : Checked) → checkedNumbers v ≡ checkOf (opened plain b) → v ≡ Unsound
     → answered r ≡ question plain kind b q
 unfolding question questionOf
 ask-unsound kind b q r e v s u = e ∙ sym (ap (questionOf plain kind q) (no-book b v s u))
@@ -51,7 +52,8 @@ module _ (b q : Bytes) (n k kind : ℕ) (held : Held b) (s : Asking b n k kind) 
 
   -- what the check has shown
   shown : SoundBook b n k
-  shown = sound-book b n k bytes (checked-sound b n k (s .checked))
+  unfolding check
+  shown = sound-book b n k bytes (s .checked)
 
   asks : question plain kind b q ≡ questionOf plain kind q (Book k (namesOf b))
   unfolding question

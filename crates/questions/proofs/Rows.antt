@@ -13,9 +13,10 @@ use borrow.Author.Tests.{eq-eqb, eqb-true, le-leb, leb-true}
 use Rattle.words.specs.Words.{Bytes, plain}
 use Rattle.words.proofs.Words.{both-true}
 use Rattle.format.specs.Book.{Book, NoBook, Opened, opened}
-use Rattle.answers.specs.Calls.{Answer as Numbers, Row as Question, question, questionOf, refused, rowAnswer}
+use Rattle.format.specs.Outcomes.{Answer as Numbers, checkOf, given, refused}
+use Rattle.answers.specs.Calls.{Row as Question, question, questionOf, rowAnswer}
 use Rattle.answers.proofs.Calls.{GoodRow, row-bad, row-good}
-use Rattle.accept.specs.Parts.{checkedOf}
+use Rattle.accept.specs.Parts.{checkedNumbers}
 use Rattle.accept.specs.declared.Checked.{Checked}
 use Rattle.accept.specs.declared.Checked.the-variants.{Sound, Unsound}
 use Rattle.shapes.specs.Shapes.{answered}
@@ -48,17 +49,17 @@ module _ (b : Bytes) (rows places : ℕ) where
     taken : openingOf rows (takesRows rows places) (opened plain b) ≡ openingOf rows true (opened plain b)
     taken = rw (le-leb rows 64 few, eq-eqb rows places equal) refl
 
-    pub unsound-opens : (r : Opening) → r ≡ closedBy 2 → (v : Checked) → v ≡ checkedOf (opened plain b) → v ≡ Unsound → r ≡ openingOf rows (takesRows rows places) (opened plain b)
+    pub unsound-opens : (r : Opening) → r ≡ closedBy 2 → (v : Checked) → checkedNumbers v ≡ checkOf (opened plain b) → v ≡ Unsound → r ≡ openingOf rows (takesRows rows places) (opened plain b)
     unfolding openingOf
     unsound-opens r e v s u = e ∙ sym (taken ∙ ap (openingOf rows true) (no-book b v s u))
 
-    pub sound-opens : (n k : ℕ) (v : Checked) → v ≡ checkedOf (opened plain b) → v ≡ Sound n k → accepting rows n k ≡ openingOf rows (takesRows rows places) (opened plain b)
-    unfolding openingOf
-    sound-opens n k v s u = go (opened plain b) (sym u ∙ s) ∙ sym taken
+    pub sound-opens : (n k : ℕ) (v : Checked) → checkedNumbers v ≡ checkOf (opened plain b) → v ≡ Sound n k → accepting rows n k ≡ openingOf rows (takesRows rows places) (opened plain b)
+    unfolding openingOf checkOf
+    sound-opens n k v s u = go (opened plain b) (ap checkedNumbers (sym u) ∙ s) ∙ sym taken
       where
-        go : (o : Opened) → Sound n k ≡ checkedOf o → accepting rows n k ≡ openingOf rows true o
-        go NoBook q = absurd (let z : _≡_ {A = ℕ} 0 1 = cc in omega arith)
-        go (Book j xs) q = let nx : n ≡ length xs = cc in let kj : k ≡ j = cc in ap₂ (λ (x y : ℕ). accepting rows x y) nx kj
+        go : (o : Opened) → given n k ≡ checkOf o → accepting rows n k ≡ openingOf rows true o
+        go NoBook q = absurd (let z : _≡_ {A = ℕ} 0 2 = ap (λ (a : Numbers). a .code) q in omega arith)
+        go (Book j xs) q = ap₂ (λ (x y : ℕ). accepting rows x y) (ap (λ (a : Numbers). a .first) q) (ap (λ (a : Numbers). a .second) q)
 
 -- ---- what a row gets
 

@@ -10,7 +10,8 @@ use lib.Dec.{eqb, leb}
 use lib.ListN.{length}
 use Rattle.words.specs.Words.{Bytes, both, plain}
 use Rattle.format.specs.Book.{Book, NoBook, Opened}
-use Rattle.answers.specs.Calls.{check, given}
+use Rattle.format.specs.Outcomes.{given}
+use Rattle.answers.specs.Calls.{check}
 use Rattle.questions.specs.declared.Opening.{Opening}
 
 pub record KindNumber (kind : ℕ) : Type 0 where

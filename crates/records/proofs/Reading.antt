@@ -22,8 +22,9 @@ use lib.Seq.{drop-cons, drop-drop, getD-at, getD-take, getD-drop, getD-set-same,
 use borrow.Author.Tests.{lt-ltb, le-ltb, le-leb, lt-leb}
 use Rattle.words.specs.Words.{Bytes, at, both, less, pick, plain, shared, word}
 use Rattle.words.proofs.Words.{at-past, less-by, part-at, plain-injective, shared-comm, shared-le, shared-more, shared-word, word-at}
+use Rattle.format.specs.Outcomes.{given, readingOf}
 use Rattle.format.specs.Records.{Names, Reading, Refused, after, goodLength, mostNames, readFrom, readList}
-use Rattle.format.proofs.Records.{read-skip}
+use Rattle.format.proofs.Records.{read-refused, read-skip}
 use Rattle.records.specs.declared.Verdict.the-variants.{Good, Bad}
 use Rattle.records.specs.Lists.{Judged, Noted, names, namesIn}
 
@@ -182,18 +183,20 @@ reading-start s lens steps l k = record {
 }
 
 pub good-list : {s : Bytes} {lens steps : List ℕ} {o p m n : ℕ} → ReadUpTo s lens steps o p m n → o ≡ length s → Judged s lens steps (Good n)
-unfolding readFrom names
+unfolding readFrom names readingOf
 good-list {s} {lens} {steps} {o} r h =
     let e : readList plain s ≡ Names (r .done) = r .so-far ∙ rw (drop-of-length-le s {i = o} (omega arith)) (ap Names (append-nil (r .done))) in
     record {
-      verdict = rw e (ap Good (sym (r .counted)));
+      verdict = rw e (ap (λ (n : ℕ). given n 0) (sym (r .counted)));
+      refuses = λ code i q. absurd (let z : _≡_ {A = ℕ} 0 1 = cc in omega arith);
       noted = subst (λ (x : Reading). Noted (namesIn x) lens steps) (sym e) (r .noted);
     }
 
 refused : (s : Bytes) (lens steps : List ℕ) (code n : ℕ) → readList plain s ≡ Refused code n → Judged s lens steps (Bad code n)
-unfolding names
+unfolding names readingOf
 refused s lens steps code n e = record {
-  verdict = rw e;
+  verdict = rw e refl;
+  refuses = λ c i q. let same : code ≡ c = cc in omega (arith, read-refused plain s code n e);
   noted = subst (λ (x : Reading). Noted (namesIn x) lens steps) (sym e) (noted-none lens steps);
 }
 

@@ -1,5 +1,5 @@
 -- A list that is read: its names, and what is noted of them on the way.
---     verdictOf         the reading of a list, as the code answers it
+--     verdictNumbers    document 01's numbers for each verdict
 --     names, words      the names of a list that reads well, and their words
 --     Noted             each name's length, and what it shares with the name before
 --     Judged            what judging a list gives
@@ -12,12 +12,13 @@ use mathlib.Core.Bool.{true}
 use lib.ListN.{length, getD, take}
 use Rattle.words.specs.Words.{Bytes, Words, plain, word, shared}
 use Rattle.format.specs.Records.{Reading, Names, Refused, readList, encode, sound}
+use Rattle.format.specs.Outcomes.{Answer, given, numbered, readingOf}
 use Rattle.records.specs.declared.Verdict.{Verdict}
 use Rattle.records.specs.declared.Verdict.the-variants.{Good, Bad}
 
-abbrev pub verdictOf : Reading → Verdict
-verdictOf (Names xs) = Good (length xs)
-verdictOf (Refused code i) = Bad code i
+abbrev pub verdictNumbers : Verdict → Answer
+verdictNumbers (Good n) = given n 0
+verdictNumbers (Bad code i) = numbered code i
 
 abbrev pub namesIn : Reading → List Bytes
 namesIn (Names xs) = xs
@@ -37,7 +38,8 @@ pub record Noted (xs : List Bytes) (lens steps : List ℕ) : Type 0 where
   pub shares : (i : ℕ) → suc i < length xs → getD steps (suc i) 0 ≡ shared (getD xs i []) (getD xs (suc i) [])
 
 pub record Judged (s : Bytes) (lens steps : List ℕ) (r : Verdict) : Type 0 where
-  pub verdict : r ≡ verdictOf (readList plain s)
+  pub verdict : verdictNumbers r ≡ readingOf (readList plain s)
+  pub refuses : (code i : ℕ) → r ≡ Bad code i → 5 ≤ code
   pub noted : Noted (names s) lens steps
 
 -- a list of n names has been judged

@@ -1,7 +1,8 @@
 // What crosses the public calls: the answer that they give and the row of a batch that they take. A part above the book that has one of
 // them in its hands lists this crate beside `book`; so nothing here asks anything of its caller.
 ghost use mathlib.Core.Path.{_≡_};
-ghost use Rattle.shapes.specs.Shapes.{answered, numbered};
+ghost use Rattle.format.specs.Outcomes.{numbered};
+ghost use Rattle.shapes.specs.Shapes.{answered};
 
 // 0 or the number of a refusal, and two numbers beside it.
 #[repr(C)]

@@ -23,7 +23,8 @@ use Rattle.format.proofs.Book.{book-length, book-opened, fits-parts, opened-boo
 use Rattle.format.proofs.Numbers.{all-bytes, bytes-all}
 use Rattle.format.proofs.Records.{from-sound, rising-sizes, sound-few, sound-rises, sound-rising}
 use Rattle.format.proofs.Small.{book-bytes, names-bytes}
-use Rattle.answers.specs.Calls.{Answer, check, checkOf, given, refused}
+use Rattle.format.specs.Outcomes.{Answer, checkOf, given, refused}
+use Rattle.answers.specs.Calls.{check}
 use Rattle.theorems.specs.Demands.{BookOf}
 
 module _ (ρ : Rule) (ok : Lawful ρ) where

@@ -1,6 +1,7 @@
 -- Document 01, 'What the statements have to settle': whatever came in, two results that a call's statement allows coincide, in the
 -- answer and in every lent byte and row. A statement is the equation of a result with the call's function.
 --     build-settles, check-settles, read-settles, question-settles, batch-settles
+--     answer-settles, rows-settle     and settled numbers are a settled answer, and settled rows, of the code
 --     read-regardless   what a read leaves at the front of a room does not depend on what the room held
 --     batch-alone       every row of an accepted batch gets what its question alone would get, or 11
 --     batch-regardless  a row's answer does not depend on other rows, or on bytes outside its own span; of these only their number counts
@@ -8,14 +9,18 @@
 use Prim.Native.Nat.{ℕ, _+_}
 use mathlib.Core.Path.{_≡_, refl, sym, ap, ap₂, _∙_, subst}
 use mathlib.Core.Bool.{Bool, true, false}
-use mathlib.Core.List.{List, []}
+use mathlib.Core.List.{List, [], map}
 use lib.Dec.{leb, ltb}
 use lib.ListN.{List·getD-map, length, getD, take, drop}
 use lib.Seq.{take-append-seam}
 use Rattle.words.specs.Words.{Bytes, Rule, both, pick}
 use Rattle.format.specs.Book.{Book, NoBook, Opened, opened}
-use Rattle.answers.specs.Calls.{Answer, Batched, Row, Written, batch, build, check, given, goodRow, over, question, questionOf, readBack, readBackOf, refused, rowAnswer, write}
+use Rattle.format.specs.Outcomes.{Answer, Written, given, over, refused, write}
+use Rattle.answers.specs.Calls.{Batched, Row, batch, build, check, goodRow, question, questionOf, readBack, readBackOf, rowAnswer}
 use Rattle.answers.proofs.Calls.{batch-rows}
+use Rattle.shapes.specs.Shapes.{answered}
+use Rattle.shapes.specs.declared.Answer.{Answer as Given}
+use Rattle.shapes.proofs.Shapes.{answered-injective, answers-injective}
 
 written-settles : (o a b : Written) → a ≡ o → b ≡ o → (a .answer ≡ b .answer) × (a .room ≡ b .room)
 written-settles o a b e f =
@@ -43,6 +48,12 @@ module _ (ρ : Rule) where
   batch-settles s questions rows answers a b e f =
       let g : a ≡ b = e ∙ sym f in
       (ap (λ (w : Batched). w .answer) g, ap (λ (w : Batched). w .rows) g)
+
+pub answer-settles : (x : Answer) (a b : Given) → answered a ≡ x → answered b ≡ x → a ≡ b
+answer-settles x a b e f = answered-injective a b (e ∙ sym f)
+
+pub rows-settle : (xs : List Answer) (rs ts : List Given) → map answered rs ≡ xs → map answered ts ≡ xs → rs ≡ ts
+rows-settle xs rs ts e f = answers-injective rs ts (e ∙ sym f)
 
 -- ---- what another guest left in the room
 

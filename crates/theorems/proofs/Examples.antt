@@ -10,7 +10,8 @@ use Rattle.format.specs.Entries.{blocks, blocksFrom, decode, decodeFrom, entry,
 use Rattle.format.specs.Nodes.{depth, glue, groups, nodeTable, rowOf, table, tableWithin}
 use Rattle.format.specs.Records.{rising, sound}
 use Rattle.format.proofs.Example.{book-lengths, book80, book85, books, example, text}
-use Rattle.answers.specs.Calls.{Answer, given, question, questionOf}
+use Rattle.format.specs.Outcomes.{Answer, given}
+use Rattle.answers.specs.Calls.{question, questionOf}
 use Rattle.answers.specs.Questions.{answer, ask, childOf, count, exact, exactFrom, nearest, place, range, reachWithin, reached}
 use Rattle.answers.proofs.Example.{Marked, marked}
 

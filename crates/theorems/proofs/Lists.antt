@@ -24,7 +24,8 @@ use Rattle.format.specs.Records.{Names, Reading, Refused, encode, readList, sou
 use Rattle.format.proofs.Book.{Fits, fits-parts, opened-book, parts-fits}
 use Rattle.format.proofs.Entries.{decode-at, decode-entries}
 use Rattle.format.proofs.Records.{read-encode, read-refused, read-sound, rising-sizes, sound-rises, sound-rising}
-use Rattle.answers.specs.Calls.{Written, build, builtFrom, check, checkOf, given, over, readBack, readBackOf, refused, write}
+use Rattle.format.specs.Outcomes.{Written, checkOf, given, over, refused, write}
+use Rattle.answers.specs.Calls.{build, builtFrom, check, readBack, readBackOf}
 use Rattle.theorems.specs.Demands.{RoundTrip}
 
 module _ (ρ : Rule) where

@@ -14,7 +14,8 @@ use Rattle.words.specs.Words.{Bytes, Words, Rule, InBytes, pick, word, less}
 use Rattle.format.specs.Records.{encode, longest, mostNames}
 use Rattle.format.specs.Nodes.{depth, groups}
 use Rattle.format.specs.Book.{longestBook, book}
-use Rattle.answers.specs.Calls.{Written, check, given, over, readBack}
+use Rattle.format.specs.Outcomes.{Written, given, over}
+use Rattle.answers.specs.Calls.{check, readBack}
 
 pub record BookOf (ρ : Rule) (s : Bytes) (k : ℕ) (xs : List Bytes) : Type 0 where
   pub block : (1 ≤ k) × (k ≤ 64)
