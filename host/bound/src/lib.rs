@@ -11,6 +11,8 @@
 //! | [`frame`] | how deep the frame of a function gets, and how deep it is at each call |
 //! | [`function`] | all functions, and which of them each call enters |
 //! | [`way`] | the deepest way from a function, and the one cycle |
+//! | [`header`] | what `mistrogu.h` says, held to that |
+//! | [`page`] | the figures as tables |
 //!
 //! # Why it is a bound
 //!
@@ -38,6 +40,8 @@
 pub mod dump;
 pub mod frame;
 pub mod function;
+pub mod header;
 pub mod object;
+pub mod page;
 pub mod step;
 pub mod way;
