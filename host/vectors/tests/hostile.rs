@@ -6,6 +6,7 @@ use vectors::hostile::{any, kinds, Kind, DEEPER_THAN_ANY};
 use vectors::lists;
 use vectors::pieces::Pieces;
 use vectors::random::Random;
+use vectors::{asking, batching, checking, reading};
 
 /// All hostile books, small ones and the largest, with what is wrong.
 fn all_books() -> Vec<(String, Pieces)> {
@@ -127,4 +128,23 @@ fn books_of_any_kind_over_any_names_are_mostly_refused() {
         accepted += usize::from(book_check(&book).code == 0);
     }
     assert!(accepted < 100, "{accepted}");
+}
+
+#[test]
+fn every_kind_is_in_every_set_of_a_call_that_takes_a_book() {
+    for set in [checking::SET, reading::SET, asking::SET, batching::SET] {
+        let mut hostile = (set.cases)();
+        hostile.retain(|case| case.purpose().starts_with("hostile, "));
+        for kind in kinds() {
+            let words = format!("hostile, {}: ", kind.how);
+            let found = hostile
+                .iter()
+                .any(|case| case.purpose().starts_with(&words));
+            assert!(found, "{} in {}", kind.how, set.name);
+        }
+        for case in hostile {
+            let is_refused = case.outcome().starts_with("2 0 0");
+            assert!(is_refused, "{} in {}", case.purpose(), set.name);
+        }
+    }
 }
