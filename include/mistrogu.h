@@ -69,6 +69,10 @@ extern "C" {
 #define MISTROGU_LARGEST_BLOCK 64
 /* The most rows of a batch. */
 #define MISTROGU_MOST_ROWS 64
+/* The bytes of stack that are enough for book_build. */
+#define MISTROGU_BUILD_STACK 5632
+/* The bytes of stack that are enough for every other call. */
+#define MISTROGU_STACK 40960
 
 /* The numbers given back when a call says no. */
 enum mistrogu_refusal {
