@@ -1,15 +1,17 @@
 //! Random books, sound or spoilt.
 
+use crate::lent::lend;
 use crate::shapes::any_names;
+use fenced::Fenced;
 use model::book_of;
 use vectors::damage::{spoil_book, spoil_names};
 use vectors::lists::Names;
 use vectors::random::Random;
 
-/// The bytes of a book, and the names that went into it. Half of the books are
-/// spoilt: their bytes, their pieces, or the names or block size before the
-/// layout. Of the large lists some are too large for a book.
-pub fn any_book(random: &mut Random) -> (Vec<u8>, Names) {
+/// The bytes of a book, to be lent, and the names that went into it. Half of the
+/// books are spoilt: their bytes, their pieces, or the names or block size
+/// before the layout. Of the large lists some are too large for a book.
+pub fn any_book(random: &mut Random) -> (Fenced<u8>, Names) {
     let block = any_block(random);
     let mut names = any_names(random, block);
     let book = match random.below(12) {
@@ -21,7 +23,7 @@ pub fn any_book(random: &mut Random) -> (Vec<u8>, Names) {
         2..=5 => spoil_book(random, block, &names),
         _ => book_of(block, &names),
     };
-    (book, names)
+    (lend(random, &book), names)
 }
 
 /// A block size from 1 to 64, often a small one.

@@ -5,6 +5,11 @@
 //! seed gives the same cases. A difference is printed with the whole case, and
 //! the exit status is then 1.
 //!
+//! The proved library is called on exactly as much stack as its header says is
+//! enough, and all that is lent to it has a fence before or behind it. Where it
+//! takes more stack, or steps past what is lent, the system ends the run with a
+//! signal.
+//!
 //! Another call is a module with one function, and one more line in [`KINDS`].
 
 mod asking;
