@@ -32,16 +32,21 @@
  *
  * - Each pointer is to that much live memory for the whole call. It is never
  *   null, not even where the length is 0: any other address will do then.
- * - Nobody else writes to that memory while the call runs. What a call writes
- *   to (a room, answer rows) overlaps nothing else that is lent to it. What is
- *   only read may overlap.
+ * - Nobody else writes to that memory while the call runs: a call trusts what it
+ *   has checked, and whoever can write to a book in the midst of a call gets the
+ *   caller's stack. Copy a book that another guest can write to, or map it so
+ *   that it can't (docs/TRUST.md).
+ * - What a call writes to (a room, answer rows) overlaps nothing else that is lent
+ *   to it. What is only read may overlap.
  * - Rows and answers are aligned as C aligns their structs, to 8 bytes. Bytes
  *   have no alignment.
  * - No piece of memory is larger than PTRDIFF_MAX bytes.
- * - There is stack for the call. Measured, not proved: book_build takes 5,400
- *   bytes, every other call up to 39,000, which it does for names that are each
- *   the beginning of the next. Real names took about 5,100, but bytes from
- *   strangers may be any book, so 40 KiB should be free.
+ * - There is stack for the call: MISTROGU_BUILD_STACK bytes for book_build and
+ *   MISTROGU_STACK for every other call are enough for any input, be it a book or
+ *   not, with what the call itself pushes and without what your own memcpy and
+ *   memset take. Real names take some 5,100 bytes; names that are each the
+ *   beginning of the next, and bytes that are made to look so, take the most. The
+ *   numbers are read out of the compiled code, by `host/bound`, for all inputs.
  *
  * The code is for x86-64 with the calling convention of System V (Linux and its
  * kin); there a struct of three words comes back through memory, which a C or

@@ -1,5 +1,5 @@
 //! `book_batch`, of the book in a file: 64 of the mixed questions, 16 in each
-//! kind.
+//! kind. Of bytes that are no book they are strangers.
 
 use crate::asking::{shown_question, KINDS};
 use crate::{mixed, read_file, shown, Ready};
@@ -59,6 +59,9 @@ pub fn ready(words: &[String]) -> Result<Ready, String> {
 /// the order in which they are made.
 pub fn together(words: &[String]) -> Result<String, String> {
     let prepared = prepare(words)?;
+    if prepared.expected.code != 0 {
+        return Err(format!("{} is no book", words.join(" ")));
+    }
     let mut answers = prepared.unset_answers();
     let answer = shown(prepared.ask(&mut answers), prepared.expected)?;
     prepared.compare(&answers)?;
@@ -78,7 +81,7 @@ fn prepare(words: &[String]) -> Result<Prepared, String> {
         return Err("a batch needs the name of a book file".to_string());
     };
     let book = read_file(file)?;
-    let (_, names) = open(&book).ok_or_else(|| format!("{file} is no book"))?;
+    let names = open(&book).map_or_else(Names::new, |(_, names)| names);
     let batch = mixed_batch(&names);
     let rows = batch.rows();
     let mut expected_rows = vec![Answer::default(); rows.len()];

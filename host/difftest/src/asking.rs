@@ -1,8 +1,10 @@
 //! Random calls of the four questions.
 
 use crate::books::any_book;
-use crate::lent::hex;
+use crate::lent::{hex, lend};
 use crate::same_answer;
+use fenced::on_stack;
+use mistrogu::STACK;
 use vectors::questions::any_question;
 use vectors::random::Random;
 
@@ -42,8 +44,9 @@ fn run(
         // A length of which the low 16 bits alone would be fine.
         question.resize(random.between(65_530, 65_750), b'a');
     }
+    let question = lend(random, &question);
     let expected = model(&book, &question);
-    let found = proved(&book, &question);
+    let found = on_stack(STACK, || proved(&book, &question));
     if same_answer(expected, found) {
         return Ok(expected.code);
     }

@@ -1,8 +1,10 @@
 //! Random calls of `book_build`.
 
-use crate::lent::{any_room_length, hex, Lent};
+use crate::lent::{any_room, any_room_length, hex, lend};
 use crate::same_answer;
 use crate::shapes::any_names;
+use fenced::{on_stack, Fenced};
+use mistrogu::BUILD_STACK;
 use model::write_list;
 use vectors::damage::{spoil_bytes, spoil_names};
 use vectors::random::Random;
@@ -15,11 +17,12 @@ pub fn run(random: &mut Random) -> Result<usize, String> {
     let output = model::book_build(&list, block, &mut longest);
     let length = if output.code == 0 { output.first } else { 200 };
     let room_length = any_room_length(random, length);
-    let lent = Lent::any(random, room_length);
+    let lent = any_room(random, room_length);
 
     let (mut expected, mut found) = (lent.clone(), lent.clone());
     let expected_answer = model::book_build(&list, block, expected.room());
-    let found_answer = proved::book_build(&list, block, found.room());
+    let room = found.room();
+    let found_answer = on_stack(BUILD_STACK, || proved::book_build(&list, block, room));
     if same_answer(expected_answer, found_answer) && expected == found {
         return Ok(expected_answer.code);
     }
@@ -29,9 +32,9 @@ pub fn run(random: &mut Random) -> Result<usize, String> {
         format!("expected {expected_answer:?}"),
         format!("found    {found_answer:?}"),
         format!("room differs at {:?}", expected.first_difference(&found)),
-        format!("room before   {}", lent.shown()),
-        format!("room expected {}", expected.shown()),
-        format!("room found    {}", found.shown()),
+        format!("room before   {}", lent.shown(hex)),
+        format!("room expected {}", expected.shown(hex)),
+        format!("room found    {}", found.shown(hex)),
     ]
     .join("\n"))
 }
@@ -60,8 +63,8 @@ const SPOILT: [(usize, usize); 8] = [
     (1, 2),
 ];
 
-/// The bytes of a list, sound or spoilt.
-fn any_list(random: &mut Random, block: usize) -> Vec<u8> {
+/// The bytes of a list, sound or spoilt, to be lent.
+fn any_list(random: &mut Random, block: usize) -> Fenced<u8> {
     let mut names = any_names(random, block.clamp(1, 64));
     let (of_names, of_bytes) = *random.one_of(&SPOILT);
     for _ in 0..of_names {
@@ -71,5 +74,5 @@ fn any_list(random: &mut Random, block: usize) -> Vec<u8> {
     for _ in 0..of_bytes {
         spoil_bytes(random, &mut list);
     }
-    list
+    lend(random, &list)
 }

@@ -3,13 +3,15 @@
 use crate::books::any_book;
 use crate::lent::hex;
 use crate::same_answer;
+use fenced::on_stack;
+use mistrogu::STACK;
 use vectors::random::Random;
 
 /// Makes one call of both programs: the code they agree on, or the whole case.
 pub fn run(random: &mut Random) -> Result<usize, String> {
     let (book, _) = any_book(random);
     let expected = model::book_check(&book);
-    let found = proved::book_check(&book);
+    let found = on_stack(STACK, || proved::book_check(&book));
     if same_answer(expected, found) {
         return Ok(expected.code);
     }

@@ -1,55 +1,82 @@
-//! Bytes that are lent to a call, and what is known of them afterwards.
+//! What is lent to a call, and what is known of it afterwards.
+//!
+//! Everything is lent with a fence on one side, before or behind it, so that a
+//! call that steps over it is stopped. Beside what may be written, items are
+//! watched on the other side.
 
+use fenced::{Fence, Fenced};
+use std::ops::Range;
 use vectors::random::Random;
 
-/// How many bytes are watched on each side of a room.
-const WATCHED: usize = 32;
-
-/// A room in the midst of bytes that no call may touch.
-#[derive(Clone, PartialEq, Eq)]
-pub struct Lent {
-    bytes: Vec<u8>,
-    start: usize,
-    length: usize,
+/// Lends a copy of these items, with a fence on any side.
+pub fn lend<T: Copy>(random: &mut Random, items: &[T]) -> Fenced<T> {
+    Fenced::of(items, any_fence(random))
 }
 
-impl Lent {
-    /// A room of this length, at any address, with any bytes in it.
-    pub fn any(random: &mut Random, length: usize) -> Lent {
-        let start = WATCHED + random.below(8);
-        let (first, step) = (random.byte(), random.byte() | 1);
-        let bytes = (0..start + length + WATCHED)
-            .scan(first, |byte, _| {
-                *byte = byte.wrapping_add(step);
-                Some(*byte)
-            })
-            .collect();
+/// Either side.
+fn any_fence(random: &mut Random) -> Fence {
+    *random.one_of(&[Fence::Before, Fence::Behind])
+}
+
+/// A room between a fence and items that no call may touch.
+#[derive(Clone, PartialEq)]
+pub struct Lent<T: Copy> {
+    items: Fenced<T>,
+    room: Range<usize>,
+}
+
+impl<T: Copy + PartialEq> Lent<T> {
+    /// A room of this length, with so many items watched beside it, and any
+    /// items in all of it.
+    pub fn any(
+        random: &mut Random,
+        length: usize,
+        watched: usize,
+        mut any_item: impl FnMut(&mut Random) -> T,
+    ) -> Lent<T> {
+        let items: Vec<T> = (0..length + watched).map(|_| any_item(random)).collect();
+        let fence = any_fence(random);
+        let start = match fence {
+            Fence::Before => 0,
+            Fence::Behind => watched,
+        };
         Lent {
-            bytes,
-            start,
-            length,
+            items: Fenced::of(&items, fence),
+            room: start..start + length,
         }
     }
 
     /// The room to be lent.
-    pub fn room(&mut self) -> &mut [u8] {
-        &mut self.bytes[self.start..self.start + self.length]
+    pub fn room(&mut self) -> &mut [T] {
+        &mut self.items[self.room.clone()]
     }
 
-    /// Where the bytes of both first differ, counted from the start of the
-    /// room; negative in the watched bytes before it.
-    pub fn first_difference(&self, other: &Lent) -> Option<isize> {
-        let pairs = self.bytes.iter().zip(&other.bytes);
+    /// Where the items of both first differ, counted from the start of the
+    /// room; negative in the watched items before it.
+    pub fn first_difference(&self, other: &Lent<T>) -> Option<isize> {
+        let pairs = self.items.iter().zip(other.items.iter());
         let at = pairs.take_while(|(one, other)| one == other).count();
-        (at < self.bytes.len()).then(|| at as isize - self.start as isize)
+        (at < self.items.len()).then(|| at as isize - self.room.start as isize)
     }
 
-    /// The room and the watched bytes around it, in hex.
-    pub fn shown(&self) -> String {
-        let (before, rest) = self.bytes.split_at(self.start);
-        let (room, after) = rest.split_at(self.length);
-        format!("{} [{}] {}", hex(before), hex(room), hex(after))
+    /// The room between brackets, with the watched items before or behind it.
+    pub fn shown(&self, show: impl Fn(&[T]) -> String) -> String {
+        let (before, rest) = self.items.split_at(self.room.start);
+        let (room, after) = rest.split_at(self.room.len());
+        format!("{} [{}] {}", show(before), show(room), show(after))
     }
+}
+
+/// How many bytes are watched beside a room of bytes.
+const WATCHED: usize = 32;
+
+/// A room of so many bytes.
+pub fn any_room(random: &mut Random, length: usize) -> Lent<u8> {
+    let (mut byte, step) = (random.byte(), random.byte() | 1);
+    Lent::any(random, length, WATCHED, |_| {
+        byte = byte.wrapping_add(step);
+        byte
+    })
 }
 
 /// A length of room for an output of this length: often just enough or just

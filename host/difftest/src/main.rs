@@ -5,6 +5,13 @@
 //! seed gives the same cases. A difference is printed with the whole case, and
 //! the exit status is then 1.
 //!
+//! The proved library is called on exactly as much stack as its header says is
+//! enough, and all that is lent to it has a fence before or behind it. Where it
+//! takes more stack, or steps past what is lent, the system ends the run with a
+//! signal. Run again with the same seed and `--say`, which prints each case's own
+//! seed before it is run: the last one is that of the case, to be had alone with
+//! `--cases 1 --seed`.
+//!
 //! Another call is a module with one function, and one more line in [`KINDS`].
 
 mod asking;
@@ -23,7 +30,7 @@ use std::time::{Duration, Instant, SystemTime, UNIX_EPOCH};
 use tally::Tally;
 use vectors::random::Random;
 
-const USAGE: &str = "difftest [--seconds N | --cases N] [--seed S]";
+const USAGE: &str = "difftest [--seconds N | --cases N] [--seed S] [--say]";
 
 /// A kind of call: its name, and a function that makes one such call at random
 /// and gives the code of the answer, or the whole case where the two differ.
@@ -93,14 +100,21 @@ impl Until {
     }
 }
 
+/// What the command line asks for.
+struct Asked {
+    until: Until,
+    seed: u64,
+    /// Whether each case is told of before it is run.
+    say: bool,
+}
+
 fn main() -> ExitCode {
-    let words: Vec<String> = env::args().skip(1).collect();
-    let Some((until, seed)) = read_words(&words) else {
+    let Some(asked) = read_words(env::args().skip(1)) else {
         eprintln!("{USAGE}");
         return ExitCode::from(2);
     };
-    println!("seed {seed}");
-    match run(&until, seed) {
+    println!("seed {}", asked.seed);
+    match run(&asked) {
         Ok(figures) => {
             println!("{figures}");
             ExitCode::SUCCESS
@@ -115,13 +129,16 @@ fn main() -> ExitCode {
 /// Runs cases until it is time to stop: the figures, or the first difference.
 ///
 /// Each case has a seed of its own, so it can be run again by itself.
-fn run(until: &Until, seed: u64) -> Result<String, String> {
+fn run(asked: &Asked) -> Result<String, String> {
     let began = Instant::now();
     let mut tally = Tally::new(&KINDS);
-    while !until.is_reached(tally.cases(), began.elapsed()) {
-        let own_seed = seed.wrapping_add(tally.cases());
+    while !asked.until.is_reached(tally.cases(), began.elapsed()) {
+        let own_seed = asked.seed.wrapping_add(tally.cases());
         let mut random = Random::from_seed(own_seed);
         let kind = random.below(KINDS.len());
+        if asked.say {
+            println!("{}, alone with {}", KINDS[kind].name, words_for(own_seed));
+        }
         let code = (KINDS[kind].run)(&mut random)
             .map_err(|case| difference(KINDS[kind].name, own_seed, &case))?;
         tally.count(kind, code);
@@ -129,21 +146,31 @@ fn run(until: &Until, seed: u64) -> Result<String, String> {
     Ok(tally.figures(began.elapsed()))
 }
 
+/// The words that run the case with this seed alone.
+fn words_for(own_seed: u64) -> String {
+    format!("--cases 1 --seed {own_seed}")
+}
+
 /// What is printed where the two programs differ.
 fn difference(name: &str, own_seed: u64, case: &str) -> String {
-    format!("DIFFERENCE in {name}, again with --cases 1 --seed {own_seed}\n{case}")
+    format!(
+        "DIFFERENCE in {name}, again with {}\n{case}",
+        words_for(own_seed)
+    )
 }
 
 /// Reads the words of the command line; without a limit it is ten seconds,
 /// without a seed the clock gives one.
-fn read_words(words: &[String]) -> Option<(Until, u64)> {
+fn read_words(mut words: impl Iterator<Item = String>) -> Option<Asked> {
     let mut until = Until::Time(Duration::from_secs(10));
     let mut seed = None;
-    for pair in words.chunks(2) {
-        let [option, value] = pair else {
-            return None;
-        };
-        let value: u64 = value.parse().ok()?;
+    let mut say = false;
+    while let Some(option) = words.next() {
+        if option == "--say" {
+            say = true;
+            continue;
+        }
+        let value: u64 = words.next()?.parse().ok()?;
         match option.as_str() {
             "--seconds" => until = Until::Time(Duration::from_secs(value)),
             "--cases" => until = Until::Cases(value),
@@ -151,7 +178,8 @@ fn read_words(words: &[String]) -> Option<(Until, u64)> {
             _ => return None,
         }
     }
-    Some((until, seed.unwrap_or_else(seed_of_the_clock)))
+    let seed = seed.unwrap_or_else(seed_of_the_clock);
+    Some(Asked { until, seed, say })
 }
 
 /// A seed that differs from run to run, short enough to be copied by hand.

@@ -49,7 +49,8 @@
 //!
 //! Every call that takes a book checks all of it before anything else, and
 //! nearly all of its time goes there. A [`batch`] does so once for all of its
-//! rows. Calls take up to 39,000 bytes of stack, [`build`] 5,400.
+//! rows. [`STACK`] bytes of stack are enough for a call, [`BUILD_STACK`] for
+//! [`build`].
 //!
 //! # Linking
 //!
@@ -83,6 +84,11 @@ pub const LONGEST_BOOK: usize = 65_535;
 pub const MOST_ROWS: usize = 64;
 /// The most names of a block; the least is 1.
 pub const LARGEST_BLOCK: usize = 64;
+/// The bytes of stack that are enough for [`build`], whatever is lent to it.
+pub const BUILD_STACK: usize = 5632;
+/// The bytes of stack that are enough for every other call, whatever is lent to
+/// it: a book, or bytes that are none.
+pub const STACK: usize = 40_960;
 
 /// What a check tells of a book.
 #[derive(Clone, Copy, Debug, PartialEq, Eq, Hash)]

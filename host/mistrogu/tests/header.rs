@@ -58,6 +58,8 @@ fn limits() {
         ("MISTROGU_LONGEST_BOOK", mistrogu::LONGEST_BOOK),
         ("MISTROGU_MOST_ROWS", mistrogu::MOST_ROWS),
         ("MISTROGU_LARGEST_BLOCK", mistrogu::LARGEST_BLOCK),
+        ("MISTROGU_BUILD_STACK", mistrogu::BUILD_STACK),
+        ("MISTROGU_STACK", mistrogu::STACK),
     ] {
         assert_eq!(constant(name).0, format!("#define {name} {limit}"));
     }

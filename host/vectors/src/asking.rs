@@ -25,6 +25,7 @@
 //!   range and of nearest.
 
 use crate::damage::{changed_bytes, gaps, other_counts, other_nodes, spoil_book};
+use crate::hostile;
 use crate::lists::{self, Names};
 use crate::pieces::Pieces;
 use crate::questions::{all_short, any_question, around_all, extensions, misses};
@@ -100,6 +101,7 @@ pub fn cases() -> Vec<AskCase> {
         longest_books(),
         spoilt_books(),
         random_books(),
+        hostile_tables(),
     ]
     .into_iter()
     .flatten()
@@ -427,4 +429,21 @@ fn random_books() -> Vec<AskCase> {
         cases.extend(of_bytes(purpose, book, questions.collect()));
     }
     cases
+}
+
+/// Node tables to lead a check astray, over few names, and nests that are
+/// deeper than any book: 2, before 1.
+fn hostile_tables() -> Vec<AskCase> {
+    let few = hostile::kinds().into_iter().map(|kind| (kind, 24));
+    let nests = hostile::nests().into_iter();
+    let deep = nests.map(|kind| (kind, hostile::DEEPER_THAN_ANY));
+    let questions = [vec![], vec![0, 0], vec![0, 9], vec![0; 201]];
+    few.chain(deep)
+        .zip(questions.iter().cycle())
+        .flat_map(|((kind, count), question)| {
+            let purpose = format!("hostile, {}", kind.how);
+            let book = kind.with_names(count).bytes();
+            of_bytes(&purpose, book, vec![question.clone()])
+        })
+        .collect()
 }

@@ -34,6 +34,7 @@
 use crate::batches::{any_batch, any_places, Batch, Numbers, ONE_TOO_MANY};
 use crate::checksum::checksum_of;
 use crate::damage::{changed_bytes, gaps, other_counts, other_nodes, spoil_book};
+use crate::hostile;
 use crate::lists::{self, Names};
 use crate::pieces::Pieces;
 use crate::questions::around_all;
@@ -134,6 +135,7 @@ pub fn cases() -> Vec<BatchCase> {
         large_books(),
         spoilt_books(),
         random_batches(),
+        hostile_tables(),
     ]
     .into_iter()
     .flatten()
@@ -633,4 +635,19 @@ fn random_batches() -> Vec<BatchCase> {
         cases.extend(with_places(purpose, book, batches));
     }
     cases
+}
+
+/// Node tables to lead a check astray, over very few names, and a nest that is
+/// deeper than any book: 2.
+fn hostile_tables() -> Vec<BatchCase> {
+    let deep = (hostile::falling_names(), hostile::DEEPER_THAN_ANY);
+    let few = hostile::kinds().into_iter().map(|kind| (kind, 6));
+    few.chain([deep])
+        .zip((1..=4).cycle())
+        .flat_map(|((kind, count), asked)| {
+            let purpose = format!("hostile, {}", kind.how);
+            let book = kind.with_names(count).bytes();
+            of_bytes(&purpose, book, over_buffer(&[0, 1], &[[asked, 0, 2]]))
+        })
+        .collect()
 }

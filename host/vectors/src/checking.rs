@@ -19,11 +19,13 @@
 //! the answer.
 
 use crate::damage::{changed_bytes, cut_books, other_pieces, spoil_book, Spoilt};
+use crate::hostile;
 use crate::lists::{self, Names};
 use crate::pieces::Pieces;
 use crate::random::Random;
 use crate::rooms::printed_answer;
 use crate::{Case, Set};
+use model::names::MOST_NAMES;
 use model::{book_check, book_of};
 
 /// The set.
@@ -70,6 +72,7 @@ pub fn cases() -> Vec<CheckCase> {
         spoilt_tree(),
         spoilt_at_the_end(),
         spoilt_at_random(),
+        hostile_tables(),
     ]
     .into_iter()
     .flatten()
@@ -296,4 +299,19 @@ fn spoilt_at_random() -> Vec<CheckCase> {
         cases.push(of_bytes("spoilt at random", book));
     }
     cases
+}
+
+/// Node tables to lead a check astray: of every kind over few names, nests that
+/// are deeper than any book, and the one with the most forks.
+fn hostile_tables() -> Vec<CheckCase> {
+    let few = hostile::kinds().into_iter().map(|kind| (kind, 24));
+    let nests = hostile::nests().into_iter();
+    let deep = nests.map(|kind| (kind, hostile::DEEPER_THAN_ANY));
+    few.chain(deep)
+        .chain([(hostile::falling_names(), MOST_NAMES)])
+        .map(|(kind, count)| {
+            let purpose = format!("hostile, {}", kind.how);
+            of_bytes(purpose, kind.with_names(count).bytes())
+        })
+        .collect()
 }

@@ -21,6 +21,7 @@
 //! | [`batches`] | a buffer of questions, and rows that point into it |
 //! | [`pieces`] | a book in pieces, to be put together wrongly |
 //! | [`damage`] | ways to spoil a list or a book |
+//! | [`hostile`] | books that are none, by their node tables |
 //! | [`rooms`] | rooms before and after a call |
 //! | [`random`] | numbers that look random |
 //!
@@ -37,6 +38,7 @@ pub mod building;
 pub mod checking;
 pub mod checksum;
 pub mod damage;
+pub mod hostile;
 pub mod lists;
 pub mod pieces;
 pub mod questions;

@@ -1,9 +1,10 @@
-//! Writes test vectors, says what they are for, and writes lists and books to
-//! measure with.
+//! Writes test vectors, says what they are for, and writes lists, books and what
+//! only looks like a book, to measure with.
 
 use std::path::Path;
 use std::process::ExitCode;
 use std::{env, fs, io};
+use vectors::hostile;
 use vectors::lists::{self, Names};
 use vectors::{Set, SETS};
 
@@ -12,6 +13,7 @@ vectors SET FOLDER       write FOLDER/SET.cases and FOLDER/SET.expected
 vectors purposes SET     say what each case of the set is for
 vectors lists FOLDER     write lists to measure with, as FOLDER/NAME.list
 vectors books FOLDER K   write their books with that block size, as FOLDER/NAME.book
+vectors hostile FOLDER   write the largest books that are none by their nodes, as FOLDER/KIND.book
 The sets are:";
 
 fn main() -> ExitCode {
@@ -20,6 +22,7 @@ fn main() -> ExitCode {
     let done = match words[..] {
         ["lists", folder] => write_lists(Path::new(folder)),
         ["books", folder, block] => write_books(Path::new(folder), block),
+        ["hostile", folder] => write_hostile(Path::new(folder)),
         ["purposes", name] => with_set(name, |set| {
             print!("{}", set.purposes());
             Ok(())
@@ -88,6 +91,15 @@ fn write_books(folder: &Path, block: &str) -> Result<(), String> {
     for (name, names) in shapes() {
         let book = model::book_of(block, &names);
         write_file(folder, &format!("{name}.book"), &book)?;
+    }
+    Ok(())
+}
+
+/// Writes the largest hostile book of each kind.
+fn write_hostile(folder: &Path) -> Result<(), String> {
+    for kind in hostile::kinds() {
+        let name = format!("{}.book", kind.how.replace(' ', "-"));
+        write_file(folder, &name, &kind.largest().bytes())?;
     }
     Ok(())
 }

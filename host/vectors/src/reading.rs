@@ -30,11 +30,13 @@
 //!   touched past the name, or in a refused call, shows.
 
 use crate::damage::{changed_bytes, gaps, other_counts, other_nodes, spoil_book};
+use crate::hostile;
 use crate::lists::{self, Names};
 use crate::pieces::Pieces;
 use crate::random::Random;
 use crate::rooms::{filled_room, printed_outcome};
 use crate::{Case, Set};
+use model::names::MOST_NAMES;
 use model::{book_of, book_read};
 use std::rc::Rc;
 
@@ -100,6 +102,7 @@ pub fn cases() -> Vec<ReadCase> {
         longest_books(),
         spoilt_books(),
         random_books(),
+        hostile_tables(),
     ]
     .into_iter()
     .flatten()
@@ -281,4 +284,19 @@ fn random_books() -> Vec<ReadCase> {
         }
     }
     cases
+}
+
+/// Node tables to lead a check astray, over few names, over as many as make a
+/// nest deeper than any book, and over the most there can be: 2.
+fn hostile_tables() -> Vec<ReadCase> {
+    let counts = [24, hostile::DEEPER_THAN_ANY].into_iter();
+    let kinds =
+        counts.flat_map(|count| hostile::kinds().into_iter().map(move |kind| (kind, count)));
+    kinds
+        .chain([(hostile::falling_names(), MOST_NAMES)])
+        .flat_map(|(kind, count)| {
+            let purpose = format!("hostile, {}", kind.how);
+            of_bytes(&purpose, kind.with_names(count).bytes(), &[(0, 9)])
+        })
+        .collect()
 }

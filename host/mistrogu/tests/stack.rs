@@ -1,0 +1,139 @@
+//! As much stack as the header says is enough, and no call touches a byte beside
+//! what is lent to it: every call on every hostile book, and on the deepest,
+//! widest and largest books there are, with fences around all of it.
+
+use fenced::apart::{last_lines, run_test, word};
+use fenced::{on_stack, Fence, Fenced};
+use mistrogu::{BUILD_STACK, LONGEST_BOOK, LONGEST_NAME, STACK};
+use model::{book_of, write_list};
+use proved::{Answer, Row};
+use vectors::hostile::{kinds, DEEPER_THAN_ANY};
+use vectors::lists::{self, Names};
+
+/// Bytes to be called with: a word on them, and the code that calls give.
+struct Lent {
+    about: String,
+    bytes: Vec<u8>,
+    code: usize,
+}
+
+/// Hostile books of every kind, small, deeper than any book, and the largest.
+fn hostile_books() -> Vec<Lent> {
+    let kinds = kinds().into_iter();
+    kinds
+        .flat_map(|kind| {
+            let [small, deep] = [6, DEEPER_THAN_ANY].map(|count| kind.with_names(count));
+            [small, deep, kind.largest()].map(|book| Lent {
+                about: format!("{}, {} names", kind.how, book.trailer.names),
+                bytes: book.bytes(),
+                code: 2,
+            })
+        })
+        .collect()
+}
+
+/// Lists of the deepest, the widest and the largest books.
+fn extreme_lists() -> [(&'static str, Names); 6] {
+    let deepest = [lists::chain(b'a', 200), lists::texts(&["b"])].concat();
+    let largest = lists::with_book_length(&lists::binary(1860), 16, LONGEST_BOOK);
+    [
+        ("chain", deepest),
+        ("mirror", lists::mirror(b'a', b'b', 200)),
+        ("fan", lists::fan(&[b'a'; 199])),
+        ("pairs", lists::pairs(2000)),
+        ("long names", lists::long(300)),
+        ("largest book", largest),
+    ]
+}
+
+/// Says what is done next: whoever looks why a process ended sees it.
+fn say(call: &str, about: &str) {
+    eprintln!("{call}: {about}");
+}
+
+/// A call that asks a question.
+type Ask = fn(&[u8], &[u8]) -> Answer;
+
+/// The four questions.
+const ASKS: [(&str, Ask); 4] = [
+    ("exact", proved::book_exact),
+    ("place", proved::book_place),
+    ("range", proved::book_range),
+    ("nearest", proved::book_nearest),
+];
+
+/// Makes every call that takes a book.
+fn call_with_book(lent: &Lent, fence: Fence) {
+    let Lent { about, bytes, code } = lent;
+    let book = Fenced::of(bytes, fence);
+    say("check", about);
+    let checked = on_stack(STACK, || proved::book_check(&book));
+    assert_eq!(checked.code, *code);
+
+    say("read", about);
+    let mut room = Fenced::of(&[0; LONGEST_NAME], fence);
+    let read = on_stack(STACK, || proved::book_read(&book, 1, &mut room));
+    assert_eq!(read.code, *code);
+
+    let question = Fenced::of(&[b'a'; LONGEST_NAME], fence);
+    for (call, ask) in ASKS {
+        say(call, about);
+        let asked = on_stack(STACK, || ask(&book, &question));
+        assert_eq!(asked.code, *code);
+    }
+    say("batch", about);
+    let batched = batch(&book, &question, fence);
+    assert_eq!(batched.code, *code);
+}
+
+/// Asks 64 questions at once: parts of this one, in all kinds.
+fn batch(book: &[u8], questions: &Fenced<u8>, fence: Fence) -> Answer {
+    let row = |number: usize| Row {
+        kind: 1 + number % 4,
+        start: number,
+        length: LONGEST_NAME - 2 * number,
+    };
+    let rows: Vec<Row> = (0..64).map(row).collect();
+    let rows = Fenced::of(&rows, fence);
+    let mut answers = Fenced::of(&[Answer::default(); 64], fence);
+    on_stack(STACK, || {
+        proved::book_batch(book, questions, &rows, &mut answers)
+    })
+}
+
+/// Builds a book of these bytes, be they a list or not.
+fn build(lent: &Lent, fence: Fence) -> Answer {
+    say("build", &lent.about);
+    let list = Fenced::of(&lent.bytes, fence);
+    let mut room = Fenced::of(&[0; LONGEST_BOOK], fence);
+    on_stack(BUILD_STACK, || proved::book_build(&list, 16, &mut room))
+}
+
+/// Makes all calls, with a fence on this side.
+fn call_with_all(fence: Fence) {
+    for lent in hostile_books() {
+        call_with_book(&lent, fence);
+        assert_ne!(build(&lent, fence).code, 0);
+    }
+    for (about, names) in extreme_lists() {
+        let lent = |bytes: Vec<u8>| Lent {
+            about: about.to_string(),
+            bytes,
+            code: 0,
+        };
+        call_with_book(&lent(book_of(16, &names)), fence);
+        assert_eq!(build(&lent(write_list(&names)), fence).code, 0);
+    }
+}
+
+#[test]
+fn the_stack_of_the_header_is_enough_and_nothing_beside_the_lent_is_touched() {
+    let test = "the_stack_of_the_header_is_enough_and_nothing_beside_the_lent_is_touched";
+    if word().is_some() {
+        call_with_all(Fence::Behind);
+        return call_with_all(Fence::Before);
+    }
+    let output = run_test(test, "all calls");
+    let said = last_lines(&output);
+    assert!(output.status.success(), "{} after\n{said}", output.status);
+}
