@@ -1,6 +1,7 @@
 -- Laws of the public calls, for those who call them.
 --     build-within      the bytes that an accepted build counts stand in the room
 --     read-within       the bytes that a read counts stand in the room; a refused one counts none
+--     build-kept, read-kept, batch-kept     a refused call changes nothing; another one nothing behind the bytes that it counts
 --     check-within      what an accepted check accepts has a trailer, and a block size that is not 0
 --     question-long, question-none, question-given      1 before 10; 10; what the list answers
 --     GoodRow, row-good, row-bad     a batch row that can be asked: what it gets, and what another gets
@@ -13,6 +14,7 @@ use mathlib.Core.Bool.{Bool, true, false}
 use mathlib.Core.List.{List, [], map}
 use lib.Dec.{eqb, leb, ltb}
 use lib.ListN.{length, drop, getD, length-append, take}
+use lib.Seq.{drop-append-seam}
 use borrow.Author.Tests.{eq-eqb, eqb-true, le-leb, leb-true, lt-leb}
 use Rattle.words.specs.Words.{Bytes, Rule, both, pick}
 use Rattle.words.proofs.Words.{both-true}
@@ -24,6 +26,13 @@ use Rattle.format.specs.Outcomes.{Answer, Written, checkOf, given, over, refuse
 use Rattle.answers.specs.Calls.{Batched, Row, batch, batchOf, build, builtFrom, check, goodRow, questionOf, readBack, readBackOf, rowAnswer}
 use Rattle.answers.specs.Questions.{Pair, answer}
 
+-- what holds of both holds of the one that is picked
+picked : {A : Type 0} (P : A → Type 0) (t : Bool) {x y : A} → P x → P y → P (pick t x y)
+picked P true p q = p
+picked P false p q = q
+
+-- ---- what the numbers count
+
 -- where the code is 0, the number counts bytes that stand in the room
 abbrev Counted : Written → Type 0
 Counted w = w .answer .code ≡ 0 → w .answer .first ≤ length (w .room)
@@ -33,43 +42,62 @@ abbrev Within : Written → Type 0
 Within w = w .answer .first ≤ length (w .room)
 
 write-within : (room out : Bytes) → Within (write out room)
-write-within room out = go (leb (length out) (length room))
-  where
-    go : (t : Bool) → Within (pick t (record { answer = given (length out) 0; room = over out room }) (record { answer = refused 4; room = room }))
-    go true = omega (arith, length-append out (drop (length out) room))
-    go false = omega arith
+write-within room out = picked Within (leb (length out) (length room)) (simp length-append (omega arith)) (omega arith)
 
 module _ (ρ : Rule) (list : Bytes) (k : ℕ) (room : Bytes) where
   from-within : (r : Reading) → readList ρ list ≡ r → Counted (builtFrom ρ k room r)
   unfolding builtFrom
   from-within (Refused code i) p = λ e. absurd (omega (arith, read-refused ρ list code i p))
-  from-within (Names xs) p = go (leb (length (book ρ k xs)) longestBook)
-    where
-      go : (t : Bool) → Counted (pick t (write (book ρ k xs) room) (record { answer = refused 9; room = room }))
-      go true = λ e. write-within room (book ρ k xs)
-      go false = λ e. absurd (omega arith)
+  from-within (Names xs) p = picked Counted (leb (length (book ρ k xs)) longestBook) (λ e. write-within room (book ρ k xs)) (λ e. absurd (omega arith))
 
   pub build-within : (w : Written) → w ≡ build ρ list k room → Counted w
   unfolding build
-  build-within w p = rw p (go (goodBlock k))
-    where
-      go : (t : Bool) → Counted (pick t (builtFrom ρ k room (readList ρ list)) (record { answer = refused 8; room = room }))
-      go true = from-within (readList ρ list) refl
-      go false = λ e. absurd (omega arith)
+  build-within w p = rw p (picked Counted (goodBlock k) (from-within (readList ρ list) refl) (λ e. absurd (omega arith)))
 
 module _ (ρ : Rule) (s : Bytes) (i : ℕ) (room : Bytes) where
   read-of-within : (o : Opened) → Within (readBackOf i room o)
   unfolding readBackOf
   read-of-within NoBook = omega arith
-  read-of-within (Book k xs) = go (ltb i (length xs))
-    where
-      go : (t : Bool) → Within (pick t (write (getD xs i []) room) (record { answer = refused 3; room = room }))
-      go true = write-within room (getD xs i [])
-      go false = omega arith
+  read-of-within (Book k xs) = picked Within (ltb i (length xs)) (write-within room (getD xs i [])) (omega arith)
 
   pub read-within : (w : Written) → w ≡ readBack ρ s i room → Within w
   unfolding readBack
   read-within w p = rw p (read-of-within (opened ρ s))
+
+-- ---- what is left as it was
+
+-- a room after a call: all of it where the call is refused, else what lies behind the bytes that are counted
+pub record Kept (room : Bytes) (w : Written) : Type 0 where
+  pub refused : (w .answer .code ≡ 0 → ⊥) → w .room ≡ room
+  pub behind : w .answer .code ≡ 0 → drop (w .answer .first) (w .room) ≡ drop (w .answer .first) room
+
+module _ (room : Bytes) where
+  same-kept : (a : Answer) → Kept room (record { answer = a; room = room })
+  same-kept a = record { refused = λ n. refl; behind = λ e. refl }
+
+  write-kept : (out : Bytes) → Kept room (write out room)
+  write-kept out =
+      picked (Kept room) (leb (length out) (length room))
+      (record { refused = λ n. absurd (n refl); behind = λ e. drop-append-seam out (drop (length out) room) }) (same-kept (refused 4))
+
+  module _ (ρ : Rule) where
+    from-kept : (k : ℕ) (r : Reading) → Kept room (builtFrom ρ k room r)
+    unfolding builtFrom
+    from-kept k (Refused code i) = same-kept (record { code = code; first = i; second = 0 })
+    from-kept k (Names xs) = picked (Kept room) (leb (length (book ρ k xs)) longestBook) (write-kept (book ρ k xs)) (same-kept (refused 9))
+
+    pub build-kept : (list : Bytes) (k : ℕ) → Kept room (build ρ list k room)
+    unfolding build
+    build-kept list k = picked (Kept room) (goodBlock k) (from-kept k (readList ρ list)) (same-kept (refused 8))
+
+    read-of-kept : (i : ℕ) (o : Opened) → Kept room (readBackOf i room o)
+    unfolding readBackOf
+    read-of-kept i NoBook = same-kept (refused 2)
+    read-of-kept i (Book k xs) = picked (Kept room) (ltb i (length xs)) (write-kept (getD xs i [])) (same-kept (refused 3))
+
+    pub read-kept : (s : Bytes) (i : ℕ) → Kept room (readBack ρ s i room)
+    unfolding readBack
+    read-kept s i = read-of-kept i (opened ρ s)
 
 -- what an accepted check says of the bytes
 pub record Trailed (s : Bytes) (a : Answer) : Type 0 where
@@ -149,3 +177,16 @@ module _ (ρ : Rule) (s buffer : Bytes) (rows : List Row) (answers : List Answer
       go true NoBook e = absurd (omega (arith, e))
       go false (Book k xs) e = absurd (omega (arith, e))
       go false NoBook e = absurd (omega (arith, e))
+
+  -- a refused one leaves the answer rows
+  abbrev RowsKept : Batched → Type 0
+  RowsKept b = (b .answer .code ≡ 0 → ⊥) → b .rows ≡ answers
+
+  batch-of-kept : (o : Opened) → RowsKept (batchOf ρ buffer rows answers o)
+  unfolding batchOf
+  batch-of-kept NoBook n = refl
+  batch-of-kept (Book k xs) n = absurd (n refl)
+
+  pub batch-kept : RowsKept (batch ρ s buffer rows answers)
+  unfolding batch
+  batch-kept = picked RowsKept (both (leb (length rows) 64) (eqb (length rows) (length answers))) (batch-of-kept (opened ρ s)) (λ n. refl)

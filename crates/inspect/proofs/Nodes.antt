@@ -87,14 +87,13 @@ module _ (b steps : Bytes) (lo n s o a : ℕ) (q : NodeAsk b steps o lo n a) whe
         h (omega (arith, f .nodes, group-end b (wordsOf b) lo (lo + n) d (o + 10) e end k (sure .0)))
 
     pub node-stands : (v : Seen) (end c : ℕ) → RowSays b lo n d (o + 10) v → v ≡ To end c
-        → (x y z : ℕ) → x ≡ number b o → x ≡ s → y ≡ number b (o + 4) → y ≡ lo → z ≡ number b (o + 6) → z ≡ n → o + 10 * m ≡ end
-        → NodeSays b lo n s o (To end c)
-    node-stands v end c says is x y z xe xs ye ys ze zs h =
+        → (number b o ≡ s) × (number b (o + 4) ≡ lo) × (number b (o + 6) ≡ n) → o + 10 * m ≡ end → NodeSays b lo n s o (To end c)
+    node-stands v end c says is told h =
         let sure : RowSays b lo n d (o + 10) (To end c) = subst (RowSays b lo n d (o + 10)) is says in (
           child.node-join (wordsOf b) (q .ask .known .rises) b s lo (lo + n) o end two few (record {
             room = q .room;
-            symbol = sym xe ∙ xs;
-            first = sym ye ∙ ys;
+            symbol = told .0;
+            first = told .1;
             names = omega arith;
             nodes = omega arith;
             group = subst (λ (k : ℕ). GroupAt b (wordsOf b) lo (lo + n) k (o + 10) end) de (sure .0);

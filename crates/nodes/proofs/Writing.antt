@@ -164,11 +164,14 @@ module _ {s : Bytes} {at len j left : ℕ} {depths ends marks : List ℕ} (a : N
             };
           }
 
-      pub closing-more : {room : Bytes} (d r m x p sy : ℕ) → d ≡ getD depths top 0 → r ≡ getD ends top 0 → m ≡ getD marks top 0
-          → x ≡ getD depths (top - 1) 0 → p ≡ max left x → sy ≡ symbolOf p (word plain (take len (drop (at + 1) s)))
-          → PutBack room₀ room places count sy (d - 1) j (r - j) (count - m + 1) → Closed s j left depths ends marks top (top - 1) (count + 1) r m places room
-      closing-more {room} d r m x p sy de re me xe pe e put =
-          rw (re, me) (closed sy (symbol-is p sy e ∙ ap (λ (q : ℕ). symbolOf q (nth (words s) j)) (pe ∙ ap (max left) xe)) (rw (de, re, me) at put))
+-- first the record that was put, which shows what was counted
+pub closing-more : {room₀ room : Bytes} {places count sy d j r m : ℕ} → PutBack room₀ room places count sy (d - 1) j (r - j) (count - m + 1)
+    → (s : Bytes) (at len left top end mark x p : ℕ) (depths ends marks : List ℕ) → NameAt s at len j left depths ends marks
+    → Closing s j left depths ends marks top count end mark places room₀ → left < getD depths top 0 → d ≡ getD depths top 0 → r ≡ getD ends top 0 → m ≡ getD marks top 0
+    → x ≡ getD depths (top - 1) 0 → p ≡ max left x → sy ≡ symbolOf p (word plain (take len (drop (at + 1) s)))
+    → Closed s j left depths ends marks top (top - 1) (count + 1) r m places room
+closing-more {sy = sy} {j = j} put s at len left top end mark x p depths ends marks a k h de re me xe pe e =
+    rw (re, me) (closed a k h sy (symbol-is a p sy e ∙ ap (λ (q : ℕ). symbolOf q (nth (words s) j)) (pe ∙ ap (max left) xe)) (rw (de, re, me) at put))
 
 -- the node of names j to `end` is whole, and `top` is the number of the frame in front of it
 pub record Shutting (s : Bytes) (j left : ℕ) (depths ends marks : List ℕ) (t count end mark places : ℕ) (room : Bytes) (top : ℕ) : Type 0 where

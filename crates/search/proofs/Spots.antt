@@ -4,7 +4,7 @@
 --     spot                 the highest node that is deep enough is the one with the names that share most
 --     seat-..              the place there: before or after the edge, a child, the end of the row
 --     range-.., nearest-is, exact-..   the other answers
---     table-at, by-kind, by-rest   where the table starts; an answer by the number of its kind
+--     table-at, by-..      where the table starts; an answer by the number of its kind
 -- Assumes nothing.
 use Prim.Native.Nat.{ℕ, suc, _+_, _-_, _≤_, _<_}
 use native.Mathlib.Nat.{lt-irrefl}
@@ -228,10 +228,23 @@ module _ {b : Bytes} {start : ℕ} (q : Bytes) (o : Searchable plain b start) wh
 pub table-at : {b : Bytes} {k start : ℕ} → Askable b k (told b 6) → start ≡ told b 6 → Askable b k start
 table-at {b} {k} a e = subst (Askable b k) (sym e) a
 
-pub by-kind : (q : List ℕ) (ws : Words) {p : Numbers} (kind j : ℕ) → kind ≡ j → p ≡ ask j q ws → p ≡ ask kind q ws
-by-kind q ws {p} kind j e f = subst (λ (i : ℕ). p ≡ ask i q ws) (sym e) f
+module _ (q : List ℕ) (ws : Words) {p : Numbers} (kind : ℕ) where
+  by-kind : (j : ℕ) → kind ≡ j → p ≡ ask j q ws → p ≡ ask kind q ws
+  by-kind j e f = subst (λ (i : ℕ). p ≡ ask i q ws) (sym e) f
 
--- the last kind is what is left
-pub by-rest : (q : List ℕ) (ws : Words) {p : Numbers} (kind : ℕ) → 4 ≤ kind → p ≡ nearest q ws → p ≡ ask kind q ws
-unfolding ask
-by-rest q ws kind h f = by-kind q ws kind (suc (suc (suc (suc (kind - 4))))) (omega arith) f
+  pub by-exact : kind ≡ 1 → p ≡ exact q ws → p ≡ ask kind q ws
+  unfolding ask
+  by-exact e f = by-kind 1 e f
+
+  pub by-place : kind ≡ 2 → p ≡ (place q ws, 0) → p ≡ ask kind q ws
+  unfolding ask
+  by-place e f = by-kind 2 e f
+
+  pub by-range : kind ≡ 3 → p ≡ range q ws → p ≡ ask kind q ws
+  unfolding ask
+  by-range e f = by-kind 3 e f
+
+  -- the last kind is what is left
+  pub by-nearest : 4 ≤ kind → p ≡ nearest q ws → p ≡ ask kind q ws
+  unfolding ask
+  by-nearest h f = by-kind (suc (suc (suc (suc (kind - 4))))) (omega arith) f

@@ -1,9 +1,15 @@
 -- `book::book_read` meets its contract.
 -- Assumes nothing.
+use native.Mathlib.Omega.{arith}
+use mathlib.Core.Path.{_≡_}
 use borrow.Author.Needs.{needs}
 use Rattle.book.proofs.Reading.{position-ask, read-past, read-put, read-short, read-unsound}
 use Rattle.book.proofs.book_read.Statement.{statement}
 use Rattle.book.proofs.book_read.Tie as tie
+
+-- nothing was written
+returns-2 : tie.Need-returns-2
+returns-2 c = let none : c .before .before .before .before .put-name .result ≡ 0 = omega arith in search read-short
 
 pub book-read-spec : {M : Type 1} → statement M
 book-read-spec =
@@ -18,7 +24,7 @@ book-read-spec =
     (λ c κs. search position-ask)
     (λ c κs. search needs)
     (λ c. search needs)
-    (λ c. search read-short)
+    returns-2
     (λ c. search read-unsound)
     (λ c. search needs)
     (λ c. search read-put))

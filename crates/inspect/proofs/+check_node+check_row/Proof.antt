@@ -6,6 +6,7 @@
 use Prim.Native.Nat.{ℕ, _*_, _+_, _-_, _<_}
 use native.Mathlib.Omega.{arith}
 use mathlib.Core.Logic.{⊎-elim}
+use mathlib.Core.Path.{_≡_}
 use borrow.Author.Needs.{needs}
 use borrow.Fn.Kinds.{In}
 use borrow.Fn.PlainCycle.{Measures, is, falls, and}
@@ -13,6 +14,7 @@ use Rattle.format.specs.Book.{number}
 use Rattle.inspect.specs.Check.{MayBeChild}
 use Rattle.inspect.proofs.Nesting.{child-falls, levelsLeft}
 use Rattle.inspect.proofs.Nodes as node
+use Rattle.inspect.proofs.Nodes.{node-stands}
 use Rattle.inspect.proofs.Rows as law
 use Rattle.inspect.proofs.Rows.{Rows, Turn}
 use Rattle.inspect.proofs.check_node.Reads as check-node
@@ -56,6 +58,21 @@ node-claims t = (number-at-reads.Asked, number-at-reads.Learnt, check-row-below 
 
 abbrev row-claims : ℕ → check-row-lts.Claims
 row-claims t = (may-be-child-reads.Asked, may-be-child-reads.Learnt, number-at-reads.Asked, number-at-reads.Learnt, symbol-of-reads.Asked, symbol-of-reads.Learnt, is-leaf-reads.Asked, is-leaf-reads.Learnt, check-node-below t, check-node.Post, next-entry-reads.Asked, next-entry-reads.Learnt, meet-reads.Asked, meet-reads.Learnt)
+
+-- the record tells the node's symbol, its first name and how many names it has
+told : (t : ℕ) (c : check-node-lts.Else3 (node-claims t) (check-node-at t) check-node.Post)
+    → let a = c .before .before .before .before .before .before .before .before .args in
+    (number (a .book .now) (a .o) ≡ a .s) × (number (a .book .now) (a .o + 4) ≡ a .lo) × (number (a .book .now) (a .o + 6) ≡ a .n)
+told t c = omega arith
+
+-- the nodes that it tells end where the row ends
+stands : (t : ℕ) → check-node-lts.Need-returns-5 (node-claims t) (check-node-at t) check-node.Post
+stands t c =
+    let row = c .before .before .before .before in
+    let node = row .before .before .before in
+    node-stands _ _ _ _ _ _ _ (node .before .before .before .before .before .before .before .before .pre .1) _ _
+    (row .before .before .number-at4 .ensures .0) (row .before .number-at5 .ensures .0) _ _ _ (row .check-row .ensures) (c .before .before .seen .given .1)
+    (told t node) (omega arith)
 
 abbrev Inv-loop : check-row-lts.InvT-loop
 Inv-loop book steps o lo n d a child₀ first₀ entry₀ child first entry = Rows book steps lo n d o child first entry
@@ -105,7 +122,7 @@ pub +check-node+check-row-spec : {M : Type 1} → statement M
     (λ c. search needs)
     (λ c. search node.node-nodes)
     (λ c. search needs)
-    (λ c. search node.node-stands)
+    (stands t)
     (λ c. search node.node-row))
     λ t. check-row-lts.spec (row-claims t)
     (check-row-at t)

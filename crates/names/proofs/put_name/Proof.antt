@@ -1,9 +1,22 @@
--- `names::put_name` meets its contract.
+-- `names::put_name` meets its contract: `name-at` says what was read.
 -- Assumes nothing.
-use Rattle.names.proofs.Rebuilding.{front-is, put-all, put-short}
+use mathlib.Core.List.{[]}
+use lib.ListN.{getD}
 use borrow.Author.Needs.{needs}
+use Rattle.streams.specs.Streams.{namesOf}
+use Rattle.names.specs.Names.{Named}
+use Rattle.names.proofs.Rebuilding.{front-is, put-all, put-short}
 use Rattle.names.proofs.put_name.Statement.{statement}
 use Rattle.names.proofs.put_name.Tie as tie
+
+-- the name at the position
+name-at : (c : tie.After-read-name) → let a = c .before .before .before .args in Named (getD (namesOf (a .book .now)) (a .position) []) (c .read-name .result .len) (c .read-name .result .name)
+name-at c = c .read-name .ensures
+
+returns-2 : tie.Need-returns-2
+returns-2 c =
+    let read = name-at (c .before .before .before .before .before .before .before .before) in
+    put-all _ _ _ _ read _ _ (search needs) (front-is _ _ _ read) (c .before .before .put-front .ensures)
 
 pub put-name-spec : {M : Type 1} → statement M
 put-name-spec =
@@ -16,4 +29,4 @@ put-name-spec =
     (λ c. search needs)
     (λ c κs. search needs)
     (λ c. search needs)
-    (λ c. search (front-is, put-all)))
+    returns-2)

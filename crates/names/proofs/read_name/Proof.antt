@@ -11,14 +11,11 @@ here : (c : tie.After-number-at)
     → Found (c .before .before .args .book .now) (c .before .before .args .k) (c .before .before .args .position) (c .number-at .result)
 here c = search found
 
-number-at-requires-2 : tie.Need-number-at-requires-2
-number-at-requires-2 c κs = here c .room
-
 sub-name-of : tie.Need-sub-name-of
 sub-name-of c = here (c .before) .first
 
 name-of-requires : tie.Need-name-of-requires
-name-of-requires c κs = search (found-asks, here (c .before))
+name-of-requires c κs = found-asks _ _ _ _ _ (here (c .before)) (c .number-at2 .ensures .0)
 
 pub read-name-spec : {M : Type 1} → statement M
 read-name-spec =
@@ -30,7 +27,7 @@ read-name-spec =
     (λ c. search needs)
     (λ c. omega (arith, here c))
     (λ c. omega (arith, here c))
-    number-at-requires-2
+    (λ c κs. omega (arith, here c))
     (λ c. omega (arith, here (c .before)))
     sub-name-of
     name-of-requires

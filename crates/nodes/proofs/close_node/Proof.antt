@@ -5,6 +5,9 @@ use borrow.Author.Needs.{needs}
 use Rattle.nodes.proofs.close_node.Statement.{statement}
 use Rattle.nodes.proofs.close_node.Tie as tie
 
+returns : tie.Need-returns
+returns c = search (closing-more (c .before .before .put-back .ensures))
+
 pub close-node-spec : {M : Type 1} → statement M
 close-node-spec =
     tie.close
@@ -30,4 +33,4 @@ close-node-spec =
     (λ c. search closing-some)
     (λ c. search needs)
     (λ c. search needs)
-    (λ c. search closing-more))
+    returns)

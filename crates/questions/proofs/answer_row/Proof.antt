@@ -1,10 +1,21 @@
 -- `questions::answer_row` meets its contract: the tests say that the row is good, or that it is not.
 -- Assumes nothing.
+use Prim.Native.Nat.{_+_, _-_}
 use native.Mathlib.Omega.{arith}
+use mathlib.Core.Path.{_≡_}
+use lib.ListN.{drop, take}
 use borrow.Author.Needs.{needs}
+use Rattle.words.specs.Words.{plain}
+use Rattle.answers.specs.Calls.{question}
+use Rattle.shapes.specs.Shapes.{answered}
 use Rattle.questions.proofs.Rows.{row-answered, row-refused}
 use Rattle.questions.proofs.answer_row.Statement.{statement}
 use Rattle.questions.proofs.answer_row.Tie as tie
+
+-- the row's own bytes were asked for
+asked : (c : tie.After-ask) → let a = c .before .before .before .before .before .before .before .before .before .before .before .before .before .before .args in
+    answered (c .ask .result) ≡ question plain (a .row .kind) (a .book .now) (take (a .row .start + a .row .length - a .row .start) (drop (a .row .start) (a .questions .now)))
+asked c = c .ask .ensures
 
 pub answer-row-spec : {M : Type 1} → statement M
 answer-row-spec =
@@ -24,4 +35,4 @@ answer-row-spec =
     (λ c. search needs)
     (λ c. search needs)
     (λ c κs. search needs)
-    (λ c. row-answered _ _ _ _ (record { low = omega arith; high = omega arith; within = omega arith }) (c .ask .ensures)))
+    (λ c. row-answered _ _ _ _ (record { low = omega arith; high = omega arith; within = omega arith }) (asked c)))

@@ -2,25 +2,21 @@
 -- Assumes nothing.
 use native.Mathlib.Omega.{arith}
 use borrow.Author.Needs.{needs}
-use Rattle.answers.specs.Questions.{ask}
-use Rattle.search.proofs.Spots.{by-kind, by-rest, table-at}
+use Rattle.search.proofs.Spots.{by-exact, by-nearest, by-place, by-range, table-at}
 use Rattle.search.proofs.answer.Statement.{statement}
 use Rattle.search.proofs.answer.Tie as tie
 
 returns : tie.Need-returns
-unfolding ask
-returns c = search by-kind
+returns c = by-exact _ _ _ (omega arith) (c .ask-exact .ensures)
 
 returns-2 : tie.Need-returns-2
-unfolding ask
-returns-2 c = search by-kind
+returns-2 c = by-place _ _ _ (omega arith) (c .ask-place .ensures)
 
 returns-3 : tie.Need-returns-3
-unfolding ask
-returns-3 c = search by-kind
+returns-3 c = by-range _ _ _ (omega arith) (c .ask-range .ensures)
 
 returns-4 : tie.Need-returns-4
-returns-4 c = by-rest _ _ _ (omega arith) (c .ask-nearest .ensures)
+returns-4 c = by-nearest _ _ _ (omega arith) (c .ask-nearest .ensures)
 
 pub answer-spec : {M : Type 1} → statement M
 answer-spec =
