@@ -14,22 +14,17 @@ use mathlib.Core.Bool.{Bool, true, false}
 use mathlib.Core.List.{List, [], map}
 use lib.Dec.{eqb, leb, ltb}
 use lib.ListN.{length, drop, getD, length-append, take}
-use lib.Seq.{drop-append-seam}
 use borrow.Author.Tests.{eq-eqb, eqb-true, le-leb, leb-true, lt-leb}
 use Rattle.words.specs.Words.{Bytes, Rule, both, pick}
 use Rattle.words.proofs.Words.{both-true}
 use Rattle.format.specs.Records.{Names, Reading, Refused, longest, readList}
 use Rattle.format.specs.Book.{Book, NoBook, Opened, book, goodBlock, longestBook, opened, trailerSize}
 use Rattle.format.proofs.Book.{book-length, book-opened, fits-parts}
+use Rattle.format.proofs.Outcomes.{Kept, picked, same-kept, write-kept}
 use Rattle.format.proofs.Records.{read-refused}
 use Rattle.format.specs.Outcomes.{Answer, Written, checkOf, given, over, refused, write}
 use Rattle.answers.specs.Calls.{Batched, Row, batch, batchOf, build, builtFrom, check, goodRow, questionOf, readBack, readBackOf, rowAnswer}
 use Rattle.answers.specs.Questions.{Pair, answer}
-
--- what holds of both holds of the one that is picked
-picked : {A : Type 0} (P : A → Type 0) (t : Bool) {x y : A} → P x → P y → P (pick t x y)
-picked P true p q = p
-picked P false p q = q
 
 -- ---- what the numbers count
 
@@ -66,34 +61,21 @@ module _ (ρ : Rule) (s : Bytes) (i : ℕ) (room : Bytes) where
 
 -- ---- what is left as it was
 
--- a room after a call: all of it where the call is refused, else what lies behind the bytes that are counted
-pub record Kept (room : Bytes) (w : Written) : Type 0 where
-  pub refused : (w .answer .code ≡ 0 → ⊥) → w .room ≡ room
-  pub behind : w .answer .code ≡ 0 → drop (w .answer .first) (w .room) ≡ drop (w .answer .first) room
-
 module _ (room : Bytes) where
-  same-kept : (a : Answer) → Kept room (record { answer = a; room = room })
-  same-kept a = record { refused = λ n. refl; behind = λ e. refl }
-
-  write-kept : (out : Bytes) → Kept room (write out room)
-  write-kept out =
-      picked (Kept room) (leb (length out) (length room))
-      (record { refused = λ n. absurd (n refl); behind = λ e. drop-append-seam out (drop (length out) room) }) (same-kept (refused 4))
-
   module _ (ρ : Rule) where
     from-kept : (k : ℕ) (r : Reading) → Kept room (builtFrom ρ k room r)
     unfolding builtFrom
-    from-kept k (Refused code i) = same-kept (record { code = code; first = i; second = 0 })
-    from-kept k (Names xs) = picked (Kept room) (leb (length (book ρ k xs)) longestBook) (write-kept (book ρ k xs)) (same-kept (refused 9))
+    from-kept k (Refused code i) = same-kept room (record { code = code; first = i; second = 0 })
+    from-kept k (Names xs) = picked (Kept room) (leb (length (book ρ k xs)) longestBook) (write-kept room (book ρ k xs)) (same-kept room (refused 9))
 
     pub build-kept : (list : Bytes) (k : ℕ) → Kept room (build ρ list k room)
     unfolding build
-    build-kept list k = picked (Kept room) (goodBlock k) (from-kept k (readList ρ list)) (same-kept (refused 8))
+    build-kept list k = picked (Kept room) (goodBlock k) (from-kept k (readList ρ list)) (same-kept room (refused 8))
 
     read-of-kept : (i : ℕ) (o : Opened) → Kept room (readBackOf i room o)
     unfolding readBackOf
-    read-of-kept i NoBook = same-kept (refused 2)
-    read-of-kept i (Book k xs) = picked (Kept room) (ltb i (length xs)) (write-kept (getD xs i [])) (same-kept (refused 3))
+    read-of-kept i NoBook = same-kept room (refused 2)
+    read-of-kept i (Book k xs) = picked (Kept room) (ltb i (length xs)) (write-kept room (getD xs i [])) (same-kept room (refused 3))
 
     pub read-kept : (s : Bytes) (i : ℕ) → Kept room (readBack ρ s i room)
     unfolding readBack

@@ -7,3 +7,4 @@ pub mod Numbers
 pub mod Book
 pub mod Small
 pub mod Example
+pub mod Outcomes
