@@ -14,6 +14,9 @@ Inv-loop list from c rest part₀ i₀ part i = Copying list from c rest part₀
 abbrev μ-loop : tie.MeasureT-loop
 μ-loop list from c rest part₀ i₀ part i = rest - i
 
+loop-holds : tie.Need-loop-holds Inv-loop μ-loop
+loop-holds c = copying-start _ _ _ _ (c .args .part .now) (c .pre .3)
+
 pub write-entry-spec : {M : Type 1} → statement M
 write-entry-spec =
     tie.close
@@ -24,7 +27,7 @@ write-entry-spec =
     (λ c. omega arith)
     (λ c. omega arith)
     (λ c. simp length-set (omega arith))
-    (λ c. search copying-start)
+    loop-holds
     (λ c. omega arith)
     (λ c. omega arith)
     (λ c. omega arith)

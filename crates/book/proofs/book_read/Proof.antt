@@ -1,11 +1,16 @@
 -- `book::book_read` meets its contract.
 -- Assumes nothing.
+use Prim.Native.Nat.{_<_}
 use native.Mathlib.Omega.{arith}
 use mathlib.Core.Path.{_≡_}
 use borrow.Author.Needs.{needs}
 use Rattle.book.proofs.Reading.{position-ask, read-past, read-put, read-short, read-unsound}
 use Rattle.book.proofs.book_read.Statement.{statement}
 use Rattle.book.proofs.book_read.Tie as tie
+
+-- there is a name at the position
+within : (c : tie.Else1) → c .before .before .before .before .before .before .before .args .position < c .before .before .checked .given .0 .0
+within c = omega arith
 
 -- nothing was written
 returns-2 : tie.Need-returns-2
@@ -21,7 +26,7 @@ book-read-spec =
     (λ c. search needs)
     (λ c κs. search needs)
     (λ c. search read-past)
-    (λ c κs. search position-ask)
+    (λ c κs. search (position-ask, within (c .before)))
     (λ c κs. search needs)
     (λ c. search needs)
     returns-2

@@ -7,7 +7,7 @@ use Rattle.build.proofs.put_trailer.Tie as tie
 
 returns : tie.Need-returns
 unfolding trailer numbers
-returns c = search needs
+returns c = c .before .before .put-numbers .ensures
 
 pub put-trailer-spec : {M : Type 1} → statement M
 put-trailer-spec = tie.close (tie.spec (λ c. search needs) (λ c κs. search needs) (λ c. search needs) returns)

@@ -34,5 +34,5 @@ answer-row-spec =
     (λ c. search needs)
     (λ c. search needs)
     (λ c. search needs)
-    (λ c κs. search needs)
+    (λ c κs. record { checked = search needs; number = record { low = omega arith; high = omega arith } })
     (λ c. row-answered _ _ _ _ (record { low = omega arith; high = omega arith; within = omega arith }) (asked c)))

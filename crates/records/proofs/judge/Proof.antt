@@ -30,13 +30,13 @@ parted c = ⊎-elim
     (c .if6 .came)
 
 records-again : tie.Need-records-again Inv-bytes μ-bytes Inv-records μ-records
-records-again c = law.reading-more (c .before .before .before .bytes .inv) (parted (c .before)) (c .if9 .left)
+records-again c = law.reading-more (c .before .before .before .bytes .inv) (parted (c .before)) (omega arith)
 
 returns-6 : tie.Need-returns-6 Inv-bytes μ-bytes Inv-records μ-records
 returns-6 c = law.byte-below (c .before .before .before .before .before .bytes .inv) (search needs) (search needs) (c .if7 .taken)
 
 returns-7 : tie.Need-returns-7 Inv-bytes μ-bytes Inv-records μ-records
-returns-7 c = search (law.too-many, parted (c .before))
+returns-7 c = law.too-many (c .before .before .before .bytes .inv) (parted (c .before)) (omega arith)
 
 pub judge-spec : {M : Type 1} → statement M
 judge-spec =

@@ -1,10 +1,15 @@
 -- `search::child` meets its contract: a law for each way out.
 -- Assumes nothing.
 use native.Mathlib.Omega.{arith}
+use mathlib.Core.Path.{_≡_}
 use borrow.Author.Needs.{needs}
 use Rattle.search.proofs.Ways.{go-down, stay-end, stay-leaf, stay-other, stay-short}
 use Rattle.search.proofs.child.Statement.{statement}
 use Rattle.search.proofs.child.Tie as tie
+
+-- the child has the question's symbol
+returns-5 : tie.Need-returns-5
+returns-5 c = let fits : c .before .symbol-of .result ≡ c .before .before .before .before .before .symbol-at .result = omega arith in search go-down
 
 pub child-spec : {M : Type 1} → statement M
 child-spec =
@@ -21,4 +26,4 @@ child-spec =
     (λ c. search stay-end)
     (λ c κs. record { searchable = search needs; inside = omega arith })
     (λ c. search stay-other)
-    (λ c. search go-down))
+    returns-5)

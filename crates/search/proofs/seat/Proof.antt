@@ -1,10 +1,15 @@
 -- `search::seat` meets its contract: a law for each way out.
 -- Assumes nothing.
+use Prim.Native.Nat.{_<_}
 use native.Mathlib.Omega.{arith}
 use borrow.Author.Needs.{needs}
 use Rattle.search.proofs.Spots.{seat-after, seat-before, seat-child, seat-end, seat-fork}
 use Rattle.search.proofs.seat.Statement.{statement}
 use Rattle.search.proofs.seat.Tie as tie
+
+-- the question is greater
+returns : tie.Need-returns
+returns c = let below : c .before .before .before .before .before .before .before .before .before .args .spot .symbol < c .before .before .before .before .before .before .symbol-at .result = omega arith in search seat-before
 
 pub seat-spec : {M : Type 1} → statement M
 seat-spec =
@@ -15,7 +20,7 @@ seat-spec =
     (λ c κs. search needs)
     (λ c. search needs)
     (λ c κs. search needs)
-    (λ c. search seat-before)
+    returns
     (λ c. search seat-after)
     (λ c κs. search seat-fork)
     (λ c κs. search needs)
