@@ -61,7 +61,12 @@ fn limits() {
         ("MISTROGU_BUILD_STACK", mistrogu::BUILD_STACK),
         ("MISTROGU_STACK", mistrogu::STACK),
     ] {
-        assert_eq!(constant(name).0, format!("#define {name} {limit}"));
+        let line = format!("#define {name} {limit}");
+        assert_eq!(
+            HEADER.lines().filter(|&other| other == line).count(),
+            1,
+            "{line}"
+        );
     }
 }
 
