@@ -1,6 +1,6 @@
 -- Laws of the code that reads and judges one block, one for each way through it.
 --     entry-not, entry-is       the last test of an entry
---     Pasted, name-read         the cursor
+--     Pasted, name-read, name-size     the cursor
 --     says-true, says-false, Held    the loop over a block, with its buffer
 --     shared-bytes, Alike       the loop over what two names share
 --     next-..                   a block and the name before it
@@ -58,15 +58,16 @@ module _ (b d : Bytes) (to from n : ℕ) where
   pub paste-done : (buf : Bytes) (i : ℕ) → Pasted b d buf to from n i → n ≤ i → buf ≡ paste d to (drop from b) n
   paste-done buf i k h = let e : i ≡ n = omega (arith, k .within) in k .so-far ∙ ap (paste d to (drop from b)) e
 
-pub name-read : (b prev out : Bytes) (o len c n : ℕ) → EntryAt b o len → len ≤ 200 → length prev ≡ 200 → c ≡ getD b o 0 → n ≡ getD b (o + 1) 0
-    → out ≡ paste prev c (drop (o + 2) b) n → NameRead b o (take len prev) (o + 2 + n) (c + n) out
-name-read b prev out o len c n k h size ce ne oe = record {
-  name-is = rw oe (take-paste prev c (drop (o + 2) b) n (omega (arith, k .shares)) (rw length-drop (omega (arith, k .fits)))
-      ∙ rw (← ce, ← ne, take-take c len prev (omega (arith, k .shares))) refl);
-  next-is = ap (λ (x : ℕ). o + 2 + x) ne;
-  room = omega (arith, k .short);
-  size = rw oe (length-paste prev c (drop (o + 2) b) n (omega (arith, k .short)) (rw length-drop (omega (arith, k .fits))) ∙ size);
-}
+-- what was read stands in the array from its front on, and the array is as long as it was
+module _ (b prev out : Bytes) (o len c n : ℕ) (k : EntryAt b o len) (h : len ≤ 200) (size : length prev ≡ 200) (ce : c ≡ getD b o 0) (ne : n ≡ getD b (o + 1) 0)
+    (oe : out ≡ paste prev c (drop (o + 2) b) n) where
+  pub name-read : take (c + n) out ≡ nameAt b o (take len prev)
+  name-read =
+      rw oe (take-paste prev c (drop (o + 2) b) n (omega (arith, k .shares)) (rw length-drop (omega (arith, k .fits)))
+      ∙ rw (← ce, ← ne, take-take c len prev (omega (arith, k .shares))) refl)
+
+  pub name-size : length out ≡ 200
+  name-size = rw oe (length-paste prev c (drop (o + 2) b) n (omega (arith, k .short)) (rw length-drop (omega (arith, k .fits))) ∙ size)
 
 -- ---- a block
 

@@ -14,14 +14,14 @@ pub struct Cursor {
     pub at: usize,
 }
 
-// A name that was read, and the place of the next entry.
+// A name that was rebuilt, and the place of the next entry.
 pub struct Entry {
     pub name: [u8; 200],
     pub len: usize,
     pub next: Cursor,
 }
 
-// How long the name is that was read, and the place of the next entry.
+// How long the name is that was read into a lent array, and the place of the next entry.
 pub struct Ahead {
     pub len: usize,
     pub next: Cursor,
@@ -90,8 +90,9 @@ fn put_rest(book: &[u8], from: usize, n: usize, name: &mut [u8], to: usize)
 }
 
 impl Cursor {
-    // Reads the entry at the cursor into a lent name, whose first len bytes are the name before it: for a loop, which keeps one name.
-    pub fn advance(self, book: &[u8], name: &mut [u8], len: usize) -> Ahead
+    // Reads the entry at the cursor into a lent name, whose first len bytes are the name before it. What the two share stays where it is,
+    // so a walk needs one array, however many entries it reads.
+    pub fn next(self, book: &[u8], name: &mut [u8], len: usize) -> Ahead
         requires { ⌜ EntryAt (now book) (self .at) len × (len ≤ 200) × (length (now name) ≡ 200) ⌝ }
         ensures { λ r. ⌜ NameRead (now (book .entry)) (self .at) (take len (now (name .entry))) (r .next .at) (r .len) (now (name .exit)) ⌝ }
     {
@@ -102,21 +103,6 @@ impl Cursor {
         Ahead {
             len: c + n,
             next: Cursor { at: at + 2 + n },
-        }
-    }
-
-    // The entry at the cursor, after the first len bytes of prev, which stay as they are.
-    pub fn next(self, book: &[u8], prev: [u8; 200], len: usize) -> Entry
-        requires { ⌜ EntryAt (now book) (self .at) len × (len ≤ 200) ⌝ }
-        ensures { λ r. ⌜ NameRead (now (book .entry)) (self .at) (take len prev) (r .next .at) (r .len) (r .name) ⌝ }
-    {
-        let mut name = prev;
-        let ahead = self.advance(book, &mut name, len);
-        let next = ahead.next;
-        Entry {
-            name,
-            len: ahead.len,
-            next,
         }
     }
 }
@@ -139,10 +125,9 @@ pub fn check_block(book: &[u8], start: usize, end: usize, m: usize) -> Last
                 len,
             };
         }
-        let e = cur.next(book, name, len);
-        name = e.name;
-        len = e.len;
-        cur = e.next;
+        let ahead = cur.next(book, &mut name, len);
+        len = ahead.len;
+        cur = ahead.next;
         left -= 1;
     }
     if cur.at != end {
@@ -282,10 +267,16 @@ pub fn name_of(book: &[u8], start: usize, count: usize) -> Entry
     let mut len: usize = 0;
     let mut i: usize = 0;
     while i < count {
-        let ahead = cur.advance(book, &mut name, len);
+        let ahead = cur.next(book, &mut name, len);
         len = ahead.len;
         cur = ahead.next;
         i += 1;
     }
-    cur.next(book, name, len)
+    let ahead = cur.next(book, &mut name, len);
+    let next = ahead.next;
+    Entry {
+        name,
+        len: ahead.len,
+        next,
+    }
 }

@@ -82,13 +82,16 @@ fn meet(book: &[u8], steps: &[u8], a: usize, i: usize) -> usize
 // names are some of those left, and not all n, and if they are several, its depth is greater and below 200: two different names share no
 // more than 199 symbols. So depths bound how far nodes nest, whatever the bytes.
 fn may_be_child(book: &[u8], o: usize, n: usize, d: usize, left: usize) -> bool
-    requires { ⌜ nodeSize ≤ length (now book) ⌝ }
+    requires { ⌜ (nodeSize ≤ length (now book)) × (2 ≤ n) × (1 ≤ left) ⌝ }
     ensures { λ r. ⌜ ChildSays (now (book .entry)) o n d left r ⌝ }
 {
     if book.len() - 10 < o {
         return false;
     }
     let names = numbers::number_at(book, o + 6);
+    if names == 1 {
+        return true;
+    }
     if names == 0 {
         return false;
     }
@@ -97,9 +100,6 @@ fn may_be_child(book: &[u8], o: usize, n: usize, d: usize, left: usize) -> bool
     }
     if left < names {
         return false;
-    }
-    if names == 1 {
-        return true;
     }
     let depth = numbers::number_at(book, o + 2);
     if 200 <= depth {

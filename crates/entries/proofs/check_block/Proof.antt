@@ -23,6 +23,7 @@ check-block-spec =
     (λ c. search needs)
     (λ c κs. search needs)
     (λ c. search (held-bad, says-false))
+    (λ c. search needs)
     (λ c κs. search (held-entry, says-true))
     (λ c. search needs)
     (λ c. search needs)

@@ -24,5 +24,6 @@ name-of-spec =
     (λ c. search needs)
     (λ c. search needs)
     (λ c. search reached-more)
+    (λ c. search needs)
     (λ c κs. search reached-entry)
     (λ c. search reached-done))

@@ -132,7 +132,7 @@ pub +check-node+check-row-spec : {M : Type 1} → statement M
     (λ c. search law.rows-start)
     (λ c. search needs)
     (λ c. search needs)
-    (λ c κs. search needs)
+    (λ c κs. omega (arith, c .loop .inv))
     (λ c. search law.rows-unlike)
     (λ c. omega (arith, like t c))
     (λ c κs. omega (arith, like t c))
