@@ -1,34 +1,30 @@
 -- What the check answers, way by way.
---     zeros             a row that nothing was written to
 --     unsound           bytes of which a part fails
 --     walk-ask, entries-fail, table-ask, table-fail, all-pass     after a trailer that passes: what the two walks ask, and what their
 --                       answers come to
---     SoundBook, sound-book     what an accepting answer says
+--     SoundBook, sound-book, checked-sound, checked-long     what an accepting answer says
 -- Assumes nothing.
-use Prim.Native.Nat.{ℕ, suc, zero, _-_, _≤_}
+use Prim.Native.Nat.{ℕ, _-_, _≤_}
 use native.Mathlib.Omega.{arith}
-use mathlib.Core.Path.{_≡_, _∙_, ap, ap₂, refl, sym}
+use mathlib.Core.Path.{_≡_, _∙_, ap, ap₂, refl, subst, sym}
 use mathlib.Core.Bool.{Bool, false, not, true}
 use mathlib.Core.List.{[]}
-use lib.ListN.{getD, length, length-replicate, replicate}
+use lib.ListN.{length}
 use Rattle.words.specs.Words.{Bytes, InBytes, plain}
 use Rattle.words.proofs.Words.{false≠true}
 use Rattle.format.specs.Book.{Book, NoBook, Opened, opened, trailerSize}
 use Rattle.format.specs.Outcomes.{Answer, checkOf, given, refused}
 use Rattle.streams.specs.Runs.{Frame, Has}
-use Rattle.streams.specs.Streams.{namesOf}
-use Rattle.streams.proofs.Walks.{has-known, has-names, has-steps}
+use Rattle.streams.specs.Streams.{InBlocks, namesOf}
+use Rattle.streams.proofs.InBlocks.{has-blocks}
+use Rattle.streams.proofs.Walks.{has-known, has-names}
 use Rattle.entries.specs.Judging.{WalkSays}
 use Rattle.inspect.specs.Check.{TableAsk, isTable}
 use Rattle.numbers.proofs.Parts.{Held, held-bytes}
-use Rattle.accept.specs.Parts.{Parts, Trail, TrailSays, told, toldNames}
+use Rattle.accept.specs.Parts.{Parts, Trail, TrailSays, checkedNumbers, told, toldNames}
+use Rattle.accept.specs.declared.Checked.{Checked}
+use Rattle.accept.specs.declared.Checked.the-variants.{Sound}
 use Rattle.accept.proofs.Opens.{has-at, opened-parts, parts-opened}
-
--- a row of zeros
-pub zeros : (n j : ℕ) → getD {A = ℕ} (replicate n 0) j 0 ≡ 0
-zeros zero j = refl
-zeros (suc n) zero = refl
-zeros (suc n) (suc j) = zeros n j
 
 pub unsound : (b : Bytes) → (Parts b → ⊥) → refused 2 ≡ checkOf (opened plain b)
 unfolding checkOf
@@ -72,41 +68,34 @@ module _ (b : Bytes) (n k s u : ℕ) (a : Asked b n k s u) where
   there : Has b k s u n s 0 [] → Has b (told b 2) (told b 4) (told b 6) (toldNames b) (told b 4) 0 []
   there = has-at b k (told b 2) s (told b 4) u (told b 6) n (toldNames b) (a .block) (a .table) (a .nodes) (a .names)
 
-  pub entries-fail : (r : Bool) (steps : Bytes) → not r ≡ true → WalkSays b k s u n r steps → refused 2 ≡ checkOf (opened plain b)
-  entries-fail true steps h = absurd (false≠true h)
-  entries-fail false steps h = λ says. unsound b (λ p. says (here (p .entries)))
+  pub entries-fail : (r : Bool) → not r ≡ true → WalkSays b k s u n r → refused 2 ≡ checkOf (opened plain b)
+  entries-fail true h = absurd (false≠true h)
+  entries-fail false h = λ says. unsound b (λ p. says (here (p .entries)))
 
-  -- the code lent a row of 2,000 steps
-  pub table-ask : (r : Bool) (steps : Bytes) → not r ≡ false → WalkSays b k s u n r steps → length steps ≡ length (replicate {A = ℕ} 2000 0)
-      → TableAsk b steps u (length b - trailerSize) n
-  table-ask false steps h says size = absurd (false≠true (sym h))
-  table-ask true steps h says size =
-      let room : n ≤ length steps = omega (arith, a .trail .few, a .names, length-replicate {A = ℕ} 2000 0) in
-      let has = says .0 in
+  pub table-ask : (r : Bool) → not r ≡ false → WalkSays b k s u n r → TableAsk b u (length b - trailerSize) n
+  table-ask false h says = absurd (false≠true (sym h))
+  table-ask true h has =
       let low : 1 ≤ k = omega (arith, a .trail .low, a .block) in
       let e : namesOf b ≡ has .names = has-names b k s u n inside has low (sym (a .table)) in
       let c : length (namesOf b) ≡ n = ap length e ∙ has .count in
       record {
-        asked = record {
-          known = has-known b k s u n inside has low (sym (a .table)) (omega (arith, a .trail .few, a .names)) (a .trail .short);
-          count = sym c;
-          order = omega (arith, a .trail .total, a .nodes);
-          within = omega arith;
-        };
-        told = has-steps b k s u n inside has low (sym (a .table)) steps room (says .1);
+        known = has-known b k s u n inside has low (sym (a .table)) (omega (arith, a .trail .few, a .names)) (a .trail .short);
+        blocks = subst (λ (m : ℕ). InBlocks b m (told b 4)) (a .block) (subst (InBlocks b k) (a .table) (has-blocks b k s u n walk-ask has (sym (a .table))));
+        count = sym c;
+        order = omega (arith, a .trail .total, a .nodes);
+        long = omega (arith, a .trail .long);
       }
 
   pub table-fails : (r : Bool) → not r ≡ true → r ≡ isTable b u (length b - trailerSize) → refused 2 ≡ checkOf (opened plain b)
   table-fails true h = absurd (false≠true h)
   table-fails false h = λ q. unsound b (λ p. false≠true (q ∙ ap (λ (x : ℕ). isTable b x (length b - trailerSize)) (a .nodes) ∙ p .nodes))
 
-  pub all-pass : Held b → (r : Bool) (steps : Bytes) → not r ≡ false → WalkSays b k s u n r steps → (q : Bool) → not q ≡ false
-      → q ≡ isTable b u (length b - trailerSize) → given n k ≡ checkOf (opened plain b)
+  pub all-pass : Held b → (r : Bool) → not r ≡ false → WalkSays b k s u n r → (q : Bool) → not q ≡ false → q ≡ isTable b u (length b - trailerSize)
+      → given n k ≡ checkOf (opened plain b)
   unfolding checkOf
-  all-pass held false steps h says q g t = absurd (false≠true (sym h))
-  all-pass held true steps h says false g t = absurd (false≠true (sym g))
-  all-pass held true steps h says true g t =
-      let has = says .0 in
+  all-pass held false h says q g t = absurd (false≠true (sym h))
+  all-pass held true h has false g t = absurd (false≠true (sym g))
+  all-pass held true h has true g t =
       let p : Parts b = record {
         trail = a .trail;
         entries = there has;
@@ -143,3 +132,10 @@ sound-book b n k bytes s = go (opened plain b) refl s
           block = kj ∙ jt;
           count = nx ∙ ap length xn;
         }
+
+module _ (b : Bytes) (n k : ℕ) (held : Held b) (v : Checked) (s : checkedNumbers v ≡ checkOf (opened plain b)) (u : v ≡ Sound n k) where
+  pub checked-sound : SoundBook b n k
+  checked-sound = sound-book b n k (held-bytes b held) (ap checkedNumbers (sym u) ∙ s)
+
+  pub checked-long : trailerSize ≤ length b
+  checked-long = checked-sound .parts .trail .long

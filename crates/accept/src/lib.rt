@@ -62,11 +62,10 @@ fn check_parts(book: &[u8]) -> Checked
     let k = numbers::number_at(book, at + 2);
     let s = numbers::number_at(book, at + 4);
     let u = numbers::number_at(book, at + 6);
-    let mut steps = [0u8; 2000];
-    if !entries::check_entries(book, n, k, s, u, &mut steps) {
+    if !entries::check_entries(book, n, k, s, u) {
         return Checked::Unsound;
     }
-    if !inspect::check_table(book, &steps, u, at, n) {
+    if !inspect::check_table(book, u, at, n) {
         return Checked::Unsound;
     }
     Checked::Sound(n, k)

@@ -1,7 +1,7 @@
 -- Laws of the code that reads and judges one block, one for each way through it.
 --     entry-not, entry-is       the last test of an entry
 --     Pasted, name-read, name-size     the cursor
---     says-true, says-false, Held    the loop over a block, with its buffer
+--     Held, held-..             the loop over a block, with its buffer
 --     shared-bytes, Alike       the loop over what two names share
 --     next-..                   a block and the name before it
 --     Reached                   the loop to a name that is read back
@@ -9,16 +9,17 @@
 use Prim.Native.Nat.{ℕ, _+_, _-_, _≤_, _<_}
 use native.Mathlib.Numerals.{add-one}
 use native.Mathlib.Omega.{arith}
-use mathlib.Core.Path.{_≡_, refl, sym, ap, _∙_, subst}
+use mathlib.Core.Path.{_≡_, refl, sym, ap, ap₂, _∙_, subst}
 use mathlib.Core.Bool.{Bool, true, false, not}
 use mathlib.Core.List.{List, [], _∷_}
 use lib.ListN.{length, getD, take, drop, set, length-take, length-drop, length-set}
 use lib.Seq.{paste, paste-zero, paste-suc, take-paste, length-paste, getD-drop, take-take, drop-drop}
+use borrow.Author.Tests.{not-false, not-true}
 use Rattle.words.specs.Words.{Bytes, less, plain, shared, word}
 use Rattle.words.proofs.Words.{false≠true, part-at, plain-injective, shared-comm, shared-le, shared-more, shared-word}
 use Rattle.streams.specs.Streams.{EntryAt, Stream, entry, entryEnd, nameAt}
-use Rattle.streams.specs.Runs.{RunTo, Step}
-use Rattle.streams.proofs.Walks.{Blocked, block-fits, blocked-apart, blocked-bad, blocked-done, blocked-entry, blocked-more, blocked-start, first-name, not-above, step-is}
+use Rattle.streams.specs.Runs.{Step}
+use Rattle.streams.proofs.Walks.{Blocked, blocked-apart, blocked-bad, blocked-done, blocked-entry, blocked-more, blocked-start, first-name, not-above, run-first, step-is}
 use Rattle.entries.specs.Judging.{BlockSays, EntrySays, NameIs, NameRead, NextSays, ReadAsk}
 
 -- ---- one entry
@@ -72,11 +73,11 @@ module _ (b prev out : Bytes) (o len c n : ℕ) (k : EntryAt b o len) (h : len �
 -- ---- a block
 
 -- what the code says after the part `&name[0..len]`
-pub says-true : (b : Bytes) (o e : ℕ) (name : Bytes) (len : ℕ) (r : Bool) → not r ≡ false → EntrySays b o e (take (len - 0) name) r → Step b o e (take len name)
+says-true : (b : Bytes) (o e : ℕ) (name : Bytes) (len : ℕ) (r : Bool) → not r ≡ false → EntrySays b o e (take (len - 0) name) r → Step b o e (take len name)
 says-true b o e name len true h k = let z : len - 0 ≡ len = omega arith in subst (λ (x : ℕ). Step b o e (take x name)) z k
 says-true b o e name len false h k = absurd (false≠true (sym h))
 
-pub says-false : (b : Bytes) (o e : ℕ) (name : Bytes) (len : ℕ) (r : Bool) → not r ≡ true → EntrySays b o e (take (len - 0) name) r → Step b o e (take len name) → ⊥
+says-false : (b : Bytes) (o e : ℕ) (name : Bytes) (len : ℕ) (r : Bool) → not r ≡ true → EntrySays b o e (take (len - 0) name) r → Step b o e (take len name) → ⊥
 says-false b o e name len true h = absurd (false≠true h)
 says-false b o e name len false h = λ k j. let z : len ≡ len - 0 = omega arith in k (subst (λ (x : ℕ). Step b o e (take x name)) z j)
 
@@ -91,20 +92,21 @@ held-start b e o₀ m name h s = record { size = s; room = omega arith; blocked 
 
 -- all that the record tells is left to it
 module _ {b : Bytes} {e o₀ m o : ℕ} {name : Bytes} {len left : ℕ} (w : Held b e o₀ m o name len left) where
-  pub held-entry : Step b o e (take len name) → EntryAt b o len
-  held-entry s = blocked-entry b e o₀ m o (take len name) left (w .blocked) len (omega (arith, length-take len name, w .size, w .room)) s
+  module _ (r : Bool) (says : EntrySays b o e (take (len - 0) name) r) where
+    pub held-entry : not r ≡ false → EntryAt b o len
+    held-entry h =
+        blocked-entry b e o₀ m o (take len name) left (w .blocked) len (omega (arith, length-take len name, w .size, w .room)) (says-true b o e name len r h says)
 
-  pub held-more : (next : ℕ) (name' : Bytes) (len' : ℕ) → 0 < left → Step b o e (take len name) → NameRead b o (take len name) next len' name'
-      → Held b e o₀ m next name' len' (left - 1)
-  held-more next name' len' h s r = record {
-    size = r .size;
-    room = r .room;
-    blocked = blocked-more b e o₀ m o (take len name) left (w .blocked) next (take len' name') h s (r .name-is) (r .next-is);
-  }
+    pub held-more : (next : ℕ) (name' : Bytes) (len' : ℕ) → not r ≡ false → 0 < left → NameRead b o (take len name) next len' name'
+        → Held b e o₀ m next name' len' (left - 1)
+    held-more next name' len' h some k = record {
+      size = k .size;
+      room = k .room;
+      blocked = blocked-more b e o₀ m o (take len name) left (w .blocked) next (take len' name') some (says-true b o e name len r h says) (k .name-is) (k .next-is);
+    }
 
-  -- the answers of each way out
-  pub held-bad : 0 < left → (Step b o e (take len name) → ⊥) → BlockSays b o₀ e m false name len
-  held-bad h n = blocked-bad b e o₀ m o (take len name) left (w .blocked) h n
+    pub held-bad : not r ≡ true → 0 < left → BlockSays b o₀ e m false name len
+    held-bad h some = blocked-bad b e o₀ m o (take len name) left (w .blocked) some (says-false b o e name len r h says)
 
   pub held-apart : left ≤ 0 → (o ≡ e → ⊥) → BlockSays b o₀ e m false name len
   held-apart h n = blocked-apart b e o₀ m o (take len name) left (w .blocked) h n
@@ -137,33 +139,28 @@ module _ (a c : Bytes) where
 
 -- ---- a block and the name before it
 
-module _ (b : Bytes) (o e m : ℕ) (prev name : Bytes) (len : ℕ) where
-  pub next-no : (r : Bool) → not r ≡ true → BlockSays b o e m r name len → NextSays b o e m prev false name len 0
-  next-no true h k = absurd (false≠true h)
-  next-no false h k = λ l j i. k l j
+module _ (b : Bytes) (o e m : ℕ) where
+  pub next-none : (prev name : Bytes) (r : Bool) → not r ≡ true → EntrySays b o e [] r → 0 < m → NextSays b o e m prev false name 0
+  next-none prev name true h k some = absurd (false≠true h)
+  next-none prev name false h k some = λ l run up. k (run-first b e o [] m l some run .0)
 
-  block-yes : (r : Bool) → not r ≡ false → BlockSays b o e m r name len → RunTo b e o [] m (take len name)
-  block-yes true h k = k
-  block-yes false h k = absurd (false≠true (sym h))
+  pub next-fits : (r : Bool) → not r ≡ false → EntrySays b o e [] r → entryEnd b o ≤ e
+  next-fits true h k = k .fits
+  next-fits false h k = absurd (false≠true (sym h))
 
-  pub next-fits : (r : Bool) → not r ≡ false → BlockSays b o e m r name len → 0 < m → o + 2 + getD b (o + 1) 0 ≤ e
-  next-fits r h k some = block-fits b e o m (take len name) some (block-yes r h k)
+  -- r is what the code found of `&name[0..before]` and `&book[from..to]`, which is the first name
+  module _ (name : Bytes) (before n : ℕ) (r : Bool) (ne : n ≡ getD b (o + 1) 0)
+      (re : r ≡ less (word plain (take (before - 0) name)) (word plain (take (o + 2 + n - (o + 2)) (drop (o + 2) b)))) where
+    found : r ≡ less (word plain (take before name)) (word plain (nameAt b o []))
+    found = let z : before - 0 ≡ before = omega arith in
+        re ∙ ap₂ (λ (i : ℕ) (x : Bytes). less (word plain (take i name)) (word plain x)) z (sym (first-name b o n ne))
 
-  -- r is what the code found of x, which is the first name
-  judged : (r : Bool) (x : Bytes) (shares : ℕ) → x ≡ nameAt b o [] → RunTo b e o [] m (take len name) → r ≡ less (word plain prev) (word plain x)
-      → shares ≡ shared (word plain prev) (word plain x) → NextSays b o e m prev r name len shares
-  judged true x shares q run p z = (
-    run,
-    ap (λ (y : Bytes). less (word plain prev) (word plain y)) (sym q) ∙ sym p,
-    z ∙ shared-bytes prev x ∙ ap (shared prev) q,
-  )
-  judged false x shares q run p z = λ l j i. false≠true (p ∙ ap (λ (y : Bytes). less (word plain prev) (word plain y)) q ∙ i)
+    pub next-low : (out : Bytes) → not r ≡ true → NextSays b o e m (take before name) false out 0
+    next-low out h = λ l run up. false≠true (sym (not-true r h) ∙ found ∙ up)
 
-  -- the code looked at `&book[from..to]`
-  pub next-judged : (t r : Bool) (n shares : ℕ) → not t ≡ false → BlockSays b o e m t name len → n ≡ getD b (o + 1) 0
-      → r ≡ less (word plain prev) (word plain (take (o + 2 + n - (o + 2)) (drop (o + 2) b)))
-      → shares ≡ shared (word plain prev) (word plain (take (o + 2 + n - (o + 2)) (drop (o + 2) b))) → NextSays b o e m prev r name len shares
-  next-judged t r n shares h k ne p z = judged r (take (o + 2 + n - (o + 2)) (drop (o + 2) b)) shares (sym (first-name b o n ne)) (block-yes t h k) p z
+    pub next-judged : (out : Bytes) (len : ℕ) (t : Bool) → not r ≡ false → BlockSays b o e m t out len → NextSays b o e m (take before name) t out len
+    next-judged out len true h k = (k, sym found ∙ not-false r h)
+    next-judged out len false h k = λ l run up. k l run
 
 -- ---- a name read back
 

@@ -3,9 +3,8 @@
 --     NameRead          the name that the cursor reads, and the place of the next entry
 --     EntrySays         whether an entry stands
 --     BlockSays         whether the entries of a block stand, and then its last name
---     NextSays          the same, and its first name is above the name before; then also how many symbols it shares with that one
---     WalkSays          whether the entries and the block table stand, and then the row of steps
---     Blank             what the walk asks of the row of steps
+--     NextSays          the same, and its first name is above the name before
+--     WalkSays          whether the entries and the block table stand
 --     ReadAsk, NameIs   reading a name back: names stand there; the one that is asked for
 -- The laws are in proofs/Reading.antt and proofs/Walking.antt. Assumes nothing: these are definitions.
 use Prim.Native.Nat.{ℕ, _<_, _≤_}
@@ -13,10 +12,10 @@ use mathlib.Core.Path.{_≡_}
 use mathlib.Core.Bool.{Bool, true, false}
 use mathlib.Core.List.{List, []}
 use lib.ListN.{getD, length, take}
-use Rattle.words.specs.Words.{Bytes, less, plain, shared, word}
+use Rattle.words.specs.Words.{Bytes, less, plain, word}
 use Rattle.format.specs.Records.{longest}
 use Rattle.streams.specs.Streams.{Stream, entryEnd, nameAt}
-use Rattle.streams.specs.Runs.{Has, Rest, RunTo, Step, Told}
+use Rattle.streams.specs.Runs.{Has, RunTo, Step}
 
 pub record NameRead (b : Bytes) (o : ℕ) (prev : Bytes) (next len : ℕ) (name : Bytes) : Type 0 where
   pub name-is : take len name ≡ nameAt b o prev
@@ -37,17 +36,13 @@ BlockSays b o e m false name len = (l : Bytes) → RunTo b e o [] m l → ⊥
 abbrev pub Above : Bytes → ℕ → Bytes → Type 0
 Above b o prev = less (word plain prev) (word plain (nameAt b o [])) ≡ true
 
-abbrev pub NextSays : Bytes → ℕ → ℕ → ℕ → Bytes → Bool → Bytes → ℕ → ℕ → Type 0
-NextSays b o e m prev true name len shares = RunTo b e o [] m (take len name) × Above b o prev × (shares ≡ shared prev (nameAt b o []))
-NextSays b o e m prev false name len shares = (l : Bytes) → RunTo b e o [] m l → Above b o prev → ⊥
+abbrev pub NextSays : Bytes → ℕ → ℕ → ℕ → Bytes → Bool → Bytes → ℕ → Type 0
+NextSays b o e m prev true name len = RunTo b e o [] m (take len name) × Above b o prev
+NextSays b o e m prev false name len = (l : Bytes) → RunTo b e o [] m l → Above b o prev → ⊥
 
-abbrev pub WalkSays : Bytes → ℕ → ℕ → ℕ → ℕ → Bool → Bytes → Type 0
-WalkSays b k s u n true steps = Has b k s u n s 0 [] × ((xs : List Bytes) → length xs ≡ n → Rest b k s u s 0 [] xs → Told b steps xs n)
-WalkSays b k s u n false steps = Has b k s u n s 0 [] → ⊥
-
--- nothing is told yet
-abbrev pub Blank : Bytes → Type 0
-Blank steps = (j : ℕ) → getD steps j 0 ≡ 0
+abbrev pub WalkSays : Bytes → ℕ → ℕ → ℕ → ℕ → Bool → Type 0
+WalkSays b k s u n true = Has b k s u n s 0 []
+WalkSays b k s u n false = Has b k s u n s 0 [] → ⊥
 
 -- entry number count after the one at start can be read: some names stand there, from a block's first on, and it is one of them
 pub record ReadAsk (b : Bytes) (start count : ℕ) : Type 0 where

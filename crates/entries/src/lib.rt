@@ -1,5 +1,5 @@
 // The entries of a book, read and judged: block by block, each judged alone, from its offset in the block table to the next one's.
-// No list of the names is kept: a name is read from the one before it.
+// No list of the names is kept: a name is read from the one before it, into the same array.
 ghost use mathlib.Core.Path.{_≡_};
 ghost use Prim.Native.Nat.{_+_, _<_, _≤_};
 ghost use lib.ListN.{drop, length, take};
@@ -7,7 +7,7 @@ ghost use lib.Seq.{paste};
 ghost use Rattle.words.specs.Words.{less, plain, shared, word};
 ghost use Rattle.streams.specs.Streams.{EntryAt};
 ghost use Rattle.streams.specs.Runs.{Frame, endOf};
-ghost use Rattle.entries.specs.Judging.{Blank, BlockSays, EntrySays, NameIs, NameRead, NextSays, ReadAsk, WalkSays};
+ghost use Rattle.entries.specs.Judging.{BlockSays, EntrySays, NameIs, NameRead, NextSays, ReadAsk, WalkSays};
 
 // Where an entry stands.
 pub struct Cursor {
@@ -27,19 +27,10 @@ pub struct Ahead {
     pub next: Cursor,
 }
 
-// Whether a block stands, and then its last name.
+// Whether a block stands, and then how long its last name is.
 pub struct Last {
     pub ok: bool,
-    pub name: [u8; 200],
     pub len: usize,
-}
-
-// The same, and how many symbols the block's first name shares with the name before it.
-pub struct Judged {
-    pub ok: bool,
-    pub name: [u8; 200],
-    pub len: usize,
-    pub shares: usize,
 }
 
 // Whether an entry that ends by `end` stands at an offset, after the name prev. The last test is both: that the count is the greatest
@@ -107,41 +98,28 @@ impl Cursor {
     }
 }
 
-// Whether the entries of a block of m names stand from an offset to `end`.
-pub fn check_block(book: &[u8], start: usize, end: usize, m: usize) -> Last
-    requires { ⌜ end ≤ length (now book) ⌝ }
-    ensures { λ r. ⌜ (r .len ≤ 200) × (length (r .name) ≡ 200) × BlockSays (now (book .entry)) start end m (r .ok) (r .name) (r .len) ⌝ }
+// Whether the entries of a block of m names stand from an offset to `end`; then the first bytes of the lent name are its last one.
+pub fn check_block(book: &[u8], start: usize, end: usize, m: usize, name: &mut [u8]) -> Last
+    requires { ⌜ (end ≤ length (now book)) × (length (now name) ≡ 200) ⌝ }
+    ensures { λ r. ⌜ (r .len ≤ 200) × (length (now (name .exit)) ≡ 200) × BlockSays (now (book .entry)) start end m (r .ok) (now (name .exit)) (r .len) ⌝ }
 {
     let mut cur = Cursor { at: start };
-    let mut name = [0u8; 200];
     let mut len: usize = 0;
     let mut left = m;
     while 0 < left {
         let at = cur.at;
         if !is_entry(book, at, end, &name[0..len]) {
-            return Last {
-                ok: false,
-                name,
-                len,
-            };
+            return Last { ok: false, len };
         }
-        let ahead = cur.next(book, &mut name, len);
+        let ahead = cur.next(book, name, len);
         len = ahead.len;
         cur = ahead.next;
         left -= 1;
     }
     if cur.at != end {
-        return Last {
-            ok: false,
-            name,
-            len,
-        };
+        return Last { ok: false, len };
     }
-    Last {
-        ok: true,
-        name,
-        len,
-    }
+    Last { ok: true, len }
 }
 
 // Where the block ends whose offset stands at t: at the next offset, or, as the last one, at s.
@@ -189,39 +167,35 @@ fn is_above(prev: &[u8], name: &[u8], shares: usize) -> bool
     true
 }
 
-// Whether a block of m names stands from an offset to `end`, its first name above prev.
-fn next_block(book: &[u8], start: usize, end: usize, m: usize, prev: &[u8]) -> Judged
-    requires { ⌜ (end ≤ length (now book)) × (0 < m) ⌝ }
-    ensures { λ r. ⌜ (r .len ≤ 200) × (length (r .name) ≡ 200) × NextSays (now (book .entry)) start end m (now (prev .entry)) (r .ok) (r .name) (r .len) (r .shares) ⌝ }
+// Whether a block of m names stands from an offset to `end`, its first name above the first `before` bytes of the lent name, whose place
+// its last name takes. So the first name, which its entry has whole, is compared before the block is gone over.
+fn next_block(
+    book: &[u8],
+    start: usize,
+    end: usize,
+    m: usize,
+    name: &mut [u8],
+    before: usize,
+) -> Last
+    requires { ⌜ (end ≤ length (now book)) × (0 < m) × (length (now name) ≡ 200) × (before ≤ 200) ⌝ }
+    ensures { λ r. ⌜ (r .len ≤ 200) × (length (now (name .exit)) ≡ 200) × NextSays (now (book .entry)) start end m (take before (now (name .entry))) (r .ok) (now (name .exit)) (r .len) ⌝ }
 {
-    let last = check_block(book, start, end, m);
-    let name = last.name;
-    let len = last.len;
-    if !last.ok {
-        return Judged {
-            ok: false,
-            name,
-            len,
-            shares: 0,
-        };
+    if !is_entry(book, start, end, &name[0..0]) {
+        return Last { ok: false, len: 0 };
     }
     let from = start + 2;
     let to = from + numbers::wide(book[start + 1]);
-    let shares = shared_symbols(prev, &book[from..to]);
-    let ok = is_above(prev, &book[from..to], shares);
-    Judged {
-        ok,
-        name,
-        len,
-        shares,
+    let shares = shared_symbols(&name[0..before], &book[from..to]);
+    if !is_above(&name[0..before], &book[from..to], shares) {
+        return Last { ok: false, len: 0 };
     }
+    check_block(book, start, end, m, name)
 }
 
-// Whether the bytes before s are the entries of some sound list of n names in blocks of k, and those from s to u their offsets. Then
-// the row of steps has at each block's first name how many symbols that one shares with the name before it, and 0 at every other.
-pub fn check_entries(book: &[u8], n: usize, k: usize, s: usize, u: usize, steps: &mut [u8]) -> bool
-    requires { ⌜ Frame (now book) k s u × (n ≤ length (now steps)) × Blank (now steps) ⌝ }
-    ensures { λ r. ⌜ (length (now (steps .exit)) ≡ length (now (steps .entry))) × WalkSays (now (book .entry)) k s u n r (now (steps .exit)) ⌝ }
+// Whether the bytes before s are the entries of some sound list of n names in blocks of k, and those from s to u their offsets.
+pub fn check_entries(book: &[u8], n: usize, k: usize, s: usize, u: usize) -> bool
+    requires { ⌜ Frame (now book) k s u ⌝ }
+    ensures { λ r. ⌜ WalkSays (now (book .entry)) k s u n r ⌝ }
 {
     let mut at: usize = 0;
     let mut t = s;
@@ -240,13 +214,11 @@ pub fn check_entries(book: &[u8], n: usize, k: usize, s: usize, u: usize, steps:
             return false;
         }
         let m = numbers::lesser(n - i, k);
-        let next = next_block(book, at, end, m, &name[0..len]);
-        if !next.ok {
+        let last = next_block(book, at, end, m, &mut name, len);
+        if !last.ok {
             return false;
         }
-        steps[i] = next.shares as u8;
-        name = next.name;
-        len = next.len;
+        len = last.len;
         at = end;
         t += 2;
         i += m;

@@ -2,7 +2,7 @@
 --     levelsLeft        the lesser of the names that are left and of the depths that are left
 --     levels-fall       from a row to a child's node both fall, and so does the lesser
 --     levels-most       at first there are at most 199
---     child-falls       the same of a record that may be a child's, where t is the row's measure
+--     fork-falls        the same of a record that may be a fork's, where t is the row's measure
 -- A node has the measure 2 * levelsLeft + 1 and its row 2 * levelsLeft: at most 399, and from a node to one inside it by 2 less. So
 -- at most 200 nodes, and their 200 rows, are open at a time.
 -- Assumes nothing.
@@ -11,7 +11,7 @@ use native.Mathlib.Omega.{arith}
 use mathlib.Core.Path.{_≡_}
 use Rattle.words.specs.Words.{Bytes}
 use Rattle.format.specs.Book.{number}
-use Rattle.inspect.specs.Check.{MayBeChild}
+use Rattle.inspect.specs.Check.{MayBeFork}
 
 -- of a node, or its row, of n names and of depth d
 abbrev pub levelsLeft : ℕ → ℕ → ℕ
@@ -24,8 +24,5 @@ levels-fall n d x y fewer deeper low = omega arith
 pub levels-most : (n d : ℕ) → 2 * levelsLeft n d + 1 ≤ 399
 levels-most n d = omega arith
 
-pub child-falls : {b : Bytes} {o n d left x t : ℕ} → MayBeChild b o n d left → x ≡ number b (o + 6) → (x ≡ 1 → ⊥) → 2 * levelsLeft n d ≡ t
-    → 2 * levelsLeft x (number b (o + 2)) + 1 < t
-child-falls {b} {o} {n} {d} {left} {x} k xe more te =
-    let many : 1 < number b (o + 6) = omega (arith, k .some) in
-    omega (arith, levels-fall n d x (number b (o + 2)) (omega (arith, k .proper)) (k .below many) (k .shallow many))
+pub fork-falls : {b : Bytes} {o e n d left t : ℕ} → MayBeFork b o e n d left → 2 * levelsLeft n d ≡ t → 2 * levelsLeft (number b (o + 6)) (number b (o + 2)) + 1 < t
+fork-falls {b} {o} {e} {n} {d} k te = omega (arith, levels-fall n d (number b (o + 6)) (number b (o + 2)) (k .proper) (k .below) (k .shallow))

@@ -1,26 +1,30 @@
--- What the look at a leaf says, and the ways through the check of a node, one law for each, over plain values.
---     leaf-split, leaf-unlike, leaf-stands      a leaf that stands; the record is another; it is the leaf's
---     node-asks                                 what the check of the row asks
---     node-symbol, node-first, node-names, node-row, node-nodes, node-stands     the ways through the node's check
+-- What the look at a leaf says, and the check of a node by that of its row.
+--     says-no, says-yes        an answer, and its two ways
+--     leaf-stands, leaf-not    the record of one name
+--     node-asks, node-says     the record of several names: what the check of its row asks, and what it says
 -- Assumes nothing.
-use Prim.Native.Nat.{ℕ, suc, pred, _+_, _*_, _≤_, _<_}
+use Prim.Native.Nat.{ℕ, suc, pred, _+_, _-_, _*_, _≤_, _<_}
 use native.Mathlib.Omega.{arith}
-use mathlib.Core.Path.{_≡_, sym, ap, _∙_, subst}
-use mathlib.Core.Bool.{true, false}
-use lib.ListN.{length}
+use mathlib.Core.Path.{_≡_, refl, sym, ap, _∙_, subst}
+use lib.ListN.{length, getD}
 use Rattle.words.specs.Words.{Bytes, nth}
-use Rattle.format.specs.Book.{number}
-use Rattle.format.specs.Nodes.{leaf}
-use Rattle.streams.specs.Streams.{namesOf, wordsOf}
-use Rattle.standing.specs.Stands.{GroupAt, NodeAt}
-use Rattle.standing.proofs.Walk.{group-end}
+use Rattle.format.specs.Book.{number, nodeSize}
+use Rattle.format.specs.Nodes.{Node, leaf}
+use Rattle.streams.specs.Streams.{Here, lengthAt, namesOf, wordsOf}
+use Rattle.streams.proofs.Here.{here-length, words-count}
+use Rattle.standing.specs.Stands.{GroupAt, NodeAt, recordAt}
 use Rattle.standing.proofs.Children as child
-use Rattle.inspect.specs.declared.Seen.{Seen}
-use Rattle.inspect.specs.declared.Seen.the-variants.{Bad, To}
-use Rattle.inspect.specs.Check.{Ask, Here, LeafSays, NodeAsk, NodeSays, RowAsk, RowSays, leafOf, lengthAt}
-use Rattle.inspect.proofs.Entry.{here-length, words-count}
+use Rattle.inspect.specs.Check.{Ask, LeafAt, NodeAsk, NodeSays, RowAsk, RowSays, Says}
 
--- ---- a leaf
+-- ---- an answer
+
+pub says-no : {S : Type 0} {b : Bytes} {i : ℕ} → (S → ⊥) → Says S b i 0
+says-no n = record { no-way = λ e. n; it-does = λ z. absurd (z refl) }
+
+pub says-yes : {S : Type 0} {b : Bytes} {i r : ℕ} → S → Here b i r → (r ≡ 0 → ⊥) → Says S b i r
+says-yes s h z = record { no-way = λ e. absurd (z e); it-does = λ n. (s, h) }
+
+-- ---- one name
 
 module _ (b : Bytes) (lo s o a : ℕ) (q : Ask b lo 1 a) where
   some : lo < length (namesOf b)
@@ -29,74 +33,67 @@ module _ (b : Bytes) (lo s o a : ℕ) (q : Ask b lo 1 a) where
   lone : lo < length (wordsOf b)
   lone = omega (arith, some, words-count b)
 
+  size : lengthAt b a ≡ length (nth (wordsOf b) lo)
+  size = here-length b lo a (q .known) (q .here) some
+
   next : suc lo ≡ lo + 1
   next = omega arith
 
-  leaf-is : leaf lo s (nth (wordsOf b) lo) ≡ leafOf lo s (lengthAt b a)
-  leaf-is = ap (λ (l : ℕ). leafOf lo s l) (sym (here-length b lo a (q .known) (q .here) some))
+  pub leaf-stands : o + 10 ≤ length b → number b o ≡ s → number b (o + 4) ≡ lo → number b (o + 6) ≡ 1 → LeafAt b o (lengthAt b a) → NodeAt b (wordsOf b) lo (lo + 1) s o (o + 10)
+  leaf-stands room symbol first names k =
+      let depth : number b (o + 2) ≡ suc (length (nth (wordsOf b) lo)) = k .0 ∙ ap suc size in
+      let told : recordAt b o ≡ leaf lo s (nth (wordsOf b) lo) = rw (symbol, depth, first, names, k .1) refl in
+      subst (λ (m : ℕ). NodeAt b (wordsOf b) lo m s o (o + 10)) next (child.leaf-node (wordsOf b) (q .known .rises) b s lo o lone room told)
 
-  pub leaf-split : (e : ℕ) → NodeAt b (wordsOf b) lo (lo + 1) s o e → child.Leaf (wordsOf b) (q .known .rises) b s lo o e
-  leaf-split e g = child.node-leaf (wordsOf b) (q .known .rises) b s lo o e lone (subst (λ (m : ℕ). NodeAt b (wordsOf b) lo m s o e) (sym next) g)
+  pub leaf-not : (LeafAt b o (lengthAt b a) → ⊥) → (e : ℕ) → NodeAt b (wordsOf b) lo (lo + 1) s o e → ⊥
+  leaf-not n e g =
+      let f = child.node-leaf (wordsOf b) (q .known .rises) b s lo o e lone (subst (λ (m : ℕ). NodeAt b (wordsOf b) lo m s o e) (sym next) g) in
+      n (ap (λ (r : Node). r .depth) (f .told) ∙ ap suc (sym size), ap (λ (r : Node). r .nodes) (f .told))
 
-  pub leaf-unlike : LeafSays b o lo s (lengthAt b a) false → NodeSays b lo 1 s o Bad
-  leaf-unlike never e g = never ((leaf-split e g) .told ∙ leaf-is)
+-- ---- several names
 
-  pub leaf-stands : o + 10 ≤ length b → LeafSays b o lo s (lengthAt b a) true → NodeSays b lo 1 s o (To (o + 10) a)
-  leaf-stands room sure =
-      let same : lo ≡ pred (lo + 1) = omega arith in (
-        subst (λ (m : ℕ). NodeAt b (wordsOf b) lo m s o (o + 10)) next (child.leaf-node (wordsOf b) (q .known .rises) b s lo o lone room (sure ∙ sym leaf-is)),
-        subst (λ (i : ℕ). Here b i a) same (q .here),
-      )
+module _ (b : Bytes) (o a : ℕ) (q : NodeAsk b o a) where
+  -- d, lo, n and m are the numbers of the record
+  module _ (d lo n m : ℕ) (de : d ≡ number b (o + 2)) (le : lo ≡ number b (o + 4)) (ne : n ≡ number b (o + 6)) (me : m ≡ number b (o + 8)) where
+    pub node-asks : RowAsk b (o + 10 * m) lo n d a
+    node-asks = record {
+      ask = rw (le, ne) (q .ask);
+      several = omega (arith, q .several);
+      low = omega (arith, q .low);
+      long = omega (arith, q .long);
+    }
 
--- ---- a node of several names
+    pub node-says : (r : ℕ) → RowSays b (o + 10) (o + 10 * m) lo n d r → NodeSays b o r
+    node-says r says = record {
+      no-way = λ z g. row .no-way z ((child.node-split (wordsOf b) (q .ask .known .rises) b (number b o) first (first + names) o end two few g) .group);
+      it-does = λ z.
+          let s = row .it-does z in (
+            child.node-join (wordsOf b) (q .ask .known .rises) b (number b o) first (first + names) o end two few (record {
+              room = q .room;
+              symbol = refl;
+              first = refl;
+              names = omega arith;
+              nodes = refl;
+              group = s .0;
+            }),
+            s .1,
+          );
+    }
+      where
+        first : ℕ
+        first = number b (o + 4)
 
-module _ (b steps : Bytes) (lo n s o a : ℕ) (q : NodeAsk b steps o lo n a) where
-  abbrev Unlike : Type 0
-  Unlike = (e : ℕ) → NodeAt b (wordsOf b) lo (lo + n) s o e → ⊥
+        names : ℕ
+        names = number b (o + 6)
 
-  two : suc lo < lo + n
-  two = omega (arith, q .many)
+        end : ℕ
+        end = o + 10 * number b (o + 8)
 
-  few : lo + n ≤ length (wordsOf b)
-  few = omega (arith, q .ask .within, words-count b)
+        two : suc first < first + names
+        two = omega (arith, q .several)
 
-  fork : (e : ℕ) → NodeAt b (wordsOf b) lo (lo + n) s o e → child.Fork (wordsOf b) (q .ask .known .rises) b s lo (lo + n) o e
-  fork e h = child.node-split (wordsOf b) (q .ask .known .rises) b s lo (lo + n) o e two few h
+        few : first + names ≤ length (wordsOf b)
+        few = omega (arith, q .ask .within, words-count b)
 
-  pub node-symbol : (x : ℕ) → x ≡ number b o → (x ≡ s → ⊥) → Unlike
-  node-symbol x xe h e g = h (xe ∙ (fork e g) .symbol)
-
-  pub node-first : (x : ℕ) → x ≡ number b (o + 4) → (x ≡ lo → ⊥) → Unlike
-  node-first x xe h e g = h (xe ∙ (fork e g) .first)
-
-  pub node-names : (x : ℕ) → x ≡ number b (o + 6) → (x ≡ n → ⊥) → Unlike
-  node-names x xe h e g = h (omega (arith, (fork e g) .names))
-
-  pub node-asks : (d : ℕ) → d ≡ number b (o + 2) → RowAsk b steps lo n d a
-  node-asks d de = record { ask = q .ask; told = q .told; many = q .many; low = omega (arith, q .low); long = omega (arith, q .room) }
-
-  module _ (d m : ℕ) (de : d ≡ number b (o + 2)) (me : m ≡ number b (o + 8)) where
-    pub node-row : (v : Seen) → RowSays b lo n d (o + 10) v → v ≡ Bad → Unlike
-    node-row v says is e g = (subst (RowSays b lo n d (o + 10)) is says) e (subst (λ (x : ℕ). GroupAt b (wordsOf b) lo (lo + n) x (o + 10) e) (sym de) ((fork e g) .group))
-
-    pub node-nodes : (v : Seen) (end c : ℕ) → RowSays b lo n d (o + 10) v → v ≡ To end c → (o + 10 * m ≡ end → ⊥) → Unlike
-    node-nodes v end c says is h e g =
-        let sure : RowSays b lo n d (o + 10) (To end c) = subst (RowSays b lo n d (o + 10)) is says in
-        let f = fork e g in
-        let k : GroupAt b (wordsOf b) lo (lo + n) d (o + 10) e = subst (λ (x : ℕ). GroupAt b (wordsOf b) lo (lo + n) x (o + 10) e) (sym de) (f .group) in
-        h (omega (arith, f .nodes, group-end b (wordsOf b) lo (lo + n) d (o + 10) e end k (sure .0)))
-
-    pub node-stands : (v : Seen) (end c : ℕ) → RowSays b lo n d (o + 10) v → v ≡ To end c
-        → (number b o ≡ s) × (number b (o + 4) ≡ lo) × (number b (o + 6) ≡ n) → o + 10 * m ≡ end → NodeSays b lo n s o (To end c)
-    node-stands v end c says is told h =
-        let sure : RowSays b lo n d (o + 10) (To end c) = subst (RowSays b lo n d (o + 10)) is says in (
-          child.node-join (wordsOf b) (q .ask .known .rises) b s lo (lo + n) o end two few (record {
-            room = q .room;
-            symbol = told .0;
-            first = told .1;
-            names = omega arith;
-            nodes = omega arith;
-            group = subst (λ (k : ℕ). GroupAt b (wordsOf b) lo (lo + n) k (o + 10) end) de (sure .0);
-          }),
-          sure .1,
-        )
+        row : RowSays b (o + 10) end first names (number b (o + 2)) r
+        row = rw (← de, ← le, ← ne, ← me) says

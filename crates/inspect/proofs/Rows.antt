@@ -1,32 +1,34 @@
 -- The ways through the row check, one law for each, over plain values.
 --     Rows              the invariant of the loop over a row: the walk has come to lo, and a is where its entry stands
 --     Turn              the child at hand, of x names, stands up to m, and c is where its last name's entry stands
---     child-like        what the look at a child's record says
+--     led-to, fork-like what a look at a record says, where it says yes
 --     rows-..           the ways
 -- Assumes nothing.
-use Prim.Native.Nat.{ℕ, suc, pred, _+_, _-_, _≤_, _<_}
+use Prim.Native.Nat.{ℕ, suc, pred, _+_, _-_, _*_, _≤_, _<_}
+use native.Mathlib.Nat.{lt-irrefl}
 use native.Mathlib.Omega.{arith}
 use mathlib.Core.Path.{_≡_, refl, sym, ap, _∙_, subst}
 use mathlib.Core.Bool.{Bool, false, not, true}
 use lib.ListN.{length, getD}
 use Rattle.words.specs.Words.{Bytes, at, nth, plain, shared, word}
 use Rattle.words.proofs.Words.{false≠true}
-use Rattle.format.specs.Book.{nodeSize, number}
+use Rattle.format.specs.Book.{nodeSize, number, trailerSize}
+use Rattle.format.specs.Nodes.{deep}
 use Rattle.format.specs.Records.{longest}
-use Rattle.streams.specs.Streams.{Known, Steps, entryEnd, namesOf, offsetAt, wordsOf}
+use Rattle.streams.specs.Streams.{Here, InBlocks, Known, entryEnd, lengthAt, namesOf, offsetAt, offsetFrom, restAt, wordsOf}
+use Rattle.streams.proofs.Here.{here-fits, here-next, here-rises, here-symbol, name-short, words-count}
 use Rattle.standing.specs.Stands.{Child, GroupAt, NodeAt}
-use Rattle.standing.proofs.Walk.{Ahead, Walk, deep-short, node-head, walk-done, walk-more, walk-next, walk-start}
-use Rattle.inspect.specs.declared.Seen.{Seen}
-use Rattle.inspect.specs.declared.Seen.the-variants.{Bad, To}
-use Rattle.inspect.specs.Check.{Ask, ChildSays, Here, LeafSays, MayBeChild, NodeAsk, NodeSays, RowAsk, RowSays, lengthAt, restAt}
-use Rattle.inspect.proofs.Nodes.{leaf-stands, leaf-unlike}
-use Rattle.inspect.proofs.Entry.{here-fits, here-next, here-symbol, name-short, words-count}
+use Rattle.standing.proofs.Walk.{Ahead, Walk, deep-short, group-end, node-head, walk-done, walk-more, walk-next, walk-start}
+use Rattle.neighbours.specs.Neighbours.{MeetAsk}
+use Rattle.neighbours.proofs.Meeting.{meet-low}
+use Rattle.inspect.specs.Check.{Ask, ForkSays, LeafSays, LedSays, LedTo, MayBeFork, NodeAsk, NodeSays, RowAsk, RowSays}
+use Rattle.inspect.proofs.Nodes.{leaf-not, leaf-stands, says-no, says-yes}
 
-pub record Rows (b steps : Bytes) (lo₀ n d o₀ o lo a : ℕ) : Type 0 where
+pub record Rows (b : Bytes) (lo₀ n d o₀ e o lo a : ℕ) : Type 0 where
   pub known : Known b
-  pub told : Steps b steps
-  pub long : nodeSize ≤ length b
-  pub many : 2 ≤ n
+  pub blocks : InBlocks b (number b (length b - trailerSize + 2)) (number b (length b - trailerSize + 4))
+  pub long : e + trailerSize ≤ length b
+  pub several : 2 ≤ n
   pub within : lo₀ + n ≤ length (namesOf b)
   pub upto : lo < lo₀ + n
   pub walk : Walk b (wordsOf b) lo₀ (lo₀ + n) d o₀ lo o
@@ -35,163 +37,235 @@ pub record Rows (b steps : Bytes) (lo₀ n d o₀ o lo a : ℕ) : Type 0 where
   pub some : lo < length (namesOf b)
   pub fits : entryEnd b a ≤ length b
 
-pub record Turn (b steps : Bytes) (lo₀ n d o₀ o lo a x m c : ℕ) : Type 0 where
-  pub rows : Rows b steps lo₀ n d o₀ o lo a
-  pub like : MayBeChild b o n d (lo₀ + n - lo)
+pub record Turn (b : Bytes) (lo₀ n d o₀ e o lo a x m c : ℕ) : Type 0 where
+  pub rows : Rows b lo₀ n d o₀ e o lo a
   pub told : x ≡ number b (o + 6)
+  pub some : 1 ≤ x
+  pub proper : x < n
+  pub upto : lo + x ≤ lo₀ + n
   pub child : Child b (wordsOf b) d lo (lo + x) o m
   pub here : Here b (pred (lo + x)) c
   pub fits : entryEnd b c ≤ length b
 
--- what the look at a record says, where it may be a child's
-pub child-like : (b : Bytes) (o n d left : ℕ) (v : Bool) → ChildSays b o n d left v → not v ≡ false → MayBeChild b o n d left
-child-like b o n d left true k h = k
-child-like b o n d left false never h = absurd (false≠true (sym h))
+-- what a look at a record says, where it says yes
+pub led-to : (b : Bytes) (o i d a : ℕ) (v : Bool) → LedSays b o i d a v → not v ≡ false → LedTo b o i d a
+led-to b o i d a true k h = k
+led-to b o i d a false never h = absurd (false≠true (sym h))
 
-module _ (b steps : Bytes) (lo₀ n d o₀ : ℕ) where
-  pub rows-start : (a : ℕ) → RowAsk b steps lo₀ n d a → Rows b steps lo₀ n d o₀ o₀ lo₀ a
+pub fork-like : (b : Bytes) (o e n d left : ℕ) (v : Bool) → ForkSays b o e n d left v → not v ≡ false → MayBeFork b o e n d left
+fork-like b o e n d left true k h = k
+fork-like b o e n d left false never h = absurd (false≠true (sym h))
+
+module _ (b : Bytes) (lo₀ n d o₀ e : ℕ) where
+  pub rows-start : (a : ℕ) → RowAsk b e lo₀ n d a → Rows b lo₀ n d o₀ e o₀ lo₀ a
   rows-start a q = record {
     known = q .ask .known;
-    told = q .told;
+    blocks = q .ask .blocks;
     long = q .long;
-    many = q .many;
+    several = q .several;
     within = q .ask .within;
-    upto = omega (arith, q .many);
-    walk = walk-start b (wordsOf b) (q .ask .known .rises) lo₀ (lo₀ + n) d o₀ (omega (arith, q .many)) (omega (arith, q .ask .within, words-count b));
+    upto = omega (arith, q .several);
+    walk = walk-start b (wordsOf b) (q .ask .known .rises) lo₀ (lo₀ + n) d o₀ (omega (arith, q .several)) (omega (arith, q .ask .within, words-count b));
     here = q .ask .here;
     low = q .low;
     some = omega (arith, q .ask .some, q .ask .within);
     fits = here-fits b lo₀ a (q .ask .known) (q .ask .here) (omega (arith, q .ask .some, q .ask .within));
   }
 
+  -- the row doesn't stand
   abbrev Refused : Type 0
-  Refused = (e : ℕ) → GroupAt b (wordsOf b) lo₀ (lo₀ + n) d o₀ e → ⊥
+  Refused = RowSays b o₀ e lo₀ n d 0
 
   module _ (o lo a : ℕ) where
-    two : Rows b steps lo₀ n d o₀ o lo a → suc lo₀ < lo₀ + n
-    two r = omega (arith, r .many)
+    two : Rows b lo₀ n d o₀ e o lo a → suc lo₀ < lo₀ + n
+    two r = omega (arith, r .several)
 
-    fit : Rows b steps lo₀ n d o₀ o lo a → lo₀ + n ≤ length (wordsOf b)
+    fit : Rows b lo₀ n d o₀ e o lo a → lo₀ + n ≤ length (wordsOf b)
     fit r = omega (arith, r .within, words-count b)
 
-    next : Rows b steps lo₀ n d o₀ o lo a → (e : ℕ) → GroupAt b (wordsOf b) lo₀ (lo₀ + n) d o₀ e → Ahead b (wordsOf b) lo₀ (lo₀ + n) d lo o
-    next r e g = walk-next b (wordsOf b) (r .known .rises) lo₀ (lo₀ + n) d o₀ (two r) (fit r) lo o (r .walk) e g
+    ahead : Rows b lo₀ n d o₀ e o lo a → GroupAt b (wordsOf b) lo₀ (lo₀ + n) d o₀ e → Ahead b (wordsOf b) lo₀ (lo₀ + n) d lo o e
+    ahead r g = walk-next b (wordsOf b) (r .known .rises) lo₀ (lo₀ + n) d o₀ (two r) (fit r) lo o (r .walk) e g
 
     -- ---- up to the child
 
-    module _ (r : Rows b steps lo₀ n d o₀ o lo a) where
-      pub rows-unlike : (v : Bool) → ChildSays b o n d (lo₀ + n - lo) v → not v ≡ true → Refused
-      rows-unlike true k h e g = false≠true h
-      rows-unlike false never h e g =
-          let k = next r e g in
-          never (record { room = k .room; some = k .some; proper = omega (arith, k .proper); upto = k .upto; below = k .below; shallow = shallow k })
-        where
-          -- several words share less than any name can have
-          shallow : Ahead b (wordsOf b) lo₀ (lo₀ + n) d lo o → 1 < number b (o + 6) → number b (o + 2) < longest
-          shallow k many =
-              let end : lo + number b (o + 6) ≤ length (wordsOf b) = omega (arith, fit r, k .upto, r .upto) in
-              let hd = node-head b (wordsOf b) (r .known .rises) _ lo (lo + number b (o + 6)) o (k .end) (omega (arith, k .some)) end (k .node) in
-              let short : length (nth (wordsOf b) (pred (lo + number b (o + 6)))) ≤ longest = name-short b (pred (lo + number b (o + 6))) (r .known) (omega (arith, end, words-count b)) in
-              omega (arith, hd .depth (omega arith), deep-short (wordsOf b) (r .known .rises) lo (lo + number b (o + 6)) longest (omega arith) end short)
+    module _ (r : Rows b lo₀ n d o₀ e o lo a) where
+      pub rows-end : e ≤ o → Refused
+      rows-end h = says-no (λ g. lt-irrefl o (omega (arith, (ahead r g) .past)))
 
-      -- the record may be a child's, and x is the number of names that it tells
-      module _ (k : MayBeChild b o n d (lo₀ + n - lo)) (x : ℕ) (xe : x ≡ number b (o + 6)) where
-        asked : Ask b lo x a
-        asked = record { known = r .known; some = omega (arith, k .some); within = omega (arith, k .upto, r .upto, r .within); here = r .here }
+      pub rows-room : o < e → o + nodeSize ≤ length b
+      rows-room h = omega (arith, r .long)
 
-        pub rows-asks : (x ≡ 1 → ⊥) → NodeAsk b steps o lo x a
-        rows-asks more = record { ask = asked; told = r .told; many = omega (arith, k .some); room = k .room; low = omega (arith, r .low, k .below (omega (arith, k .some))) }
+      symbol-is : (s : ℕ) → s ≡ at (word plain (restAt b a)) (d - getD b a 0) → s ≡ at (nth (wordsOf b) lo) d
+      symbol-is s se = here-symbol b lo a (r .known) (r .here) (r .some) d s (r .low) se
 
-        module _ (s : ℕ) (se : s ≡ at (word plain (restAt b a)) (d - getD b a 0)) where
-          symbol-is : s ≡ at (nth (wordsOf b) lo) d
-          symbol-is = here-symbol b lo a (r .known) (r .here) (r .some) d s (r .low) se
+      pub rows-other : (v : Bool) → LedSays b o lo d a v → not v ≡ true → Refused
+      rows-other true k h = absurd (false≠true h)
+      rows-other false never h = says-no (λ g. let k = ahead r g in never (k .symbol ∙ sym (symbol-is _ refl), k .first))
 
-          pub rows-node : (v : Seen) → NodeSays b lo x s o v → v ≡ Bad → Refused
-          rows-node v says is e g = let h = next r e g in (subst (NodeSays b lo x s o) is says) (h .end) (rw (xe, symbol-is) (h .node))
+      -- the entry's symbol led to the record, and x is the number of names that it tells
+      module _ (led : LedTo b o lo d a) (x : ℕ) (xe : x ≡ number b (o + 6)) where
+        asked : 1 ≤ x → lo + x ≤ lo₀ + n → Ask b lo x a
+        asked some upto = record { known = r .known; blocks = r .blocks; some = some; within = omega (arith, r .within); here = r .here }
 
-          pub rows-no-leaf : x ≡ 1 → (v : Bool) → LeafSays b o lo s (lengthAt b a) v → not v ≡ true → Refused
-          rows-no-leaf one true sure h = absurd (false≠true h)
-          rows-no-leaf one false never h = rows-node Bad (rw one (leaf-unlike b lo s o a (rw one at asked) never)) refl
+        -- ---- one name
 
-          -- the child stands
-          pub rows-stood : (v : Seen) (m c : ℕ) → NodeSays b lo x s o v → v ≡ To m c → Turn b steps lo₀ n d o₀ o lo a x m c
-          rows-stood v m c says is =
-              let sure : NodeSays b lo x s o (To m c) = subst (NodeSays b lo x s o) is says in
-              let hd = node-head b (wordsOf b) (r .known .rises) s lo (lo + x) o m (omega (arith, k .some)) (omega (arith, fit r, k .upto, r .upto)) (sure .0) in
+        module _ (one : x ≡ 1) where
+          lone : Ask b lo 1 a
+          lone = record { known = r .known; blocks = r .blocks; some = omega arith; within = omega (arith, r .some); here = r .here }
+
+          pub rows-no-leaf : (v : Bool) → LeafSays b o (lengthAt b a) v → not v ≡ true → Refused
+          rows-no-leaf true k h = absurd (false≠true h)
+          rows-no-leaf false never h = says-no (λ g.
+              let k = ahead r g in
+              let z : lo + number b (o + 6) ≡ lo + 1 = omega arith in
+              leaf-not b lo (at (nth (wordsOf b) lo) d) o a lone never (o + 10 * number b (o + 8))
+              (subst (λ (m : ℕ). NodeAt b (wordsOf b) lo m (at (nth (wordsOf b) lo) d) o (o + 10 * number b (o + 8))) z (k .node)))
+
+          pub rows-leaf : o < e → (v : Bool) → LeafSays b o (lengthAt b a) v → not v ≡ false → Turn b lo₀ n d o₀ e o lo a x (o + 10) a
+          rows-leaf room false never h = absurd (false≠true (sym h))
+          rows-leaf room true sure h =
+              let z : lo + 1 ≡ lo + x = omega arith in
+              let p : lo ≡ pred (lo + x) = omega arith in
               record {
                 rows = r;
-                like = k;
                 told = xe;
+                some = omega arith;
+                proper = omega (arith, r .several);
+                upto = omega (arith, r .upto);
                 child = record {
-                  some = omega (arith, k .some);
-                  node = subst (λ (t : ℕ). NodeAt b (wordsOf b) lo (lo + x) t o m) symbol-is (sure .0);
-                  below = λ q. omega (arith, hd .depth q, k .below (omega arith));
+                  some = omega arith;
+                  node = subst (λ (m : ℕ). NodeAt b (wordsOf b) lo m (at (nth (wordsOf b) lo) d) o (o + 10)) z
+                      (leaf-stands b lo (at (nth (wordsOf b) lo) d) o a lone (rows-room room) (symbol-is (number b o) (led .0)) (led .1) (omega arith) sure);
+                  below = λ q. absurd (lt-irrefl lo (omega arith));
                 };
-                here = sure .1;
-                fits = here-fits b (pred (lo + x)) c (r .known) (sure .1) (omega (arith, k .some, k .upto, r .upto, r .within));
+                here = subst (λ (i : ℕ). Here b i a) p (r .here);
+                fits = r .fits;
               }
 
-          pub rows-leaf : x ≡ 1 → (v : Bool) → LeafSays b o lo s (lengthAt b a) v → not v ≡ false → Turn b steps lo₀ n d o₀ o lo a x (o + 10) a
-          rows-leaf one false never h = absurd (false≠true (sym h))
-          rows-leaf one true sure h = rows-stood (To (o + 10) a) (o + 10) a (rw one (leaf-stands b lo s o a (rw one at asked) (k .room) sure)) refl
+        -- ---- several names
+
+        -- several words share less than any name can have
+        shallow : Ahead b (wordsOf b) lo₀ (lo₀ + n) d lo o e → 1 < number b (o + 6) → number b (o + 2) < longest
+        shallow k many =
+            let end : lo + number b (o + 6) ≤ length (wordsOf b) = omega (arith, fit r, k .upto, r .upto) in
+            let hd = node-head b (wordsOf b) (r .known .rises) _ lo (lo + number b (o + 6)) o (o + 10 * number b (o + 8)) (omega (arith, k .some)) end (k .node) in
+            let short : length (nth (wordsOf b) (pred (lo + number b (o + 6)))) ≤ longest = name-short b (pred (lo + number b (o + 6))) (r .known) (omega (arith, end, words-count b)) in
+            omega (arith, hd .depth (omega arith), deep-short (wordsOf b) (r .known .rises) lo (lo + number b (o + 6)) longest (omega arith) end short)
+
+        pub rows-no-fork : (x ≡ 1 → ⊥) → (v : Bool) → ForkSays b o e n d (lo₀ + n - lo) v → not v ≡ true → Refused
+        rows-no-fork more true k h = absurd (false≠true h)
+        rows-no-fork more false never h = says-no (λ g.
+            let k = ahead r g in
+            let many : 1 < number b (o + 6) = omega (arith, k .some) in
+            never (record {
+              several = many;
+              proper = omega (arith, k .proper);
+              upto = k .upto;
+              below = k .below many;
+              shallow = shallow k many;
+              ends = k .ends;
+            }))
+
+        module _ (f : MayBeFork b o e n d (lo₀ + n - lo)) where
+          pub rows-asks : o < e → NodeAsk b o a
+          rows-asks room = record {
+            ask = subst (λ (i : ℕ). Ask b i (number b (o + 6)) a) (sym (led .1)) (rw xe at (asked (omega (arith, f .several)) (omega (arith, f .upto, r .upto))));
+            several = f .several;
+            low = omega (arith, r .low, f .below);
+            room = rows-room room;
+            long = omega (arith, f .ends, r .long);
+          }
+
+          -- c is what the check of the node gave
+          module _ (c : ℕ) (says : NodeSays b o c) where
+            pub rows-node : c ≡ 0 → Refused
+            rows-node z = says-no (λ g.
+                let k = ahead r g in
+                says .no-way z (rw (led .1, k .symbol) (k .node)))
+
+            pub rows-fork : o < e → (c ≡ 0 → ⊥) → (m : ℕ) → m ≡ number b (o + 8) → Turn b lo₀ n d o₀ e o lo a x (o + 10 * m) c
+            rows-fork room nz m me =
+                let s = says .it-does nz in
+                let up : lo + x ≤ lo₀ + n = omega (arith, f .upto, r .upto) in
+                let node : NodeAt b (wordsOf b) lo (lo + number b (o + 6)) (number b o) o (o + 10 * number b (o + 8)) =
+                subst (λ (i : ℕ). NodeAt b (wordsOf b) i (i + number b (o + 6)) (number b o) o (o + 10 * number b (o + 8))) (led .1) (s .0) in
+                let hd = node-head b (wordsOf b) (r .known .rises) (number b o) lo (lo + number b (o + 6)) o (o + 10 * number b (o + 8)) (omega (arith, f .several)) (omega (arith, fit r)) node in
+                let last : Here b (pred (lo + x)) c = subst (λ (i : ℕ). Here b (pred (i + x)) c) (led .1) (rw xe (s .1)) in
+                record {
+                  rows = r;
+                  told = xe;
+                  some = omega (arith, f .several);
+                  proper = omega (arith, f .proper);
+                  upto = up;
+                  child = record {
+                    some = omega (arith, f .several);
+                    node = rw (xe, me) (subst (λ (t : ℕ). NodeAt b (wordsOf b) lo (lo + number b (o + 6)) t o (o + 10 * number b (o + 8))) (symbol-is (number b o) (led .0)) node);
+                    below = λ q. subst (λ (y : ℕ). d < deep (wordsOf b) lo (lo + y)) (sym xe) (omega (arith, hd .depth (omega arith), f .below));
+                  };
+                  here = last;
+                  fits = here-fits b (pred (lo + x)) c (r .known) last (omega (arith, f .several, r .within));
+                }
 
     -- ---- and behind it
 
-    module _ (x m c : ℕ) (p : Turn b steps lo₀ n d o₀ o lo a x m c) where
-      r : Rows b steps lo₀ n d o₀ o lo a
+    module _ (x m c : ℕ) (p : Turn b lo₀ n d o₀ e o lo a x m c) where
+      r : Rows b lo₀ n d o₀ e o lo a
       r = p .rows
 
-      pub rows-done : lo + x ≡ lo₀ + n → RowSays b lo₀ n d o₀ (To m c)
-      rows-done e = (
-        walk-done b (wordsOf b) (r .known .rises) lo₀ (lo₀ + n) d o₀ (two r) (fit r) lo o (r .walk) m (subst (λ (y : ℕ). Child b (wordsOf b) d lo y o m) e (p .child))
-            (omega (arith, p .told, p .like .proper, r .upto)),
-        subst (λ (y : ℕ). Here b (pred y) c) e (p .here),
-      )
+      stood : lo + x ≡ lo₀ + n → GroupAt b (wordsOf b) lo₀ (lo₀ + n) d o₀ m
+      stood q =
+          walk-done b (wordsOf b) (r .known .rises) lo₀ (lo₀ + n) d o₀ (two r) (fit r) lo o (r .walk) m (subst (λ (y : ℕ). Child b (wordsOf b) d lo y o m) q (p .child))
+          (omega (arith, p .proper, r .upto))
+
+      pub rows-apart : lo + x ≡ lo₀ + n → (m ≡ e → ⊥) → Refused
+      rows-apart q h = says-no (λ g. h (group-end b (wordsOf b) lo₀ (lo₀ + n) d o₀ m e (stood q) g))
+
+      -- the last one of several names stands behind the first entry
+      pub rows-done : lo + x ≡ lo₀ + n → m ≡ e → RowSays b o₀ e lo₀ n d c
+      unfolding offsetFrom
+      rows-done q h =
+          let here : Here b (pred (lo₀ + n)) c = subst (λ (y : ℕ). Here b (pred y) c) q (p .here) in
+          says-yes (subst (GroupAt b (wordsOf b) lo₀ (lo₀ + n) d o₀) h (stood q)) here
+          (λ z. lt-irrefl 0 (omega (arith, here-rises b 0 (pred (lo₀ + n)) (omega (arith, r .several)), here)))
 
       module _ (more : lo + x ≡ lo₀ + n → ⊥) where
         fewer : lo + x < lo₀ + n
-        fewer = omega (arith, p .told, p .like .upto, r .upto)
+        fewer = omega (arith, p .upto)
 
         inside : lo + x < length (namesOf b)
         inside = omega (arith, fewer, r .within)
 
         back : suc (pred (lo + x)) ≡ lo + x
-        back = omega (arith, p .told, p .like .some)
+        back = omega (arith, p .some)
 
         -- l is where the entry after the last name's stands
         module _ (l : ℕ) (le : l ≡ entryEnd b c) where
           moved : Here b (lo + x) l
           moved = subst (λ (i : ℕ). Here b i l) back (le ∙ here-next b (pred (lo + x)) c (p .here))
 
-          fits-next : entryEnd b l ≤ length b
-          fits-next = here-fits b (lo + x) l (r .known) moved inside
-
-          pub rows-reads : (l < length b) × (lo + x < length steps)
-          rows-reads = (omega (arith, fits-next), omega (arith, inside, r .told .size))
+          pub rows-meets : MeetAsk b l (lo + x)
+          rows-meets = record { known = r .known; long = omega (arith, r .long); blocks = r .blocks; some = omega (arith, p .some); within = inside; here = moved }
 
           -- u is what the next name shares with the one before
-          module _ (u : ℕ) (ue : u ≡ getD b l 0 + getD steps (lo + x) 0) where
-            met : u ≡ shared (nth (wordsOf b) (pred (lo + x))) (nth (wordsOf b) (lo + x))
-            met =
-                ue ∙ ap (λ (q : ℕ). getD b q 0 + getD steps (lo + x) 0) moved
-                ∙ subst (λ (i : ℕ). getD b (offsetAt b i) 0 + getD steps i 0 ≡ shared (nth (wordsOf b) (pred (lo + x))) (nth (wordsOf b) i)) back
-                (r .told .told (pred (lo + x)) (omega (arith, back, inside)))
-
+          module _ (u : ℕ) (ue : u ≡ shared (nth (wordsOf b) (pred (lo + x))) (nth (wordsOf b) (lo + x))) where
             pub rows-parted : (u ≡ d → ⊥) → Refused
-            rows-parted h e g =
-                h (met ∙ subst (λ (y : ℕ). shared (nth (wordsOf b) (pred (lo + y))) (nth (wordsOf b) (lo + y)) ≡ d) (sym (p .told)) ((next r e g) .edge (omega (arith, p .told, fewer))))
+            rows-parted h = says-no (λ g.
+                h (ue ∙ subst (λ (y : ℕ). shared (nth (wordsOf b) (pred (lo + y))) (nth (wordsOf b) (lo + y)) ≡ d) (sym (p .told)) ((ahead r g) .edge (omega (arith, p .told, fewer)))))
 
-            pub rows-more : u ≡ d → Rows b steps lo₀ n d o₀ m (lo + x) l
+            pub rows-more : u ≡ d → Rows b lo₀ n d o₀ e m (lo + x) l
             rows-more h = record {
               known = r .known;
-              told = r .told;
+              blocks = r .blocks;
               long = r .long;
-              many = r .many;
+              several = r .several;
               within = r .within;
               upto = fewer;
-              walk = walk-more b (wordsOf b) (r .known .rises) lo₀ (lo₀ + n) d o₀ (two r) (fit r) lo o (r .walk) (lo + x) m (p .child) fewer (sym met ∙ h);
+              walk = walk-more b (wordsOf b) (r .known .rises) lo₀ (lo₀ + n) d o₀ (two r) (fit r) lo o (r .walk) (lo + x) m (p .child) fewer (sym ue ∙ h);
               here = moved;
-              low = omega arith;
+              low = low;
               some = inside;
-              fits = fits-next;
+              fits = here-fits b (lo + x) l (r .known) moved inside;
             }
+              where
+                low : getD b l 0 ≤ d
+                low = omega (arith, meet-low b l (lo + x) rows-meets, ue, h)

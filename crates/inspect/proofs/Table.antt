@@ -1,39 +1,36 @@
 -- The whole table: the answer at the root as an equation about bytes.
 --     stream-modest                         names out of bytes are short, and their symbols small
---     table-nothing, table-said, table-unlike, table-not     no names; some
---     table-short, table-asks               no room for a root; what the check of the root asks
---     table-long, table-leaf                one name
+--     table-nothing, table-not              no names; no table stands
+--     table-short, table-symbol, table-first, table-names, table-nodes     the root's record is another
+--     table-leaf, table-asks, table-said    one name; several
 -- Assumes nothing.
-use Prim.Native.Nat.{ℕ, _+_, _-_, _≤_, _<_}
+use Prim.Native.Nat.{ℕ, _+_, _-_, _*_, _≤_, _<_}
 use native.Mathlib.Nat.{lt-irrefl}
 use native.Mathlib.Omega.{arith}
 use mathlib.Core.Path.{_≡_, refl, sym, ap, _∙_, subst}
-use mathlib.Core.Bool.{Bool, true, false}
+use mathlib.Core.Bool.{Bool, true, false, not}
 use mathlib.Core.List.{List, [], _∷_, map}
 use lib.Dec.{eqb}
 use lib.ListN.{length, getD, take, drop, length-append, length-take, length-drop, length-map, take-append-drop}
 use lib.Seq.{slice, slice-empty, length-slice, take-length}
-use borrow.Author.Tests.{eqb-true, eq-eqb}
+use borrow.Author.Tests.{eqb-true, eqb-false, eq-eqb}
 use Rattle.words.specs.Words.{All, Bytes, InBytes, Words, cons, nil, plain, same, span, word}
 use Rattle.words.proofs.Lists.{all-append, all-right}
 use Rattle.words.proofs.Words.{false≠true, plain-lawful, same-refl, same-true}
-use Rattle.format.specs.Book.{allFields, nodePart, numbers}
+use Rattle.format.specs.Book.{allFields, nodePart, number, numbers}
 use Rattle.format.specs.Nodes.{Node, nodeTable, table, tableWithin}
 use Rattle.format.specs.Records.{longest}
 use Rattle.format.proofs.Groups.{table-root}
 use Rattle.format.proofs.Numbers.{bytes-all, take-bytes, word-high}
 use Rattle.format.proofs.Small.{Modest, table-small}
 use Rattle.numbers.proofs.Parts.{Held, held-bytes}
-use Rattle.streams.specs.Streams.{Stream, done, entry, namesOf, offsetFrom, wordsOf}
+use Rattle.streams.specs.Streams.{Here, Stream, done, entry, lengthAt, namesOf, offsetFrom, wordsOf}
+use Rattle.streams.proofs.Here.{first-low, words-count}
 use Rattle.standing.specs.Stands.{NodeAt, Stands}
 use Rattle.standing.proofs.Bytes.{bytes-stand, stands-bytes}
-use Rattle.standing.proofs.Records.{stands-end}
 use Rattle.standing.proofs.Walk.{Head, node-head}
-use Rattle.inspect.specs.declared.Seen.{Seen}
-use Rattle.inspect.specs.declared.Seen.the-variants.{Bad, To}
-use Rattle.inspect.specs.Check.{Ask, Here, LeafSays, NodeAsk, NodeSays, PartAsk, TableAsk, isTable, lengthAt}
-use Rattle.inspect.proofs.Entry.{first-low, words-count}
-use Rattle.inspect.proofs.Nodes.{leaf-split, leaf-stands, leaf-unlike}
+use Rattle.inspect.specs.Check.{Ask, LeafSays, NodeAsk, NodeSays, TableAsk, isTable}
+use Rattle.inspect.proofs.Nodes.{leaf-not, leaf-stands}
 
 -- ---- names out of bytes are modest
 
@@ -68,9 +65,42 @@ said x y false p q = go (same x y) refl
     go false e = sym e
     go true e = absurd (false≠true (q (same-true x y e)))
 
-module _ (b : Bytes) (start end n : ℕ) (held : Held b) (a : PartAsk b start end n) where
+-- ---- what is asked at the root
+
+module _ (b : Bytes) (start end n : ℕ) (a : TableAsk b start end n) (z : n ≡ 0 → ⊥) where
+  table-some : 0 < length (namesOf b)
+  table-some = go (length (namesOf b)) (λ e. z (a .count ∙ e))
+    where
+      go : (m : ℕ) → (m ≡ 0 → ⊥) → 0 < m
+      go m k = omega arith
+
+  here : Here b 0 0
+  unfolding offsetFrom
+  here = refl
+
+  asked : (i k : ℕ) → i ≡ 0 → k ≡ n → Ask b i k 0
+  asked i k ie ke = subst (λ (j : ℕ). Ask b j k 0) (sym ie)
+      (record { known = a .known; blocks = a .blocks; some = omega (arith, table-some, a .count); within = omega (arith, a .count); here = here })
+
+  -- the root is of several names
+  pub table-asks : (n ≡ 1 → ⊥) → 10 ≤ end - start → (f x m : ℕ) → f ≡ number b (start + 4) → f ≡ 0 → x ≡ number b (start + 6) → x ≡ n → m ≡ number b (start + 8)
+      → start + 10 * m ≡ end → NodeAsk b start 0
+  table-asks more room f x m fe fz xe xn me ends = record {
+    ask = asked (number b (start + 4)) (number b (start + 6)) (sym fe ∙ fz) (sym xe ∙ xn);
+    several = omega (arith, table-some, a .count);
+    low = omega (arith, first-low b (a .known) table-some);
+    room = omega (arith, a .long, a .order);
+    long = omega (arith, a .long);
+  }
+
+-- ---- the equation at the root
+
+module _ (b : Bytes) (start end n : ℕ) (held : Held b) (a : TableAsk b start end n) where
   bytes : InBytes b
   bytes = held-bytes b held
+
+  within : end ≤ length b
+  within = omega (arith, a .long)
 
   small : All (λ n. n < 65536) (allFields (table (wordsOf b)))
   unfolding wordsOf
@@ -80,80 +110,80 @@ module _ (b : Bytes) (start end n : ℕ) (held : Held b) (a : PartAsk b start en
   root-is =
       ap (nodeTable 0 0) (let k : 0 + n ≡ length (wordsOf b) = omega (arith, a .count, words-count b) in ap (λ (j : ℕ). take j (wordsOf b)) k ∙ take-length (wordsOf b)) ∙ sym (table-root (wordsOf b))
 
-  stands : (e : ℕ) → NodeAt b (wordsOf b) 0 (0 + n) 0 start e → Stands b start (table (wordsOf b)) e
-  stands e g = subst (λ (rs : List Node). Stands b start rs e) root-is (g .stands)
-
   node-of : nodePart (table (wordsOf b)) ≡ slice start end b → NodeAt b (wordsOf b) 0 (0 + n) 0 start end
-  node-of q = record { stands = subst (λ (rs : List Node). Stands b start rs end) (sym root-is) (bytes-stand b bytes (table (wordsOf b)) start end (a .order) (a .within) small (sym q)) }
+  node-of q = record { stands = subst (λ (rs : List Node). Stands b start rs end) (sym root-is) (bytes-stand b bytes (table (wordsOf b)) start end (a .order) within small (sym q)) }
 
   pub table-not : (NodeAt b (wordsOf b) 0 (0 + n) 0 start end → ⊥) → false ≡ isTable b start end
   unfolding isTable
   table-not h = said _ _ false (λ e. absurd (false≠true e)) (λ e. absurd (h (node-of e)))
 
-  pub table-unlike : (v : Seen) → NodeSays b 0 n 0 start v → v ≡ Bad → false ≡ isTable b start end
-  table-unlike v says is = table-not ((subst (NodeSays b 0 n 0 start) is says) end)
-
-  pub table-said : (v : Seen) (e c : ℕ) → NodeSays b 0 n 0 start v → v ≡ To e c → eqb e end ≡ isTable b start end
+  table-is : NodeAt b (wordsOf b) 0 (0 + n) 0 start end → true ≡ isTable b start end
   unfolding isTable
-  table-said v e c says is =
-      let g : NodeAt b (wordsOf b) 0 (0 + n) 0 start e = (subst (NodeSays b 0 n 0 start) is says) .0 in
-      said _ _ (eqb e end)
-      (λ t. sym (stands-bytes b bytes (table (wordsOf b)) start end (omega (arith, a .order, a .within)) (subst (Stands b start (table (wordsOf b))) (eqb-true e end t) (stands e g))))
-      (λ q. eq-eqb e end (stands-end b (table (wordsOf b)) start e (stands e g) ∙ sym (stands-end b (table (wordsOf b)) start end (stands end (node-of q)))))
+  table-is g =
+      said _ _ true (λ t. sym (stands-bytes b bytes (table (wordsOf b)) start end (omega (arith, a .order, within))
+      (subst (λ (rs : List Node). Stands b start rs end) root-is (g .stands)))) (λ q. refl)
 
   pub table-nothing : n ≡ 0 → eqb start end ≡ isTable b start end
   unfolding isTable
   table-nothing z = said _ _ (eqb start end)
       (λ t. none ∙ sym (subst (λ (x : ℕ). slice x end b ≡ []) (sym (eqb-true start end t)) (slice-empty end b)))
-      (λ q. eq-eqb start end (omega (arith, ap length (sym none ∙ q), length-slice start end b (a .within), a .order)))
+      (λ q. eq-eqb start end (omega (arith, ap length (sym none ∙ q), length-slice start end b within, a .order)))
     where
       none : nodePart (table (wordsOf b)) ≡ []
       none = ap (λ (vs : Words). nodePart (table vs)) (nil-of (wordsOf b) (omega (arith, words-count b, a .count))) ∙ no-nodes
 
--- ---- ways out of `check_table`
+  -- ---- some names
 
-module _ (b steps : Bytes) (start end n : ℕ) (t : TableAsk b steps start end n) (z : n ≡ 0 → ⊥) where
-  some : 0 < length (namesOf b)
-  some = go (length (namesOf b)) (λ e. z (t .asked .count ∙ e))
-    where
-      go : (m : ℕ) → (m ≡ 0 → ⊥) → 0 < m
-      go m k = omega arith
+  module _ (z : n ≡ 0 → ⊥) where
+    some : 0 < length (namesOf b)
+    some = table-some b start end n a z
 
-  here : Here b 0 0
-  unfolding offsetFrom
-  here = refl
+    head : NodeAt b (wordsOf b) 0 (0 + n) 0 start end → Head b (wordsOf b) 0 0 (0 + n) start end
+    head g = node-head b (wordsOf b) (a .known .rises) 0 0 (0 + n) start end (omega (arith, some, a .count)) (omega (arith, words-count b, a .count)) g
 
-  module _ (room : 10 ≤ end - start) where
-    asked : Ask b 0 n 0
-    asked = record { known = t .asked .known; some = omega (arith, some, t .asked .count); within = omega (arith, t .asked .count); here = here }
+    pub table-short : end - start < 10 → false ≡ isTable b start end
+    table-short h = table-not (λ g. lt-irrefl end (omega (arith, (head g) .past, a .order)))
 
-    fits : start + 10 ≤ length b
-    fits = omega (arith, t .asked .within, t .asked .order)
+    -- x is what the root's record tells there
+    module _ (x : ℕ) where
+      pub table-symbol : x ≡ number b start → (x ≡ 0 → ⊥) → false ≡ isTable b start end
+      table-symbol e h = table-not (λ g. h (e ∙ (head g) .symbol))
 
-    pub table-asks : (n ≡ 1 → ⊥) → NodeAsk b steps start 0 n 0
-    table-asks more = record { ask = asked; told = t .told; many = omega (arith, asked .some); room = fits; low = omega (arith, first-low b (t .asked .known) some) }
+      pub table-first : x ≡ number b (start + 4) → (x ≡ 0 → ⊥) → false ≡ isTable b start end
+      table-first e h = table-not (λ g. h (e ∙ (head g) .first))
 
-  pub table-short : Held b → end - start < 10 → false ≡ isTable b start end
-  table-short held h = table-not b start end n held (t .asked) (λ g. lt-irrefl end (omega (arith, (head g) .past, t .asked .order)))
-    where
-      head : NodeAt b (wordsOf b) 0 (0 + n) 0 start end → Head b (wordsOf b) 0 (0 + n) start end
-      head g = node-head b (wordsOf b) (t .asked .known .rises) 0 0 (0 + n) start end (omega (arith, some, t .asked .count)) (omega (arith, words-count b, t .asked .count)) g
+      pub table-names : x ≡ number b (start + 6) → (x ≡ n → ⊥) → false ≡ isTable b start end
+      table-names e h = table-not (λ g. h (omega (arith, (head g) .names)))
 
-  -- one name
-  module _ (held : Held b) (one : n ≡ 1) where
-    lone : Ask b 0 1 0
-    lone = record { known = t .asked .known; some = omega arith; within = omega (arith, some); here = here }
+      pub table-nodes : x ≡ number b (start + 8) → (start + 10 * x ≡ end → ⊥) → false ≡ isTable b start end
+      table-nodes e h = table-not (λ g. h (omega (arith, (head g) .nodes)))
 
-    root-leaf : NodeAt b (wordsOf b) 0 (0 + n) 0 start end → NodeAt b (wordsOf b) 0 (0 + 1) 0 start end
-    root-leaf g = subst (λ (k : ℕ). NodeAt b (wordsOf b) 0 (0 + k) 0 start end) one g
+    -- all four are as they should be
+    module _ (s f x m : ℕ) (se : s ≡ number b start) (sz : s ≡ 0) (fe : f ≡ number b (start + 4)) (fz : f ≡ 0) (xe : x ≡ number b (start + 6)) (xn : x ≡ n)
+        (me : m ≡ number b (start + 8)) (ends : start + 10 * m ≡ end) where
+      -- one name
+      pub table-leaf : n ≡ 1 → 10 ≤ end - start → (v : Bool) → LeafSays b start (lengthAt b 0) v → v ≡ isTable b start end
+      table-leaf one room v says = go v says
+        where
+          one-name : (e : ℕ) → NodeAt b (wordsOf b) 0 (0 + n) 0 start e → NodeAt b (wordsOf b) 0 (0 + 1) 0 start e
+          one-name e g = subst (λ (k : ℕ). NodeAt b (wordsOf b) 0 (0 + k) 0 start e) one g
 
-    pub table-long : (end - start ≡ 10 → ⊥) → false ≡ isTable b start end
-    table-long h = table-not b start end n held (t .asked) (λ g. h (omega (arith, (leaf-split b 0 0 start 0 lone end (root-leaf g)) .end)))
+          go : (t : Bool) → LeafSays b start (lengthAt b 0) t → t ≡ isTable b start end
+          go false never = table-not (λ g. leaf-not b 0 0 start 0 (asked b start end n a z 0 1 refl (sym one)) never end (one-name end g))
+          go true sure =
+              let e : start + 10 ≡ end = omega (arith, sure .1) in
+              table-is (subst (λ (k : ℕ). NodeAt b (wordsOf b) 0 (0 + k) 0 start end) (sym one)
+              (subst (NodeAt b (wordsOf b) 0 (0 + 1) 0 start) e
+              (leaf-stands b 0 0 start 0 (asked b start end n a z 0 1 refl (sym one)) (omega (arith, a .long, a .order)) (sym se ∙ sz) (sym fe ∙ fz) (sym xe ∙ xn ∙ one) sure)))
 
-    pub table-leaf : end - start ≡ 10 → (v : Bool) → LeafSays b start 0 0 (lengthAt b 0) v → v ≡ isTable b start end
-    table-leaf k false never = table-not b start end n held (t .asked) (λ g. leaf-unlike b 0 0 start 0 lone never end (root-leaf g))
-    table-leaf k true sure =
-        let e : start + 10 ≡ end = omega arith in
-        sym (eq-eqb (start + 10) end e)
-        ∙ table-said b start end n held (t .asked) (To (start + 10) 0) (start + 10) 0
-        (subst (λ (m : ℕ). NodeSays b 0 m 0 start (To (start + 10) 0)) (sym one) (leaf-stands b 0 0 start 0 lone (omega (arith, t .asked .within)) sure)) refl
+      -- several names
+      root : NodeAt b (wordsOf b) 0 (0 + n) 0 start end
+          ≡ NodeAt b (wordsOf b) (number b (start + 4)) (number b (start + 4) + number b (start + 6)) (number b start) start (start + 10 * number b (start + 8))
+      root = rw (sym fe ∙ fz, sym xe ∙ xn, sym se ∙ sz, ← me, ends) refl
+
+      pub table-said : (r : ℕ) → NodeSays b start r → not (eqb r 0) ≡ isTable b start end
+      table-said r says = go (eqb r 0) refl
+        where
+          go : (t : Bool) → eqb r 0 ≡ t → not t ≡ isTable b start end
+          go true q = table-not (λ g. says .no-way (eqb-true r 0 q) (subst (λ (T : Type 0). T) root g))
+          go false q = table-is (subst (λ (T : Type 0). T) (sym root) (says .it-does (eqb-false r 0 q) .0))

@@ -1,107 +1,105 @@
--- What the check of a node table asks and says. It goes by the entries and the row of steps, and holds no name.
---     restAt, lengthAt             what the entry at an offset adds to the name before it; its name's length
---     Here                         the entry of name i stands at a
---     leafOf, LeafSays             the record of one name; whether it stands at an offset
---     MayBeChild, ChildSays        what is asked of a child's record before its node is looked at; whether it holds of the one at an offset
+-- What the check of a node table asks and says. It goes by the entries, and holds no name.
+--     LedTo, LedSays               a symbol led to a record, which tells its first name; whether it is so
+--     LeafAt, LeafSays             a record of one name has a leaf's depth and number of nodes; whether it has
+--     MayBeFork, ForkSays          what is asked of a record of several names before its row is looked at; whether it holds
 --     Ask                          what is asked of the n names from number lo on
 --     NodeAsk, RowAsk              that, of a node of several names, and of a row
---     NodeSays, RowSays            the table of those names stands from o to e, and the last one's entry at a; or it stands to no e
---     PartAsk, TableAsk              n names, and a part of the bytes; with the row of steps
+--     Says, NodeSays, RowSays      the node, or the row, stands, and where the entry of its last name is; or, with 0, it doesn't stand
+--     TableAsk                     n names, and a part of the bytes
 --     isTable                      that part is the node table of the names
 -- The laws are in proofs/. Assumes nothing: these are definitions.
-use Prim.Native.Nat.{ℕ, pred, suc, _+_, _≤_, _<_}
+use Prim.Native.Nat.{ℕ, pred, suc, _+_, _-_, _*_, _≤_, _<_}
 use mathlib.Core.Path.{_≡_}
 use mathlib.Core.Bool.{Bool, false, true}
-use lib.ListN.{drop, getD, length, take}
+use lib.ListN.{getD, length}
 use lib.Seq.{slice}
-use Rattle.words.specs.Words.{Bytes, same}
-use Rattle.format.specs.Book.{nodePart, nodeSize, number}
-use Rattle.format.specs.Nodes.{Node, table}
+use Rattle.words.specs.Words.{Bytes, at, plain, same, word}
+use Rattle.format.specs.Book.{nodePart, nodeSize, number, trailerSize}
+use Rattle.format.specs.Nodes.{table}
 use Rattle.format.specs.Records.{longest}
-use Rattle.streams.specs.Streams.{Known, Steps, namesOf, offsetAt, wordsOf}
-use Rattle.standing.specs.Stands.{GroupAt, NodeAt, recordAt}
-use Rattle.inspect.specs.declared.Seen.{Seen}
-use Rattle.inspect.specs.declared.Seen.the-variants.{Bad, To}
+use Rattle.streams.specs.Streams.{Here, InBlocks, Known, namesOf, restAt, wordsOf}
+use Rattle.standing.specs.Stands.{GroupAt, NodeAt}
 
-abbrev pub restAt : Bytes → ℕ → Bytes
-restAt b a = take (getD b (a + 1) 0) (drop (a + 2) b)
+-- ---- a record
 
-abbrev pub Here : Bytes → ℕ → ℕ → Type 0
-Here b i a = a ≡ offsetAt b i
+-- symbol number d of the name of the entry at a, which shares no more than d bytes, led to the record at o, whose first name is number i
+abbrev pub LedTo : Bytes → ℕ → ℕ → ℕ → ℕ → Type 0
+LedTo b o i d a = (number b o ≡ at (word plain (restAt b a)) (d - getD b a 0)) × (number b (o + 4) ≡ i)
 
--- the length of the name of the entry at a
-abbrev pub lengthAt : Bytes → ℕ → ℕ
-lengthAt b a = getD b a 0 + getD b (a + 1) 0
+abbrev pub LedSays : Bytes → ℕ → ℕ → ℕ → ℕ → Bool → Type 0
+LedSays b o i d a true = LedTo b o i d a
+LedSays b o i d a false = LedTo b o i d a → ⊥
 
--- ---- a leaf
+-- a leaf's depth, of a name of len bytes, and its number of nodes
+abbrev pub LeafAt : Bytes → ℕ → ℕ → Type 0
+LeafAt b o len = (number b (o + 2) ≡ suc len) × (number b (o + 8) ≡ 1)
 
-abbrev pub leafOf : ℕ → ℕ → ℕ → Node
-leafOf lo s len = record { symbol = s; depth = suc len; first = lo; names = 1; nodes = 1 }
+abbrev pub LeafSays : Bytes → ℕ → ℕ → Bool → Type 0
+LeafSays b o len true = LeafAt b o len
+LeafSays b o len false = LeafAt b o len → ⊥
 
--- the record at o is the leaf's of name number lo, of len bytes, to which s led
-abbrev pub LeafSays : Bytes → ℕ → ℕ → ℕ → ℕ → Bool → Type 0
-LeafSays b o lo s len true = recordAt b o ≡ leafOf lo s len
-LeafSays b o lo s len false = recordAt b o ≡ leafOf lo s len → ⊥
-
--- ---- nodes and rows
-
--- the record at o fits, and has some of the `left` names that are left of a row of n, not all n; if several, a depth greater than the row's
--- and less than any name's length can be
-pub record MayBeChild (b : Bytes) (o n d left : ℕ) : Type 0 where
-  pub room : o + nodeSize ≤ length b
-  pub some : 1 ≤ number b (o + 6)
+-- the record at o has several of the `left` names that are left of a row of n, not all n, a depth greater than the row's and less than
+-- any name's length can be, and nodes that end by e
+pub record MayBeFork (b : Bytes) (o e n d left : ℕ) : Type 0 where
+  pub several : 2 ≤ number b (o + 6)
   pub proper : number b (o + 6) < n
   pub upto : number b (o + 6) ≤ left
-  pub below : 1 < number b (o + 6) → d < number b (o + 2)
-  pub shallow : 1 < number b (o + 6) → number b (o + 2) < longest
+  pub below : d < number b (o + 2)
+  pub shallow : number b (o + 2) < longest
+  pub ends : o + nodeSize * number b (o + 8) ≤ e
 
-abbrev pub ChildSays : Bytes → ℕ → ℕ → ℕ → ℕ → Bool → Type 0
-ChildSays b o n d left true = MayBeChild b o n d left
-ChildSays b o n d left false = MayBeChild b o n d left → ⊥
+abbrev pub ForkSays : Bytes → ℕ → ℕ → ℕ → ℕ → ℕ → Bool → Type 0
+ForkSays b o e n d left true = MayBeFork b o e n d left
+ForkSays b o e n d left false = MayBeFork b o e n d left → ⊥
+
+-- ---- nodes and rows
 
 -- the n names from number lo on, one at least, are known, and the first one's entry stands at a
 pub record Ask (b : Bytes) (lo n a : ℕ) : Type 0 where
   pub known : Known b
+  pub blocks : InBlocks b (number b (length b - trailerSize + 2)) (number b (length b - trailerSize + 4))
   pub some : 1 ≤ n
   pub within : lo + n ≤ length (namesOf b)
   pub here : Here b lo a
 
--- of several names; the first entry's count is no greater than the depth that the node's record tells
-pub record NodeAsk (b steps : Bytes) (o lo n a : ℕ) : Type 0 where
-  pub ask : Ask b lo n a
-  pub told : Steps b steps
-  pub many : 2 ≤ n
-  pub room : o + nodeSize ≤ length b
+-- the record at o is of several names; the first entry's count is no greater than the depth that it tells
+pub record NodeAsk (b : Bytes) (o a : ℕ) : Type 0 where
+  pub ask : Ask b (number b (o + 4)) (number b (o + 6)) a
+  pub several : 2 ≤ number b (o + 6)
   pub low : getD b a 0 ≤ number b (o + 2)
+  pub room : o + nodeSize ≤ length b
+  pub long : o + nodeSize * number b (o + 8) + trailerSize ≤ length b
 
-pub record RowAsk (b steps : Bytes) (lo n d a : ℕ) : Type 0 where
+-- the row ends at e, which is before the trailer
+pub record RowAsk (b : Bytes) (e lo n d a : ℕ) : Type 0 where
   pub ask : Ask b lo n a
-  pub told : Steps b steps
-  pub many : 2 ≤ n
+  pub several : 2 ≤ n
   pub low : getD b a 0 ≤ d
-  pub long : nodeSize ≤ length b
+  pub long : e + trailerSize ≤ length b
 
--- s led to the node
-abbrev pub NodeSays : Bytes → ℕ → ℕ → ℕ → ℕ → Seen → Type 0
-NodeSays b lo n s o (To e a) = NodeAt b (wordsOf b) lo (lo + n) s o e × Here b (pred (lo + n)) a
-NodeSays b lo n s o Bad = (e : ℕ) → NodeAt b (wordsOf b) lo (lo + n) s o e → ⊥
+-- something stands, and the entry of name i at r; or r is 0, and it doesn't
+pub record Says (Stands : Type 0) (b : Bytes) (i r : ℕ) : Type 0 where
+  pub no-way : r ≡ 0 → Stands → ⊥
+  pub it-does : (r ≡ 0 → ⊥) → Stands × Here b i r
 
--- the row's node has depth d
-abbrev pub RowSays : Bytes → ℕ → ℕ → ℕ → ℕ → Seen → Type 0
-RowSays b lo n d o (To e a) = GroupAt b (wordsOf b) lo (lo + n) d o e × Here b (pred (lo + n)) a
-RowSays b lo n d o Bad = (e : ℕ) → GroupAt b (wordsOf b) lo (lo + n) d o e → ⊥
+-- as far as the record says: its first name, its number of names, its symbol, its number of nodes
+abbrev pub NodeSays : Bytes → ℕ → ℕ → Type 0
+NodeSays b o r =
+    Says (NodeAt b (wordsOf b) (number b (o + 4)) (number b (o + 4) + number b (o + 6)) (number b o) o (o + nodeSize * number b (o + 8)))
+    b (pred (number b (o + 4) + number b (o + 6))) r
+
+-- from o to e, of a node of depth d
+abbrev pub RowSays : Bytes → ℕ → ℕ → ℕ → ℕ → ℕ → ℕ → Type 0
+RowSays b o e lo n d r = Says (GroupAt b (wordsOf b) lo (lo + n) d o e) b (pred (lo + n)) r
 
 -- ---- the whole table
 
-pub record PartAsk (b : Bytes) (start end n : ℕ) : Type 0 where
+pub record TableAsk (b : Bytes) (start end n : ℕ) : Type 0 where
   pub known : Known b
+  pub blocks : InBlocks b (number b (length b - trailerSize + 2)) (number b (length b - trailerSize + 4))
   pub count : n ≡ length (namesOf b)
   pub order : start ≤ end
-  pub within : end ≤ length b
-
-pub record TableAsk (b steps : Bytes) (start end n : ℕ) : Type 0 where
-  pub asked : PartAsk b start end n
-  pub told : Steps b steps
+  pub long : end + trailerSize ≤ length b
 
 -- the names are those that the entries are read as
 unfoldable pub isTable : Bytes → ℕ → ℕ → Bool

@@ -24,10 +24,13 @@ use Rattle.standing.specs.Stands.{Child, GroupAt, NodeAt, RowAt}
 use Rattle.standing.proofs.Records.{stands-end}
 use Rattle.standing.proofs.Children as child
 
--- what a node's record says of its words; the node ends at e
-pub record Head (b : Bytes) (ws : Words) (lo hi o e : ℕ) : Type 0 where
+-- what a node's record says of its words; s led to it, and it ends at e
+pub record Head (b : Bytes) (ws : Words) (s lo hi o e : ℕ) : Type 0 where
   pub room : o + 10 ≤ length b
   pub past : o + 10 ≤ e
+  pub symbol : number b o ≡ s
+  pub first : number b (o + 4) ≡ lo
+  pub nodes : o + 10 * number b (o + 8) ≡ e
   pub names : number b (o + 6) ≡ hi - lo
   pub depth : suc lo < hi → number b (o + 2) ≡ deep ws lo hi
 
@@ -39,14 +42,17 @@ pub record Walk (b : Bytes) (ws : Words) (lo₀ hi d o₀ lo o : ℕ) : Type 0 w
   pub forth : (e : ℕ) → GroupAt b ws lo₀ hi d o₀ e → RowAt b ws lo hi d o e
   pub back : (e : ℕ) → RowAt b ws lo hi d o e → RowAt b ws lo₀ hi d o₀ e
 
--- what stands at o, if the group's row stands
-pub record Ahead (b : Bytes) (ws : Words) (lo₀ hi d lo o : ℕ) : Type 0 where
+-- what stands at o, if the group's row stands up to e
+pub record Ahead (b : Bytes) (ws : Words) (lo₀ hi d lo o e : ℕ) : Type 0 where
   pub room : o + 10 ≤ length b
+  pub past : o + 10 ≤ e
+  pub symbol : number b o ≡ at (nth ws lo) d
+  pub first : number b (o + 4) ≡ lo
   pub some : 0 < number b (o + 6)
   pub upto : number b (o + 6) ≤ hi - lo
   pub proper : number b (o + 6) < hi - lo₀
-  pub end : ℕ
-  pub node : NodeAt b ws lo (lo + number b (o + 6)) (at (nth ws lo) d) o end
+  pub ends : o + 10 * number b (o + 8) ≤ e
+  pub node : NodeAt b ws lo (lo + number b (o + 6)) (at (nth ws lo) d) o (o + 10 * number b (o + 8))
   pub below : 1 < number b (o + 6) → d < number b (o + 2)
   pub edge : lo + number b (o + 6) < hi → shared (nth ws (pred (lo + number b (o + 6)))) (nth ws (lo + number b (o + 6))) ≡ d
 
@@ -59,17 +65,34 @@ unfolding deep
 deep-short ws r lo hi n a l h = omega (arith, less-short (nth ws lo) (nth ws (pred hi)) (nth-less ws lo (pred hi) r (omega arith) (omega arith)))
 
 module _ (b : Bytes) (ws : Words) (r : Rises ws) where
-  pub node-head : (s lo hi o e : ℕ) → lo < hi → hi ≤ length ws → NodeAt b ws lo hi s o e → Head b ws lo hi o e
+  pub node-head : (s lo hi o e : ℕ) → lo < hi → hi ≤ length ws → NodeAt b ws lo hi s o e → Head b ws s lo hi o e
   node-head s lo hi o e a l n = go (eq-or-lt-of-le a)
     where
-      go : (suc lo ≡ hi) ⊎ (suc lo < hi) → Head b ws lo hi o e
+      go : (suc lo ≡ hi) ⊎ (suc lo < hi) → Head b ws s lo hi o e
       go (inl k) =
           let f = child.node-leaf ws r b s lo o e (omega arith) (subst (λ (x : ℕ). NodeAt b ws lo x s o e) (sym k) n) in
           let m : number b (o + 6) ≡ 1 = ap (λ (x : Node). x .names) (f .told) in
-          record { room = f .room; past = omega (arith, f .end); names = omega arith; depth = λ q. absurd (lt-irrefl hi (omega arith)) }
+          let n : number b (o + 8) ≡ 1 = ap (λ (x : Node). x .nodes) (f .told) in
+          record {
+            room = f .room;
+            past = omega (arith, f .end);
+            symbol = ap (λ (x : Node). x .symbol) (f .told);
+            first = ap (λ (x : Node). x .first) (f .told);
+            nodes = omega (arith, f .end);
+            names = omega arith;
+            depth = λ q. absurd (lt-irrefl hi (omega arith));
+          }
       go (inr k) =
           let f = child.node-split ws r b s lo hi o e k l n in
-          record { room = f .room; past = omega (arith, stands-end b (rowTable lo (number b (o + 2)) (span ws lo hi)) (o + 10) e (f .group .stands)); names = f .names; depth = λ q. f .group .share }
+          record {
+            room = f .room;
+            past = omega (arith, stands-end b (rowTable lo (number b (o + 2)) (span ws lo hi)) (o + 10) e (f .group .stands));
+            symbol = f .symbol;
+            first = f .first;
+            nodes = f .nodes;
+            names = f .names;
+            depth = λ q. f .group .share;
+          }
 
   module _ (lo₀ hi d o₀ : ℕ) (two : suc lo₀ < hi) (l : hi ≤ length ws) where
     pub walk-start : Walk b ws lo₀ hi d o₀ lo₀ o₀
@@ -91,7 +114,7 @@ module _ (b : Bytes) (ws : Words) (r : Rises ws) where
       mid-is : (e mid m : ℕ) (c : Child b ws d lo mid o m) → mid ≤ hi → mid ≡ lo + number b (o + 6)
       mid-is e mid m c u = omega (arith, (node-head _ lo mid o m (c .some) (omega arith) (c .node)) .names, c .some)
 
-      pub walk-next : (e : ℕ) → GroupAt b ws lo₀ hi d o₀ e → Ahead b ws lo₀ hi d lo o
+      pub walk-next : (e : ℕ) → GroupAt b ws lo₀ hi d o₀ e → Ahead b ws lo₀ hi d lo o e
       walk-next e g =
           let f = first e g in
           let c = f .child in
@@ -99,15 +122,22 @@ module _ (b : Bytes) (ws : Words) (r : Rises ws) where
           let k : f .mid ≡ lo + number b (o + 6) = mid-is e (f .mid) (f .end) c (f .upto) in
           record {
             room = h .room;
+            past = omega (arith, h .past, behind (f .others));
+            symbol = h .symbol;
+            first = h .first;
+            ends = omega (arith, h .nodes, behind (f .others));
             some = omega (arith, c .some);
             upto = omega (arith, f .upto);
             proper = proper f k;
-            end = f .end;
-            node = subst (λ (x : ℕ). NodeAt b ws lo x (at (nth ws lo) d) o (f .end)) k (c .node);
+            node = subst (λ (x : ℕ). NodeAt b ws lo x (at (nth ws lo) d) o (o + 10 * number b (o + 8))) k (subst (NodeAt b ws lo (f .mid) (at (nth ws lo) d) o) (sym (h .nodes)) (c .node));
             below = λ q. omega (arith, c .below (omega arith), h .depth (omega arith));
             edge = λ q. subst (λ (x : ℕ). shared (nth ws (pred x)) (nth ws x) ≡ d) k (meet (f .others) (omega arith));
           }
         where
+          behind : {mid m : ℕ} → child.Others ws r b d mid hi m e → m ≤ e
+          behind (child.ended p q) = omega arith
+          behind {mid} {m} (child.going p q t) = omega (arith, stands-end b (rowTable mid d (span ws mid hi)) m e (t .stands))
+
           meet : {mid m : ℕ} → child.Others ws r b d mid hi m e → mid < hi → shared (nth ws (pred mid)) (nth ws mid) ≡ d
           meet (child.ended p q) h = absurd (lt-irrefl hi (omega arith))
           meet (child.going p q t) h = q

@@ -5,4 +5,6 @@ pub mod Fronts
 pub mod Blocks
 pub mod Places
 pub mod Walks
+pub mod Here
+pub mod InBlocks
 pub mod Rereading

@@ -3,12 +3,12 @@
 --     run-first, -more, -none, none-run    the names of a run, one by one
 --     Blocked, blocked-..        what a whole block asks, the rest of it asks, and the other way round
 --     below-..                   the order of two names, from how many symbols they share
---     first-name, block-fits     the first name of a block
+--     first-name                 the first name of a block
 --     end-last, end-next         where a block ends
 --     HasFirst, has-first, has-join    names in blocks are a block, and then names in blocks; the other way round
 --     same-last                  a block has one last name
---     Seen, Walked, walked-..    what the whole asks, the blocks left ask, and the other way round; and the steps so far
---     has-entries, has-length, has-sound, has-names, has-known, has-steps    what the walk's yes says of the book
+--     Walked, walked-..          what the whole asks, the blocks left ask, and the other way round
+--     has-entries, has-length, has-sound, has-names, has-known    what the walk's yes says of the book
 -- Assumes nothing.
 use Prim.Native.Nat.{ℕ, zero, suc, _+_, _-_, _≤_, _<_, min}
 use native.Mathlib.Nat.{not-suc-le-zero, le-of-suc-le-suc}
@@ -18,19 +18,18 @@ use mathlib.Core.Path.{_≡_, refl, sym, ap, ap₂, _∙_, subst}
 use mathlib.Core.Bool.{true, false}
 use mathlib.Core.List.{List, [], _∷_, _++_}
 use lib.Dec.{ltb}
-use lib.ListN.{length, getD, take, drop, set, length-take, length-drop, length-append, length-map, length-set}
-use lib.Seq.{take-at, drop-at, take-nil, take-all, drop-drop, getD-drop, length-take-le}
+use lib.ListN.{length, getD, take, drop, length-take, length-drop, length-append, length-map}
+use lib.Seq.{take-at, drop-at, take-nil}
 use borrow.Author.Tests.{le-leb, lt-leb, lt-ltb, le-ltb}
 use Rattle.words.specs.Words.{Bytes, InBytes, at, less, plain, shared, word}
 use Rattle.words.proofs.Words.{at-past, less-by, word-at}
 use Rattle.format.specs.Book.{entryPart, longestBook, number, trailerSize}
 use Rattle.format.specs.Entries.{front}
 use Rattle.format.specs.Records.{longest, mostNames, sound}
-use Rattle.streams.specs.Runs.{Frame, Has, Rest, Run, RunTo, Step, Told, done, endOf, lastOf, more}
-use Rattle.streams.specs.Streams.{EntryAt, Known, Steps, entryEnd, nameAt, namesOf, offsetAt, offsetFrom, prevOf}
+use Rattle.streams.specs.Runs.{Frame, Has, Rest, Run, RunTo, Step, done, endOf, lastOf, more}
+use Rattle.streams.specs.Streams.{EntryAt, Known, entryEnd, nameAt, namesOf}
 use Rattle.streams.proofs.Blocks.{FirstBlock, none-rest, rest-first, rest-join, rest-none}
 use Rattle.streams.proofs.Fronts.{both-are, run-unique}
-use Rattle.streams.proofs.Places.{block-end, prev-last, told-block, told-start, told-steps}
 use Rattle.streams.proofs.Streams.{known, names-are}
 
 -- ---- one entry
@@ -158,9 +157,6 @@ module _ (a c : Bytes) (i : ℕ) (e : i ≡ shared (word plain a) (word plain c)
 
 -- ---- a block and the name before it
 
-pub block-fits : (b : Bytes) (e o m : ℕ) (l : Bytes) → 0 < m → RunTo b e o [] m l → entryEnd b o ≤ e
-block-fits b e o m l h k = run-first b e o [] m l h k .0 .fits
-
 pub first-name : (b : Bytes) (o n : ℕ) → n ≡ getD b (o + 1) 0 → nameAt b o [] ≡ take (o + 2 + n - (o + 2)) (drop (o + 2) b)
 first-name b o n e =
     let z : getD b (o + 1) 0 ≡ o + 2 + n - (o + 2) = omega arith in
@@ -283,88 +279,22 @@ same-last b e o m l j h g = sym (h .last) ∙ ap (lastOf []) (run-unique b e o [
 
 -- ---- the loop over the blocks
 
--- of the names xs, i are passed: the last of them is prev, and the row of steps is right for them
-pub record Seen (b : Bytes) (k s u t o : ℕ) (prev steps : Bytes) (xs : List Bytes) (i : ℕ) : Type 0 where
-  pub rest : Rest b k s u t o prev (drop i xs)
-  pub before : prevOf xs i ≡ prev
-  pub here : offsetAt b i ≡ o
-  pub told : Told b steps xs i
-
-pub record Walked (b : Bytes) (k s u n t o : ℕ) (prev : Bytes) (i left : ℕ) (steps : Bytes) : Type 0 where
+-- what the whole asks, the blocks left ask, and the other way round
+pub record Walked (b : Bytes) (k s u n t o : ℕ) (prev : Bytes) (left : ℕ) : Type 0 where
   pub ask : Frame b k s u
   pub bytes : InBytes b
   pub entries-in : o ≤ s
   pub table-in : t ≤ u
-  pub counted : i + left ≡ n
-  pub row : n ≤ length steps
-  pub seen : (xs : List Bytes) → length xs ≡ n → Rest b k s u s 0 [] xs → Seen b k s u t o prev steps xs i
+  pub forth : Has b k s u n s 0 [] → Has b k s u left t o prev
   pub back : Has b k s u left t o prev → Has b k s u n s 0 []
 
-take-least : (k left : ℕ) (ys : List Bytes) → length ys ≡ left → take k ys ≡ take (min left k) ys
-take-least k left ys e = elim (decLe left k) [
-  | yes h ↦ take-all k ys (omega arith) ∙ sym (take-all (min left k) ys (omega arith))
-  | no n ↦ let z : k ≡ min left k = omega arith in ap (λ (x : ℕ). take x ys) z
-]
-
-drop-all : (k : ℕ) (ys : List Bytes) → length ys ≤ k → drop k ys ≡ []
-drop-all zero [] h = refl
-drop-all (suc k) [] h = refl
-drop-all zero (y ∷ ys) h = absurd (not-suc-le-zero h)
-drop-all (suc k) (y ∷ ys) h = drop-all k ys (le-of-suc-le-suc h)
-
-drop-least : (k left : ℕ) (ys : List Bytes) → length ys ≡ left → drop k ys ≡ drop (min left k) ys
-drop-least k left ys e = elim (decLe left k) [
-  | yes h ↦ drop-all k ys (omega arith) ∙ sym (drop-all (min left k) ys (omega arith))
-  | no n ↦ let z : k ≡ min left k = omega arith in ap (λ (x : ℕ). drop x ys) z
-]
-
--- the first block of names that are told, by the numbers that the walk has
-record Passed (b : Bytes) (k s u t o e m : ℕ) (ys : List Bytes) : Type 0 where
-  run : Run b e o [] (take m ys)
-  others : Rest b k s u (t + 2) e (lastOf [] (take m ys)) (drop m ys)
-  first : nameAt b o [] ≡ getD ys 0 []
-
-rest-passed : (b : Bytes) (k s u left t o : ℕ) (prev : Bytes) → Frame b k s u → o ≤ s → t ≤ u → 0 < left → (ys : List Bytes) → length ys ≡ left
-    → Rest b k s u t o prev ys → Passed b k s u t o (endOf b k s t left) (min left k) ys
-rest-passed b k s u left t o prev ask lo lt some [] n r = absurd (omega arith)
-rest-passed b k s u left t o prev ask lo lt some (x ∷ xs) n r =
-    let e : ℕ = o + length (front [] (take k (x ∷ xs))) in
-    let f = rest-first b k s u t o prev x xs (ask .one) (ask .small) (omega (arith, ask)) (omega (arith, ask)) (omega (arith, ask)) (omega (arith, ask)) r in
-    let q : endOf b k s t left ≡ e = end-is b k s u left t o prev ask lo lt some x xs e n f in
-    let p : take k (x ∷ xs) ≡ take (min left k) (x ∷ xs) = take-least k left (x ∷ xs) n in
-    let d : drop k (x ∷ xs) ≡ drop (min left k) (x ∷ xs) = drop-least k left (x ∷ xs) n in
-    record {
-      run = subst (λ (z : ℕ). Run b z o [] (take (min left k) (x ∷ xs))) (sym q) (subst (Run b e o []) p (f .run));
-      others = subst (λ (z : ℕ). Rest b k s u (t + 2) z (lastOf [] (take (min left k) (x ∷ xs))) (drop (min left k) (x ∷ xs))) (sym q)
-          (subst (λ (zs : List Bytes). Rest b k s u (t + 2) e (lastOf [] zs) (drop (min left k) (x ∷ xs))) p
-          (subst (Rest b k s u (t + 2) e (lastOf [] (take k (x ∷ xs)))) d (f .others)));
-      first = head-name b e o k x xs (ask .one) (f .run);
-    }
-
 module _ (b : Bytes) (k s u n : ℕ) where
-  pub walked-start : (steps : Bytes) → Frame b k s u → InBytes b → n ≤ length steps → ((j : ℕ) → getD steps j 0 ≡ 0) → Walked b k s u n s 0 [] 0 n steps
-  unfolding offsetFrom
-  walked-start steps a bytes row z = record {
-    ask = a;
-    bytes = bytes;
-    entries-in = omega arith;
-    table-in = a .order;
-    counted = omega arith;
-    row = row;
-    seen = λ xs l r. record { rest = r; before = refl; here = refl; told = told-start b steps xs z };
-    back = λ h. h;
-  }
+  pub walked-start : Frame b k s u → InBytes b → Walked b k s u n s 0 [] n
+  walked-start a bytes = record { ask = a; bytes = bytes; entries-in = omega arith; table-in = a .order; forth = λ h. h; back = λ h. h }
 
-  module _ (t o : ℕ) (prev : Bytes) (i left : ℕ) (steps : Bytes) (w : Walked b k s u n t o prev i left steps) where
-    pub walked-forth : Has b k s u n s 0 [] → Has b k s u left t o prev
-    walked-forth h = record {
-      names = drop i (h .names);
-      count = omega (arith, length-drop i (h .names), h .count, w .counted);
-      rest = w .seen (h .names) (h .count) (h .rest) .rest;
-    }
-
+  module _ (t o : ℕ) (prev : Bytes) (left : ℕ) (w : Walked b k s u n t o prev left) where
     pub walked-first : 0 < left → Has b k s u n s 0 [] → HasFirst b k s u left t o prev
-    walked-first some h = has-first b k s u left t o prev (w .ask) (w .entries-in) (w .table-in) some (walked-forth h)
+    walked-first some h = has-first b k s u left t o prev (w .ask) (w .entries-in) (w .table-in) some (w .forth h)
 
     pub walked-room : 0 < left → u - t < 2 → Has b k s u n s 0 [] → ⊥
     walked-room some h g = omega (arith, walked-first some g .room)
@@ -377,52 +307,25 @@ module _ (b : Bytes) (k s u n : ℕ) where
 
     module _ (e m : ℕ) (eq : e ≡ endOf b k s t left) (mq : m ≡ min left k) (some : 0 < left) where
       run-here : (f : HasFirst b k s u left t o prev) → RunTo b e o [] m (f .last)
-      run-here f = subst (λ (x : ℕ). RunTo b x o [] m (f .last)) (sym eq) (subst (λ (x : ℕ). RunTo b (endOf b k s t left) o [] x (f .last)) (sym mq) (f .run))
+      run-here f = rw (eq, mq) (f .run)
 
       pub walked-bad : ((l : Bytes) → RunTo b e o [] m l → less (word plain prev) (word plain (nameAt b o [])) ≡ true → ⊥) → Has b k s u n s 0 [] → ⊥
       walked-bad says g = let f = walked-first some g in says (f .last) (run-here f) (f .below)
 
-      passed : (xs : List Bytes) → length xs ≡ n → Rest b k s u s 0 [] xs → Passed b k s u t o e m (drop i xs)
-      passed xs l r = subst (λ (x : ℕ). Passed b k s u t o x m (drop i xs)) (sym eq) (subst (λ (x : ℕ). Passed b k s u t o (endOf b k s t left) x (drop i xs)) (sym mq)
-          (rest-passed b k s u left t o prev (w .ask) (w .entries-in) (w .table-in) some (drop i xs) (omega (arith, length-drop i xs, w .counted)) (w .seen xs l r .rest)))
-
-      -- sh is what the block's first name shares with the name before it
-      module _ (last : Bytes) (sh : ℕ) (run : RunTo b e o [] m last) (below : less (word plain prev) (word plain (nameAt b o [])) ≡ true)
-          (shares : sh ≡ shared prev (nameAt b o [])) (room : t + 2 ≤ u) (at-o : number b t ≡ o) (upto : e ≤ s) where
-        seen-more : (xs : List Bytes) → length xs ≡ n → Rest b k s u s 0 [] xs → Seen b k s u (t + 2) e last (set steps i sh) xs (i + m)
-        seen-more xs l r =
-            let v = w .seen xs l r in
-            let p = passed xs l r in
-            let one : 1 ≤ m = omega (arith, w .ask .one) in
-            let all : i + m ≤ length xs = omega (arith, w .counted) in
-            let lens : length (take m (drop i xs)) ≡ m = length-take-le m (drop i xs) (omega (arith, length-drop i xs)) in
-            let within : e ≤ length b = omega (arith, w .ask) in
-            let end : lastOf [] (take m (drop i xs)) ≡ last = same-last b e o m (lastOf [] (take m (drop i xs))) last (record { names = take m (drop i xs); count = lens; run = p .run; last = refl }) run in
-            let z : i + 0 ≡ i = omega arith in
-            let named : nameAt b o [] ≡ getD xs i [] = p .first ∙ getD-drop i xs 0 [] ∙ ap (λ (x : ℕ). getD xs x []) z in
-            record {
-              rest = subst (λ (x : Bytes). Rest b k s u (t + 2) e x (drop (i + m) xs)) end (subst (Rest b k s u (t + 2) e (lastOf [] (take m (drop i xs)))) (drop-drop m i xs) (p .others));
-              before = prev-last xs i m one all ∙ end;
-              here = block-end b steps xs i m o e sh (v .told) (v .here) within (p .run) one all;
-              told = told-block b steps xs i m o e sh (v .told) (v .here) within (p .run) one all (omega (arith, w .row, w .counted))
-                  (shares ∙ ap₂ (λ (x y : Bytes). shared x y) (sym (v .before)) named);
-            }
-
-        pub walked-more : Walked b k s u n (t + 2) e last (i + m) (left - m) (set steps i sh)
-        walked-more = record {
-          ask = w .ask;
-          bytes = w .bytes;
-          entries-in = upto;
-          table-in = room;
-          counted = omega (arith, w .counted);
-          row = omega (arith, w .row, length-set steps i sh);
-          seen = seen-more;
-          back = λ g. w .back (has-join b k s u left t o prev (w .ask) (w .entries-in) (w .table-in) some e last (w .bytes) room at-o upto
-              (subst (λ (x : ℕ). RunTo b e o [] x last) mq run) below (subst (λ (x : ℕ). Has b k s u (left - x) (t + 2) e last) mq g));
-        }
+      pub walked-more : (last : Bytes) → RunTo b e o [] m last → less (word plain prev) (word plain (nameAt b o [])) ≡ true → t + 2 ≤ u → number b t ≡ o → e ≤ s
+          → Walked b k s u n (t + 2) e last (left - m)
+      walked-more last run below room at-o upto = record {
+        ask = w .ask;
+        bytes = w .bytes;
+        entries-in = upto;
+        table-in = room;
+        forth = λ g. let f = walked-first some g in rw (← same-last b e o m (f .last) last (run-here f) run, eq, mq) (f .others);
+        back = λ g. w .back (has-join b k s u left t o prev (w .ask) (w .entries-in) (w .table-in) some e last (w .bytes) room at-o upto
+            (rw mq at run) below (rw mq at g));
+      }
 
     ended : left ≤ 0 → Has b k s u n s 0 [] → (o ≡ s) × (t ≡ u)
-    ended h g = go (walked-forth g .names) (omega (arith, walked-forth g .count)) (walked-forth g .rest)
+    ended h g = go (w .forth g .names) (omega (arith, w .forth g .count)) (w .forth g .rest)
       where
         go : (xs : List Bytes) → length xs ≡ 0 → Rest b k s u t o prev xs → (o ≡ s) × (t ≡ u)
         go [] z r = rest-none b k s u t o prev (omega (arith, w .ask, w .entries-in)) (omega (arith, w .ask)) (omega (arith, w .ask, w .table-in)) (omega (arith, w .ask)) r
@@ -440,11 +343,6 @@ module _ (b : Bytes) (k s u n : ℕ) where
       count = omega arith;
       rest = subst (λ (x : ℕ). Rest b k s u x o prev []) (sym q) (subst (λ (x : ℕ). Rest b k s u u x prev []) (sym p) (none-rest b k s u prev));
     })
-
-    pub walked-told : left ≤ 0 → (xs : List Bytes) → length xs ≡ n → Rest b k s u s 0 [] xs → Told b steps xs n
-    walked-told h xs l r =
-        let z : i ≡ n = omega (arith, w .counted) in
-        subst (Told b steps xs) z (w .seen xs l r .told)
 
 -- ---- lengths out of an equation of bytes
 
@@ -470,11 +368,3 @@ module _ (b : Bytes) (k s u n : ℕ) (hs : s ≤ length b) (h : Has b k s u n s 
 
     pub has-known : n ≤ mostNames → length b ≤ longestBook → Known b
     has-known f l = known b k (h .names) (drop s b) one has-entries (says ∙ sym has-length) (has-sound f) l
-
-    -- the row that the walk has filled
-    pub has-steps : (steps : Bytes) → n ≤ length steps → ((xs : List Bytes) → length xs ≡ n → Rest b k s u s 0 [] xs → Told b steps xs n) → Steps b steps
-    has-steps steps room told =
-        let size : length (namesOf b) ≡ n = ap length has-names ∙ h .count in
-        told-steps b steps
-        (subst (Told b steps (namesOf b)) (sym size) (subst (λ (xs : List Bytes). Told b steps xs n) (sym has-names) (told (h .names) (h .count) (h .rest))))
-        (omega (arith, size))

@@ -3,7 +3,6 @@
 --     Run, RunTo        from o to e stand the entries of names after prev; of m names, the last of them l
 --     Rest, Has         from o to s stand the entries of names in blocks of k, from t to u the blocks' offsets; of m names
 --     Frame             what is asked of the trailer's numbers k, s and u
---     Told              a row of steps is right for the first i of the names, and 0 from there on
 -- The laws are in proofs/Fronts.antt, proofs/Blocks.antt and proofs/Walks.antt. Assumes nothing: these are definitions.
 use Prim.Native.Nat.{ℕ, _+_, _<_, _≤_}
 use mathlib.Core.Path.{_≡_}
@@ -11,11 +10,11 @@ use mathlib.Core.Bool.{true}
 use mathlib.Core.List.{List, [], _++_, _∷_}
 use lib.Dec.{leb}
 use lib.ListN.{drop, getD, length}
-use Rattle.words.specs.Words.{Bytes, pick, plain, shared}
+use Rattle.words.specs.Words.{Bytes, pick, plain}
 use Rattle.format.specs.Book.{entryPart, longestBook, number, numbers}
 use Rattle.format.specs.Entries.{blocks, offsets}
 use Rattle.format.specs.Records.{longest, rising}
-use Rattle.streams.specs.Streams.{entryEnd, nameAt, offsetAt, prevOf}
+use Rattle.streams.specs.Streams.{entryEnd, nameAt}
 
 -- `above` is both: the count is the greatest possible, and the name is above the one before
 pub record Step (b : Bytes) (o e : ℕ) (prev : Bytes) : Type 0 where
@@ -62,7 +61,3 @@ pub record Frame (b : Bytes) (k s u : ℕ) : Type 0 where
 -- where the block ends whose offset stands at t: at the next offset, or, as the last one, at s
 abbrev pub endOf : Bytes → ℕ → ℕ → ℕ → ℕ → ℕ
 endOf b k s t left = pick (leb left k) s (number b (t + 2))
-
-pub record Told (b steps : Bytes) (xs : List Bytes) (i : ℕ) : Type 0 where
-  pub before : (j : ℕ) → j < i → getD b (offsetAt b j) 0 + getD steps j 0 ≡ shared (prevOf xs j) (getD xs j [])
-  pub behind : (j : ℕ) → i ≤ j → getD steps j 0 ≡ 0

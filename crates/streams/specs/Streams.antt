@@ -1,24 +1,32 @@
 -- The entries of a book as they stand in its bytes, one after the other from the front on.
 --     nameAt            the name of the entry at an offset, after a name
 --     EntryAt, Stream   an entry stands there; the entries of names stand there, after a name
---     offsetAt          where entry number i stands
+--     restAt, lengthAt  what the entry at an offset adds to the name before it; its name's length
+--     offsetAt, Here    where entry number i stands; the entry of name i stands there
 --     prevOf            the name before name i, and none before the first
 --     namesOf, wordsOf  the names that `opened` reads, and their words
 --     Known             what a walk over the entries has shown of them
---     Steps             a row that, added to the stored counts, tells what each name shares with the one before it: a block's first
---                       name has the stored count 0, and every other name has 0 in the row
--- The laws are in proofs/Streams.antt, proofs/Places.antt and proofs/Rereading.antt. Assumes nothing: these are definitions.
-use Prim.Native.Nat.{ℕ, zero, suc, _+_, _-_, _<_, _≤_}
+--     InBlocks          they stand in blocks, each from its offset in the block table on, its first name whole and every other with what
+--                       it shares with the name before it as its count
+-- The laws are in proofs/Streams.antt, proofs/Places.antt, proofs/InBlocks.antt and proofs/Rereading.antt. Assumes nothing: these are definitions.
+use Prim.Native.Nat.{ℕ, zero, suc, _+_, _-_, _*_, _<_, _≤_}
 use mathlib.Core.Path.{_≡_}
 use mathlib.Core.List.{List, [], _++_, _∷_, map}
 use lib.ListN.{drop, getD, length, take}
-use Rattle.words.specs.Words.{Bytes, Rises, Words, nth, plain, shared, word}
+use Rattle.words.specs.Words.{Bytes, Rises, Words, plain, shared, word}
 use Rattle.format.specs.Book.{longestBook, number, trailerSize}
 use Rattle.format.specs.Entries.{decode}
 use Rattle.format.specs.Records.{longest, mostNames}
 
 abbrev pub nameAt : Bytes → ℕ → Bytes → Bytes
 nameAt b o prev = take (getD b o 0) prev ++ take (getD b (o + 1) 0) (drop (o + 2) b)
+
+-- what the entry at an offset adds to the name before it; its name's length
+abbrev pub restAt : Bytes → ℕ → Bytes
+restAt b o = take (getD b (o + 1) 0) (drop (o + 2) b)
+
+abbrev pub lengthAt : Bytes → ℕ → ℕ
+lengthAt b o = getD b o 0 + getD b (o + 1) 0
 
 -- where the entry ends that stands at an offset
 abbrev pub entryEnd : Bytes → ℕ → ℕ
@@ -43,6 +51,10 @@ offsetFrom b o (suc i) = offsetFrom b (entryEnd b o) i
 abbrev pub offsetAt : Bytes → ℕ → ℕ
 offsetAt b i = offsetFrom b 0 i
 
+-- the entry of name i stands at a
+abbrev pub Here : Bytes → ℕ → ℕ → Type 0
+Here b i a = a ≡ offsetAt b i
+
 abbrev pub prevOf : List Bytes → ℕ → Bytes
 prevOf xs zero = []
 prevOf xs (suc i) = getD xs i []
@@ -59,7 +71,11 @@ pub record Known (b : Bytes) : Type 0 where
   pub rises : Rises (wordsOf b)
   pub stream : Stream b 0 [] (namesOf b)
 
-pub record Steps (b steps : Bytes) : Type 0 where
-  pub size : length (namesOf b) ≤ length steps
-  pub told : (i : ℕ) → suc i < length (namesOf b)
-      → getD b (offsetAt b (suc i)) 0 + getD steps (suc i) 0 ≡ shared (nth (wordsOf b) i) (nth (wordsOf b) (suc i))
+-- blocks of k names, whose offsets stand from s on
+pub record InBlocks (b : Bytes) (k s : ℕ) : Type 0 where
+  pub one : 1 ≤ k
+  pub room : (j : ℕ) → j * k < length (namesOf b) → s + 2 * j + 2 ≤ length b
+  pub place : (j : ℕ) → j * k < length (namesOf b) → number b (s + 2 * j) ≡ offsetAt b (j * k)
+  pub first : (j : ℕ) → j * k < length (namesOf b) → getD b (offsetAt b (j * k)) 0 ≡ 0
+  pub inner : (j q : ℕ) → suc q < k → j * k + suc q < length (namesOf b)
+      → getD b (offsetAt b (j * k + suc q)) 0 ≡ shared (getD (namesOf b) (j * k + q) []) (getD (namesOf b) (j * k + suc q) [])

@@ -2,7 +2,7 @@
 -- without the end symbol in them, as every rule's words are.
 --     sides, apart              how two numbers stand to each other
 --     word-positive, shared-word, shared-word-le, word-injective; plain-lawful, plain-injective
---     shared-self, -comm, -le, -at, -trans, -more, -parts; take-shared
+--     shared-self, -comm, -le, -at, -trans, -more, -parts, -append, -front, -two; take-shared
 --     word-at                   a byte's symbol
 --     at-past, at-end           past the last symbol stands the end symbol, and nowhere else
 --     less-irrefl, -trans, -asym, -at, -parts, -short, -extends; ordered
@@ -10,7 +10,7 @@
 --     between, blind, same-side what words that stand near each other have in common
 --     begins-..., same-...
 -- Assumes nothing.
-use Prim.Native.Nat.{ℕ, zero, suc, _≤_, _<_, zero-le, suc-le-suc}
+use Prim.Native.Nat.{ℕ, zero, suc, _+_, _≤_, _<_, zero-le, suc-le-suc}
 use native.Mathlib.Nat.{le-of-suc-le-suc, not-suc-le-zero, lt-irrefl, eq-or-lt-of-le}
 use native.Mathlib.Decide.{decLe, decLt, ℕ-discrete}
 use native.Mathlib.Omega.{arith}
@@ -141,6 +141,37 @@ shared-parts (a ∷ x) (b ∷ y) p q e = elim (ℕ-discrete a b) [
 ]
 
 -- what is shared is the same front of both
+-- what a word that is put together shares, as it goes on behind its first part
+pub shared-append : (p r y : List ℕ) → length p ≤ shared (p ++ r) y → shared (p ++ r) y ≡ length p + shared r (drop (length p) y)
+unfolding shared
+shared-append [] r y h = omega arith
+shared-append (a ∷ p) r [] h = absurd (not-suc-le-zero h)
+shared-append (a ∷ p) r (b ∷ y) h = elim (ℕ-discrete a b) [
+  | yes e ↦
+      let s : shared (a ∷ p ++ r) (b ∷ y) ≡ suc (shared (p ++ r) y) = shared-same a b (p ++ r) y e in
+      s ∙ ap suc (shared-append p r y (omega (arith, s))) ∙ omega arith
+  | no n ↦ absurd (not-suc-le-zero (subst (λ (m : ℕ). suc (length p) ≤ m) (shared-other a b (p ++ r) y n) h))
+]
+
+pub shared-front : (y r : List ℕ) (c : ℕ) → c ≤ length y → c ≤ shared y (take c y ++ r)
+unfolding shared
+shared-front y r zero h = zero-le
+shared-front [] r (suc c) h = absurd (not-suc-le-zero h)
+shared-front (a ∷ y) r (suc c) h = omega (arith, shared-same a a y (take c y ++ r) refl, shared-front y r c (le-of-suc-le-suc h))
+
+-- of three words two pairs share the same, where the third shares more
+pub shared-two : (y z q : List ℕ) → shared y q < shared y z → shared z q ≡ shared y q
+shared-two y z q h = go (sides (shared z q) (shared y q))
+  where
+    less-no : (d : ℕ) → d ≤ shared z q → d ≤ shared y z → d ≤ shared y q
+    less-no d a b = shared-trans y z q d b a
+
+    go : Sides (shared z q) (shared y q) → shared z q ≡ shared y q
+    go (before l) =
+        absurd (lt-irrefl (shared z q) (omega (arith, shared-trans z y q (shared y q) (omega (arith, shared-comm z y)) (omega arith))))
+    go (level e) = e
+    go (behind l) = absurd (lt-irrefl (shared y q) (less-no (suc (shared y q)) l h))
+
 pub take-shared : (x y : Bytes) → take (shared x y) x ≡ take (shared x y) y
 unfolding shared
 take-shared [] y = refl

@@ -1,6 +1,6 @@
 -- `accept::check_parts` meets its contract: each way out is a part that fails, or all of them pass.
 -- Assumes nothing.
-use Rattle.accept.proofs.Judging.{Asked, all-pass, entries-fail, table-ask, table-fails, walk-ask, zeros}
+use Rattle.accept.proofs.Judging.{Asked, all-pass, entries-fail, table-ask, table-fails, walk-ask}
 use borrow.Author.Needs.{needs}
 use Rattle.accept.proofs.check_parts.Statement.{statement}
 use Rattle.accept.proofs.check_parts.Tie as tie
@@ -12,13 +12,13 @@ asked : (c : tie.After-number-at4)
 asked c = search needs
 
 check-table-requires : tie.Need-check-table-requires
-check-table-requires c κs = search (table-ask, asked (c .before .before .before .before .before))
+check-table-requires c κs = search (table-ask, asked (c .before .before))
 
 returns-2 : tie.Need-returns-2
-returns-2 c = search (table-fails, asked (c .before .before .before .before .before .before .before))
+returns-2 c = search (table-fails, asked (c .before .before .before .before))
 
 returns-3 : tie.Need-returns-3
-returns-3 c = search (all-pass, asked (c .before .before .before .before .before .before .before))
+returns-3 c = search (all-pass, asked (c .before .before .before .before))
 
 pub check-parts-spec : {M : Type 1} → statement M
 check-parts-spec =
@@ -32,10 +32,8 @@ check-parts-spec =
     (λ c κs. search needs)
     (λ c. search needs)
     (λ c κs. search needs)
-    (λ c. search needs)
-    (λ c κs. search (needs, walk-ask, zeros))
+    (λ c κs. search (needs, walk-ask))
     (λ c. search entries-fail)
-    (λ c. search needs)
     check-table-requires
     returns-2
     returns-3)

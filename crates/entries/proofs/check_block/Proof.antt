@@ -1,15 +1,20 @@
 -- `entries::check_block` meets its contract: `Held` carries the loop.
 -- Assumes nothing.
+use native.Mathlib.Omega.{arith}
 use borrow.Author.Needs.{needs}
-use Rattle.entries.proofs.Reading.{Held, held-start, held-bad, held-entry, held-more, held-apart, held-done, says-true, says-false}
+use Rattle.entries.proofs.Reading.{Held, held-start, held-bad, held-entry, held-more, held-apart, held-done}
 use Rattle.entries.proofs.check_block.Statement.{statement}
 use Rattle.entries.proofs.check_block.Tie as tie
 
 abbrev Inv-loop : tie.InvT-loop
-Inv-loop book start end m cur₀ name₀ len₀ left₀ cur name len left = Held book end start m (cur .at) name len left
+Inv-loop book start end m name₀ cur₀ len₀ left₀ name cur len left = Held book end start m (cur .at) name len left
 
 abbrev μ-loop : tie.MeasureT-loop
-μ-loop book start end m cur₀ name₀ len₀ left₀ cur name len left = left
+μ-loop book start end m name₀ cur₀ len₀ left₀ name cur len left = left
+
+-- all entries stand, and the last one ends where the block does
+returns-3 : tie.Need-returns-3 Inv-loop μ-loop
+returns-3 c = (omega arith, omega arith, search held-done)
 
 pub check-block-spec : {M : Type 1} → statement M
 check-block-spec =
@@ -22,11 +27,13 @@ check-block-spec =
     (λ c. search needs)
     (λ c. search needs)
     (λ c κs. search needs)
-    (λ c. search (held-bad, says-false))
     (λ c. search needs)
-    (λ c κs. search (held-entry, says-true))
+    (λ c. (omega arith, omega arith, search held-bad))
+    (λ c κs. search held-entry)
     (λ c. search needs)
     (λ c. search needs)
-    (λ c. search (held-more, says-true))
-    (λ c. search held-apart)
-    (λ c. search held-done))
+    (λ c. search held-more)
+    (λ c. search needs)
+    (λ c. (omega arith, omega arith, search held-apart))
+    (λ c. search needs)
+    returns-3)

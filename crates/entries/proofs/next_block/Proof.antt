@@ -1,26 +1,34 @@
 -- `entries::next_block` meets its contract.
 -- Assumes nothing.
-use Prim.Native.Nat.{_+_, _≤_}
+use Prim.Native.Nat.{_≤_}
 use mathlib.Core.Path.{_≡_}
 use mathlib.Core.Bool.{false, not}
-use lib.ListN.{getD}
 use native.Mathlib.Omega.{arith}
-use Rattle.entries.proofs.Reading.{next-fits, next-no, next-judged}
+use Rattle.streams.specs.Streams.{entryEnd}
+use Rattle.entries.proofs.Reading.{next-fits, next-judged, next-low, next-none}
 use borrow.Author.Needs.{needs}
 use Rattle.entries.proofs.next_block.Statement.{statement}
 use Rattle.entries.proofs.next_block.Tie as tie
 
--- where the block has been judged, its first entry is within it
-fits : (c : tie.After-check-block) → not (c .check-block .result .ok) ≡ false
-    → c .before .before .before .args .start + 2 + getD (c .before .before .before .args .book .now) (c .before .before .before .args .start + 1) 0 ≤ c .before .before .before .args .end
+-- where the first entry stands, it is within the block
+fits : (c : tie.After-is-entry) → not (c .is-entry .result) ≡ false
+    → let a = c .before .before .before .before .before .args in entryEnd (a .book .now) (a .start) ≤ a .end
 fits c h = search next-fits
+
+-- the first name is above the name before, and the block's own check answers
+returns-3 : tie.Need-returns-3
+returns-3 c = (omega arith, omega arith, search next-judged)
 
 pub next-block-spec : {M : Type 1} → statement M
 next-block-spec =
     tie.close
     (tie.spec
+    (λ c. search needs)
+    (λ c. search needs)
+    (λ c. search needs)
     (λ c κs. search needs)
-    (λ c. search next-no)
+    (λ c. search needs)
+    (λ c. (omega arith, omega arith, search next-none))
     (λ c. omega (arith, fits))
     (λ c. omega (arith, fits))
     (λ c. omega (arith, fits))
@@ -28,10 +36,20 @@ next-block-spec =
     (λ c. omega (arith, fits))
     (λ c. search needs)
     (λ c. search needs)
+    (λ c. search needs)
+    (λ c. search needs)
+    (λ c. search needs)
     (λ c. omega (arith, fits))
     (λ c κs. search needs)
     (λ c. search needs)
     (λ c. search needs)
+    (λ c. search needs)
+    (λ c. search needs)
+    (λ c. search needs)
     (λ c. omega (arith, fits))
     (λ c κs. search needs)
-    (λ c. search next-judged))
+    (λ c. search needs)
+    (λ c. (omega arith, omega arith, search next-low))
+    (λ c κs. search needs)
+    (λ c. search needs)
+    returns-3)

@@ -1,5 +1,6 @@
--- `inspect::check_table` meets its contract: no name, one name, several names. The reasoning is in proofs/Table.antt.
+-- `inspect::check_table` meets its contract: no name, the root's record, one name, several names. The reasoning is in proofs/Table.antt.
 -- Assumes nothing.
+use native.Mathlib.Omega.{arith}
 use borrow.Author.Needs.{needs}
 use Rattle.inspect.proofs.Table as law
 use Rattle.inspect.proofs.check_table.Statement.{statement}
@@ -12,12 +13,20 @@ check-table-spec =
     (λ c. search law.table-nothing)
     (λ c. search needs)
     (λ c. search law.table-short)
+    (λ c κs. search needs)
+    (λ c. search law.table-symbol)
     (λ c. search needs)
-    (λ c. search law.table-long)
+    (λ c κs. search needs)
+    (λ c. search law.table-first)
+    (λ c. search needs)
+    (λ c κs. search needs)
+    (λ c. search law.table-names)
+    (λ c. search needs)
+    (λ c κs. search needs)
+    (λ c. search needs)
+    (λ c. search needs)
+    (λ c. search law.table-nodes)
     (λ c κs. search needs)
     (λ c. search law.table-leaf)
-    (λ c κs. search law.table-asks)
-    (λ c. search needs)
-    (λ c. search needs)
-    (λ c. search law.table-said)
-    (λ c. search law.table-unlike))
+    (λ c κs. law.table-asks _ _ _ _ (c .before .before .before .before .before .before .before .before .before .before .before .before .pre) (c .before .before .before .before .before .before .before .before .before .before .if1 .left) (c .if7 .left) (c .before .before .before .before .before .before .before .before .before .if2 .left) _ _ _ (c .before .before .before .before .before .before .number-at2 .ensures .0) (c .before .before .before .before .before .if4 .left) (c .before .before .before .before .number-at3 .ensures .0) (c .before .before .before .if5 .left) (c .before .before .number-at4 .ensures .0) (c .before .if6 .left))
+    (λ c. search law.table-said))
