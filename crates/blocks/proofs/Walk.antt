@@ -1,17 +1,20 @@
--- Laws of the walk over blocks, which the writer of the entries and that of the block table share.
---     Blocked: blocked-start, blocked-ask, blocked-more, blocked-end     the blocks before lo are done
+-- Laws of the walk over blocks, which the writer of the entries, that of the block table and the survey share.
+--     Blocked: blocked-start, blocked-ask, blocked-more, blocked-end, blocked-sums     the blocks before lo are done
 --     Entered: entered-start, entered-part, entered-more, entered-all    their entries are written
---     Tabled: tabled-start, tabled-few, tabled-more, tabled-all          where they begin is noted
+--     Tabled: tabled-start, tabled-more, tabled-all                      where they begin is noted
 --     number-not, number-more                                            one number more
+--     Surveying: surveying-start, surveying-enough, surveying-more, surveying-fits .. surveying-all     they are counted, by sums
 -- Assumes nothing.
 use Prim.Native.Nat.{ℕ, suc, _+_, _-_, _*_, _≤_, _<_, zero-le, min}
 use native.Mathlib.Nat.{lt-irrefl}
 use native.Mathlib.Decide.{decLe}
 use native.Mathlib.Omega.{arith}
-use mathlib.Core.Path.{_≡_, refl, sym, ap, ap₂, _∙_}
+use mathlib.Core.Path.{_≡_, refl, sym, ap, ap₂, _∙_, subst}
 use mathlib.Core.List.{List, [], _∷_, _++_, map, append-assoc, append-nil}
 use lib.ListN.{length, getD, take, drop, length-append, length-take, length-drop, drop-of-length-le}
 use lib.Seq.{slice, take-add, take-all, drop-at, drop-drop, drop-cons, length-take-le}
+use mir.Val.{Fits}
+use mir.Syntax.{w64}
 use Rattle.words.specs.Words.{Bytes}
 use Rattle.format.specs.Book.{blockPart, entryPart, joined, numbers}
 use Rattle.format.specs.Entries.{blocks, blocksFrom, front, offsets}
@@ -20,8 +23,9 @@ use Rattle.format.proofs.Numbers.{numbers-append, numbers-length}
 use Rattle.format.specs.Outcomes.{over}
 use Rattle.numbers.proofs.Parts.{lent, lent-front, over-all, over-length}
 use Rattle.records.specs.Lists.{names, startOf}
-use Rattle.records.proofs.Starts.{start-none}
-use Rattle.blocks.specs.Writing.{BlockAsk, BlockPut, BlockSize, EntriesAsk, NumberPut, Surveyed, block}
+use Rattle.records.proofs.Starts.{start-all, start-none}
+use Rattle.blocks.specs.Writing.{BlockAsk, BlockPut, BlockSize, EntriesAsk, NumberPut, SharedSum, SumsAre, Surveyed, block, sharedTo}
+use Rattle.blocks.proofs.Writing.{BlockSums, block-sums, shared-grows, shared-next, sizing-all}
 
 -- ---- a block is a span of names
 
@@ -109,6 +113,17 @@ module _ {s : Bytes} {n : ℕ} {steps : List ℕ} {k : ℕ} (a : EntriesAsk s n 
 
     pub blocked-small : size ≤ 404000
     blocked-small = omega (arith, b .small, b .high, a .ready .few)
+
+    blocked-sums : n ≤ lo → {count : ℕ} → count ≡ length (b .done) → SumsAre s k count size
+    unfolding entryPart blockPart
+    blocked-sums h c =
+        let e : b .done ≡ blocks k (names s) = sym (blocked-end h) in
+        record {
+          size-is = b .counted ∙ ap (λ (x : List Bytes). length (joined x)) e;
+          small = blocked-small;
+          few = omega (arith, b .few, b .high, a .ready .few);
+          count-is = sym (numbers-length (offsets 0 (blocks k (names s))) ∙ omega (arith, offsets-length 0 (blocks k (names s)), ap length e));
+        }
 
     module _ (h : lo < n) (hi : ℕ) (e : hi ≡ min (lo + k) n) where
       pub blocked-ask : BlockAsk s steps lo at hi
@@ -231,23 +246,16 @@ module _ {s : Bytes} {n : ℕ} {steps : List ℕ} {k : ℕ} (a : EntriesAsk s n 
   tabled-start = record { walk = blocked-start a; number = refl; kept = refl; noted = λ h. refl }
 
   module _ {room : Bytes} {lo at size count : ℕ} (b : Tabled s n k room₀ room lo at size count) where
-    pub tabled-few : count ≤ lo
-    tabled-few = omega (arith, b .number, b .walk .few)
-
     pub tabled-all : n ≤ lo → Surveyed s k room₀ room count size
-    unfolding entryPart blockPart
+    unfolding blockPart
     tabled-all h =
         let e : b .walk .done ≡ blocks k (names s) = sym (blocked-end a (b .walk) h) in
-        let two : length (numbers (offsets 0 (blocks k (names s)))) ≡ 2 * count =
-        numbers-length (offsets 0 (blocks k (names s))) ∙ omega (arith, offsets-length 0 (blocks k (names s)), ap length e, b .number) in
+        let sums : SumsAre s k count size = blocked-sums a (b .walk) h (b .number) in
         record {
-          size-is = b .walk .counted ∙ ap (λ (x : List Bytes). length (joined x)) e;
-          small = blocked-small a (b .walk);
-          few = omega (arith, tabled-few, b .walk .high, a .ready .few);
-          count-is = sym two;
+          sums = sums;
           put = λ f.
               b .noted (omega arith) ∙ ap (λ (x : List Bytes). over (numbers (offsets 0 x)) room₀) e
-              ∙ over-all (numbers (offsets 0 (blocks k (names s)))) room₀ (omega arith);
+              ∙ over-all (numbers (offsets 0 (blocks k (names s)))) room₀ (omega (arith, sums .count-is));
         }
 
     module _ (h : lo < n) (hi : ℕ) (e : hi ≡ min (lo + k) n) where
@@ -262,3 +270,95 @@ module _ {s : Bytes} {n : ℕ} {steps : List ℕ} {k : ℕ} (a : EntriesAsk s n 
             p .put (offsets 0 (b .walk .done)) room₀ (offsets-length 0 (b .walk .done) ∙ sym (b .number)) (b .noted (omega arith)) (omega (arith, b .kept))
             ∙ ap (λ (x : List ℕ). over (numbers x) room₀) (ap (λ (m : ℕ). offsets 0 (b .walk .done) ++ (m ∷ [])) (sym o) ∙ sym (offsets-more 0 (b .walk .done) (block s lo hi)));
       }
+
+-- ---- by sums
+
+-- the blocks before lo are counted; what their first names share is taken off `shared`
+pub record Surveying (s : Bytes) (n : ℕ) (steps : List ℕ) (k shared count lo : ℕ) : Type 0 where
+  pub reached : ℕ
+  pub is : reached ≡ min lo n
+  pub start : ℕ
+  pub size : ℕ
+  pub walk : Blocked s n k reached start size
+  pub number : count ≡ length (walk .done)
+  pub sums : size + sharedTo steps reached + shared ≡ start + reached + sharedTo steps n
+  pub enough : sharedTo steps n ≤ shared + sharedTo steps reached
+  pub small : shared ≤ 510000
+
+module _ {s : Bytes} {n : ℕ} {steps : List ℕ} {k : ℕ} (a : EntriesAsk s n steps k) where
+  pub surveying-start : {r : ℕ} → SharedSum steps n r → Surveying s n steps k r 0 0
+  unfolding blocked-start sharedTo
+  surveying-start r = record {
+    reached = 0;
+    is = omega arith;
+    start = 0;
+    size = 0;
+    walk = blocked-start a;
+    number = refl;
+    sums = omega (arith, r .is);
+    enough = omega (arith, r .is);
+    small = omega (arith, r .small, a .ready .few);
+  }
+
+  module _ {shared count lo : ℕ} (b : Surveying s n steps k shared count lo) where
+    module _ (h : lo < n) (x : ℕ) (e : x ≡ getD steps lo 0) where
+      abbrev m : ℕ
+      m = b .reached
+
+      m-is : m ≡ lo
+      m-is = omega (arith, b .is)
+
+      first : sharedTo steps (m + 1) ≡ sharedTo steps m + x
+      first = shared-next steps m ∙ omega (arith, ap (λ (i : ℕ). getD steps i 0) m-is)
+
+      grows : (i : ℕ) → m + 1 ≤ i → sharedTo steps (m + 1) ≤ sharedTo steps i
+      grows i l =
+          let f : m + 1 + (i - (m + 1)) ≡ i = omega arith in
+          omega (arith, shared-grows steps (m + 1) (i - (m + 1)), ap (sharedTo steps) f)
+
+      pub surveying-enough : x ≤ shared
+      surveying-enough = omega (arith, b .enough, first, grows n (omega (arith, m-is)))
+
+      pub surveying-more : Surveying s n steps k (shared - x) (count + 1) (lo + k)
+      unfolding blocked-more
+      surveying-more =
+          let hi : ℕ = min (m + k) n in
+          let l : m < n = omega (arith, m-is) in
+          let ask : BlockAsk s steps m (b .start) hi = blocked-ask a (b .walk) l hi refl in
+          let z : BlockSums s steps m (b .start) hi hi = block-sums ask (omega (arith, a .low)) in
+          record {
+            reached = hi;
+            is = omega (arith, m-is);
+            start = z .next;
+            size = b .size + z .size;
+            walk = blocked-more a (b .walk) l hi refl (z .size) (z .next) (sizing-all ask (z .sizing) (omega arith));
+            number = omega (arith, b .number, length-append (b .walk .done) (block s m hi ∷ []));
+            sums = omega (arith, b .sums, z .sums, first, surveying-enough);
+            enough = omega (arith, b .enough, first, surveying-enough, grows hi (omega (arith, a .low)));
+            small = omega (arith, b .small);
+          }
+
+    module _ (h : n ≤ lo) where
+      at-end : b .reached ≡ n
+      at-end = omega (arith, b .is)
+
+      whole : b .size + shared ≡ length s + n
+      whole =
+          omega (
+            arith,
+            b .sums,
+            at-end,
+            ap (sharedTo steps) at-end,
+            b .walk .here ∙ ap (startOf s) at-end ∙ start-all (a .ready),
+          )
+
+      pub surveying-fits : Fits w64 (length s + n)
+      surveying-fits = omega (arith, whole, b .small, blocked-small a (b .walk))
+
+      pub surveying-left : shared ≤ length s + n
+      surveying-left = omega (arith, whole)
+
+      pub surveying-all : SumsAre s k count (length s + n - shared)
+      surveying-all =
+          let e : b .size ≡ length s + n - shared = omega (arith, whole) in
+          subst (SumsAre s k count) e (blocked-sums a (b .walk) (omega (arith, at-end)) (b .number))

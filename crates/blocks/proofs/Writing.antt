@@ -4,6 +4,9 @@
 --     entry-here                    an entry, by bytes of the list
 --     Sizing: sizing-start, sizing-record .. sizing-fits, sizing-count, sizing-more, sizing-all     a block, name by name
 --     Filling: filling-start, filling-fits, filling-count .. filling-part (what an entry asks), filling-more, filling-all     the same, written
+--     shared-next, shared-grows     what names share, in all
+--     Adding: adding-start, adding-more, adding-all     the same, name by name
+--     BlockSums: block-sums         a block's size, by what its names share
 -- Assumes nothing.
 use Prim.Native.Nat.{ℕ, zero, suc, pred, _+_, _-_, _≤_, _<_, zero-le, _*_}
 use native.Mathlib.Nat.{lt-irrefl}
@@ -23,7 +26,7 @@ use Rattle.format.specs.Outcomes.{over}
 use Rattle.numbers.proofs.Parts.{lent, over-all, over-length, part-length}
 use Rattle.records.specs.Lists.{names, startOf}
 use Rattle.records.proofs.Starts.{ready-size, start-byte, start-fits, start-name, start-next, start-within}
-use Rattle.blocks.specs.Writing.{BlockAsk, BlockPut, BlockSize, before, block, storedCount}
+use Rattle.blocks.specs.Writing.{BlockAsk, BlockPut, BlockSize, SharedSum, before, block, sharedTo, storedCount}
 
 -- ---- the count that a name stores
 
@@ -283,3 +286,69 @@ module _ {s : Bytes} {steps : List ℕ} {lo at hi : ℕ} (a : BlockAsk s steps l
             kept = ap length now-is ∙ over-length (block s lo (i + 1)) room₀ (omega (arith, sym next-size, filling-fits, z .kept, sizing-count a (z .sizing) h len e c f));
             written = now-is;
           }
+
+-- ---- a block's size, by what its names share
+
+pub shared-next : (steps : List ℕ) (i : ℕ) → sharedTo steps (i + 1) ≡ sharedTo steps i + getD steps i 0
+unfolding sharedTo
+shared-next steps i = ap (sharedTo steps) (add-one i)
+
+pub shared-grows : (steps : List ℕ) (i m : ℕ) → sharedTo steps i ≤ sharedTo steps (i + m)
+shared-grows steps i zero = let e : i ≡ i + 0 = omega arith in omega (arith, ap (sharedTo steps) e)
+shared-grows steps i (suc m) =
+    let e : i + m + 1 ≡ i + suc m = omega arith in
+    omega (arith, shared-grows steps i m, shared-next steps (i + m), ap (sharedTo steps) e)
+
+-- what the first i of n names share
+pub record Adding (steps : List ℕ) (n i r : ℕ) : Type 0 where
+  pub within : i ≤ n
+  pub sum : SharedSum steps i r
+
+pub adding-start : (steps : List ℕ) (n : ℕ) → Adding steps n 0 0
+unfolding sharedTo
+adding-start steps n = record { within = zero-le; sum = record { is = refl; small = zero-le } }
+
+module _ {steps : List ℕ} {n i r : ℕ} (k : Adding steps n i r) where
+  pub adding-more : i < n → (x : ℕ) → x ≡ getD steps i 0 → x < 256 → Adding steps n (i + 1) (r + x)
+  adding-more h x e l = record { within = omega arith; sum = record { is = omega (arith, k .sum .is, shared-next steps i); small = omega (arith, k .sum .small) } }
+
+  pub adding-all : n ≤ i → SharedSum steps n r
+  adding-all h = let e : i ≡ n = omega (arith, k .within) in subst (λ (m : ℕ). SharedSum steps m r) e (k .sum)
+
+-- The size of names lo to i as one block, and what they share: each but the first stores two bytes and what it does not share, and its
+-- record has a length byte and all of it.
+pub record BlockSums (s : Bytes) (steps : List ℕ) (lo at hi i : ℕ) : Type 0 where
+  pub next : ℕ
+  pub size : ℕ
+  pub sizing : Sizing s lo hi i next size
+  pub sums : size + sharedTo steps i + at + lo ≡ next + i + sharedTo steps (lo + 1)
+
+module _ {s : Bytes} {steps : List ℕ} {lo at hi : ℕ} (a : BlockAsk s steps lo at hi) where
+  sums-to : (m : ℕ) → lo + 1 + m ≤ hi → BlockSums s steps lo at hi (lo + 1 + m)
+  sums-to zero h =
+      let z : Sizing s lo hi lo at 0 = sizing-start a in
+      let one : lo + 1 ≡ lo + 1 + 0 = omega arith in
+      subst (BlockSums s steps lo at hi) one (record {
+        next = _;
+        size = _;
+        sizing = sizing-more a z (omega arith) _ refl _ refl;
+        sums = omega (arith, stored-same lo lo steps refl);
+      })
+  sums-to (suc m) h =
+      let i : ℕ = lo + 1 + m in
+      let b : BlockSums s steps lo at hi (lo + 1 + m) = sums-to m (omega arith) in
+      let len : ℕ = getD s (b .next) 0 in
+      let c : ℕ = storedCount lo i steps in
+      let one : i + 1 ≡ lo + 1 + suc m = omega arith in
+      let stored : getD steps i 0 ≡ c = stored-other lo i (getD steps i 0) steps (λ e. lt-irrefl lo (omega arith)) refl in
+      subst (BlockSums s steps lo at hi) one (record {
+        next = _;
+        size = _;
+        sizing = sizing-more a (b .sizing) (omega arith) len refl c refl;
+        sums = omega (arith, b .sums, stored, shared-next steps i, sizing-count a (b .sizing) (omega arith) len refl c refl);
+      })
+
+  pub block-sums : lo < hi → BlockSums s steps lo at hi hi
+  block-sums h =
+      let e : lo + 1 + (hi - (lo + 1)) ≡ hi = omega arith in
+      subst (BlockSums s steps lo at hi) e (sums-to (hi - (lo + 1)) (omega arith))

@@ -5,9 +5,11 @@
 --     BlockAsk, BlockSize, BlockPut    one block, its size, and the block written
 --     EntriesAsk        all names, in blocks of k
 --     NumberPut         one number more of a row, where it fits
---     Surveyed          how many blocks there are, how large their entries, and where each begins
+--     sharedTo, SharedSum    what the first i names share, in all; a number that is that
+--     SumsAre           how many blocks there are, and how large their entries
+--     Surveyed          the same, and where each begins
 -- The laws are in proofs/. Assumes nothing: these are definitions.
-use Prim.Native.Nat.{ℕ, suc, pred, _+_, _*_, _≤_}
+use Prim.Native.Nat.{ℕ, zero, suc, pred, _+_, _*_, _≤_}
 use mathlib.Core.Path.{_≡_}
 use mathlib.Core.List.{List, [], _∷_, _++_}
 use lib.Dec.{eqb}
@@ -61,9 +63,23 @@ pub record NumberPut (room₀ room : Bytes) (i v : ℕ) : Type 0 where
   pub kept : length room ≡ length room₀
   pub put : (ns : List ℕ) (start : Bytes) → length ns ≡ i → room₀ ≡ over (numbers ns) start → 2 * suc i ≤ length room₀ → room ≡ over (numbers (ns ++ (v ∷ []))) start
 
-pub record Surveyed (s : Bytes) (k : ℕ) (room₀ room : Bytes) (count size : ℕ) : Type 0 where
+-- what the first i names share with the ones before them, in all
+unfoldable pub sharedTo : List ℕ → ℕ → ℕ
+sharedTo steps zero = 0
+sharedTo steps (suc i) = sharedTo steps i + getD steps i 0
+
+pub record SharedSum (steps : List ℕ) (i r : ℕ) : Type 0 where
+  pub is : r ≡ sharedTo steps i
+  pub small : r ≤ 255 * i
+
+-- how many blocks of k there are, and the size of all entries
+pub record SumsAre (s : Bytes) (k count size : ℕ) : Type 0 where
   pub size-is : size ≡ length (entryPart k (names s))
   pub small : size ≤ 404000
   pub few : count ≤ 2000
   pub count-is : 2 * count ≡ length (blockPart k (names s))
+
+-- the same, with the block table in a room that it fills
+pub record Surveyed (s : Bytes) (k : ℕ) (room₀ room : Bytes) (count size : ℕ) : Type 0 where
+  pub sums : SumsAre s k count size
   pub put : length room₀ ≡ 2 * count → room ≡ blockPart k (names s)

@@ -6,7 +6,7 @@ ghost use lib.ListN.{length, getD, take, drop};
 ghost use Rattle.records.specs.Lists.{names};
 ghost use Rattle.format.specs.Book.{entryPart};
 ghost use Rattle.records.specs.Lists.{startOf};
-ghost use Rattle.blocks.specs.Writing.{block, storedCount, BlockAsk, BlockSize, BlockPut, EntriesAsk, NumberPut, Surveyed};
+ghost use Rattle.blocks.specs.Writing.{block, storedCount, BlockAsk, BlockSize, BlockPut, EntriesAsk, NumberPut, SharedSum, SumsAre, Surveyed};
 
 // The count that name i stores in a block that begins with name lo.
 fn count_of(steps: &[u8], lo: usize, i: usize) -> usize
@@ -113,6 +113,40 @@ fn put_number(room: &mut [u8], i: usize, v: usize)
 pub struct Survey {
     pub count: usize,
     pub size: usize,
+}
+
+// What the first n names share with the ones before them, in all.
+fn sum_of(steps: &[u8], n: usize) -> usize
+    requires { ⌜ (n ≤ 2000) × (n ≤ length (now steps)) ⌝ }
+    ensures { λ r. ⌜ SharedSum (now (steps .entry)) n r ⌝ }
+{
+    let mut sum: usize = 0;
+    let mut i = 0;
+    while i < n {
+        sum += numbers::wide(steps[i]);
+        i += 1;
+    }
+    sum
+}
+
+// By sums: each name stores two bytes and what it does not share, and its record has its length byte and all of it. The first name of
+// a block stores all of it too.
+pub fn survey_blocks(list: &[u8], n: usize, steps: &[u8], k: usize) -> Survey
+    requires { ⌜ EntriesAsk (now list) n (now steps) k ⌝ }
+    ensures { λ r. ⌜ SumsAre (now (list .entry)) k (r .count) (r .size) ⌝ }
+{
+    let mut shared = sum_of(steps, n);
+    let mut count: usize = 0;
+    let mut lo: usize = 0;
+    while lo < n {
+        shared -= numbers::wide(steps[lo]);
+        count += 1;
+        lo += k;
+    }
+    Survey {
+        count,
+        size: list.len() + n - shared,
+    }
 }
 
 // The block table, where it fits: where each block's entries begin.

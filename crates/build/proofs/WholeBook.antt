@@ -1,5 +1,5 @@
 -- Laws of the whole book.
---     sizes-are, nodes-fit, ..        the sizes, by writers without room
+--     sizes-are, nodes-fit, ..        the sizes, by counting
 --     trailer-is                      the trailer as eight numbers
 --     sized-..                        how the parts lie in a room that is large enough
 --     put, nodes-part, book-lent      four parts, each from where the one before ended, are the book
@@ -28,7 +28,8 @@ use Rattle.numbers.proofs.Parts.{lent, over-length, part-length}
 use Rattle.records.specs.Lists.{names, words}
 use Rattle.records.proofs.Starts.{ready-rises, words-length}
 use Rattle.nodes.specs.Writing.{NodesPut}
-use Rattle.blocks.specs.Writing.{Surveyed}
+use Rattle.nodes.specs.Counting.{NodeCount}
+use Rattle.blocks.specs.Writing.{SumsAre, Surveyed}
 use Rattle.build.specs.Whole.{BuildAsk, Sized}
 
 -- a room with a part of it lent and filled
@@ -36,31 +37,36 @@ abbrev pub put : Bytes → ℕ → ℕ → Bytes → Bytes
 put room from to x = take from room ++ (x ++ drop (to - from) (drop from room))
 
 module _ {s : Bytes} {n : ℕ} {lens steps : List ℕ} {k : ℕ} (a : BuildAsk s n lens steps k) where
-  nodes-few : {room : Bytes} {places m : ℕ} → NodesPut s room places m → m ≤ 4000
-  nodes-few {m = m} p = go (n) refl
-    where
-      go : (i : ℕ) → i ≡ n → m ≤ 4000
-      go zero e = omega (arith, p .nodes, ap length (table-empty (words s) (omega (arith, words-length s, a .ready .total))))
-      go (suc i) e = omega (arith, p .nodes, table-few (words s) (ready-rises (a .ready)) (omega (arith, words-length s, a .ready .total)), words-length s, a .ready .total, a .ready .few)
+  module _ (m : ℕ) (p : NodeCount n steps m) where
+    nodes-are : m ≡ length (table (words s))
+    unfolding NodeCount
+    nodes-are = p s lens (a .ready)
 
-  pub sizes-are : {room₀ room room₁ : Bytes} {places c e m : ℕ} → Surveyed s k room₀ room c e → NodesPut s room₁ places m
-      → Sized s k e (e + 2 * c) m (e + 2 * c + 10 * m + 16)
-  sizes-are t p = record {
-    blocks-start = t .size-is;
-    nodes-start = omega (arith, t .count-is);
-    number = p .nodes;
-    whole = refl;
-    few = omega (arith, t .small, t .few, nodes-few p);
-  }
+    nodes-few : m ≤ 4000
+    nodes-few = go n refl
+      where
+        go : (i : ℕ) → i ≡ n → m ≤ 4000
+        go zero e = omega (arith, nodes-are, ap length (table-empty (words s) (omega (arith, words-length s, a .ready .total))))
+        go (suc i) e = omega (arith, nodes-are, table-few (words s) (ready-rises (a .ready)) (omega (arith, words-length s, a .ready .total)), words-length s, a .ready .total, a .ready .few)
 
-  pub nodes-fit : {room : Bytes} {places m : ℕ} → NodesPut s room places m → Fits w64 (10 * m)
-  nodes-fit p = omega (arith, nodes-few p)
+    pub nodes-fit : Fits w64 (10 * m)
+    nodes-fit = omega (arith, nodes-few)
 
-  pub tables-fit : {room₀ room room₁ : Bytes} {places c e m : ℕ} → Surveyed s k room₀ room c e → NodesPut s room₁ places m → Fits w64 (e + 2 * c + 10 * m)
-  tables-fit t p = omega (arith, sizes-are t p .few)
+    module _ {c e : ℕ} (t : SumsAre s k c e) where
+      pub sizes-are : Sized s k e (e + 2 * c) m (e + 2 * c + 10 * m + 16)
+      sizes-are = record {
+        blocks-start = t .size-is;
+        nodes-start = omega (arith, t .count-is);
+        number = nodes-are;
+        whole = refl;
+        few = omega (arith, t .small, t .few, nodes-few);
+      }
 
-  pub book-fits : {room₀ room room₁ : Bytes} {places c e m : ℕ} → Surveyed s k room₀ room c e → NodesPut s room₁ places m → Fits w64 (e + 2 * c + 10 * m + 16)
-  book-fits t p = omega (arith, sizes-are t p .few)
+      pub tables-fit : Fits w64 (e + 2 * c + 10 * m)
+      tables-fit = omega (arith, sizes-are .few)
+
+      pub book-fits : Fits w64 (e + 2 * c + 10 * m + 16)
+      book-fits = omega (arith, sizes-are .few)
 
   names-words : map (word plain) (names s) ≡ words s
   unfolding words
@@ -104,7 +110,7 @@ module _ {s : Bytes} {n : ℕ} {lens steps : List ℕ} {k : ℕ} (a : BuildAsk s
       k₁ = ap length p₁ ∙ over-length x room (omega (arith, l₁, z .nodes-start, z .whole))
 
       y-is : y ≡ blockPart k (names s)
-      y-is = t .put (part-length r₁ blocks (nodes - blocks) (omega (arith, k₁, z .nodes-start, z .whole)) ∙ omega (arith, z .nodes-start, t .count-is))
+      y-is = t .put (part-length r₁ blocks (nodes - blocks) (omega (arith, k₁, z .nodes-start, z .whole)) ∙ omega (arith, z .nodes-start, t .sums .count-is))
 
       l₂ : length y ≡ nodes - blocks
       l₂ = ap length y-is ∙ omega (arith, z .nodes-start)

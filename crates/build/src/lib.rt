@@ -19,14 +19,13 @@ pub struct Sizes {
     pub total: usize,
 }
 
-// The sizes, by writers that have no room to write.
+// The sizes, by counting.
 fn sizes_of(list: &[u8], n: usize, lens: &[u8], steps: &[u8], k: usize) -> Sizes
     requires { ⌜ BuildAsk (now list) n (now lens) (now steps) k ⌝ }
     ensures { λ r. ⌜ Sized (now (list .entry)) k (r .blocks) (r .nodes) (r .count) (r .total) ⌝ }
 {
-    let mut none = [0u8; 1];
-    let survey = blocks::write_table(list, n, steps, k, &mut none[0..0]);
-    let count = nodes::write_nodes(list, n, lens, steps, 0, &mut none[0..0]);
+    let survey = blocks::survey_blocks(list, n, steps, k);
+    let count = nodes::count_nodes(n, steps);
     let nodes = survey.size + 2 * survey.count;
     Sizes {
         blocks: survey.size,

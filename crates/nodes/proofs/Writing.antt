@@ -189,7 +189,7 @@ module _ {s : Bytes} {j left : ℕ} {depths ends marks : List ℕ} {t count end 
 -- ---- the walk over all names, from the last
 
 module _ {s : Bytes} {n : ℕ} {lens steps : List ℕ} (a : Ready s n lens steps) where
-  all-words : length (words s) ≡ n
+  pub all-words : length (words s) ≡ n
   all-words = omega (arith, words-length s, a .total)
 
   -- what a name shares with the one before was noted

@@ -9,6 +9,7 @@ ghost use Rattle.words.specs.Words.{plain, word};
 ghost use Rattle.format.specs.Book.{numbers};
 ghost use Rattle.nodes.specs.Frames.{symbolOf};
 ghost use Rattle.records.specs.Lists.{Ready};
+ghost use Rattle.nodes.specs.Counting.{CountAsk, NodeCount, StaysOpen};
 ghost use Rattle.nodes.specs.Writing.{PutBack, NameAt, Asked, Closing, Closed, Shut, NodesPut};
 
 // Symbol number p - 1 of the name behind the length byte at `at`; 0 where p is 0, as the root's is written.
@@ -252,6 +253,41 @@ pub fn write_nodes(
             depths[top] = left as u8;
             ends[top] = p.end as u16;
             marks[top] = p.mark as u16;
+        }
+    }
+    count
+}
+
+// The top one of the frames up to `top` when those that are deeper than `left` have closed.
+fn close_frames(depths: &[u8], left: usize, top: usize) -> usize
+    requires { ⌜ (top < length (now depths)) × (getD (now depths) 0 0 ≡ 0) ⌝ }
+    ensures { λ r. ⌜ StaysOpen (now (depths .entry)) left top r ⌝ }
+{
+    let mut frame = top;
+    while left < numbers::wide(depths[frame]) {
+        frame -= 1;
+    }
+    frame
+}
+
+// How many nodes the table has, from what each name shares with the one before it alone: a leaf for each name, and a node for each
+// frame.
+pub fn count_nodes(n: usize, steps: &[u8]) -> usize
+    requires { ⌜ CountAsk n (now steps) ⌝ }
+    ensures { λ r. ⌜ NodeCount n (now (steps .entry)) r ⌝ }
+{
+    let mut depths = [0u8; 203];
+    let mut top: usize = 0;
+    let mut count = n;
+    let mut j = n;
+    while 0 < j {
+        j -= 1;
+        let left = left_of(steps, j);
+        top = close_frames(&depths, left, top);
+        if numbers::wide(depths[top]) < left {
+            top += 1;
+            depths[top] = left as u8;
+            count += 1;
         }
     }
     count

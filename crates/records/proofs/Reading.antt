@@ -1,14 +1,14 @@
 -- Laws of the reading of a list, one for each way that the code goes.
 --     part                       so many bytes of a list, from one place on
---     AboveAt                    a name is above another, with which it shares so many bytes
 --     ReadUpTo                   so many names are read, and noted: reading-start
 --     StandsAt, stands-at        the next record begins here, with this length
 --     Comparing                  it is of good length, and its name agrees with the last so far: comparing-start, byte-same
---     NewAbove                   its name is above the last: old-ends, byte-above; reading-more
+--     Parted                     and no further: one-ends, bytes-differ
+--     NewAbove                   its name is above the last: old-ends, byte-above; reading-more, list-falls
 --     good-list                  how a list is judged that reads well
 --     no-name, long-name, cut-name, new-ends, byte-below, too-many     and one that is refused
 -- Assumes nothing.
-use Prim.Native.Nat.{ℕ, suc, _+_, _-_, _≤_, _<_, zero-le}
+use Prim.Native.Nat.{ℕ, suc, _+_, _-_, _≤_, _<_, min, zero-le}
 use native.Mathlib.Nat.{not-suc-le-zero}
 use native.Mathlib.Decide.{ℕ-discrete}
 use native.Mathlib.Numerals.{add-one}
@@ -17,7 +17,7 @@ use mathlib.Core.Path.{_≡_, refl, sym, ap, ap₂, _∙_, subst}
 use mathlib.Core.Bool.{Bool, true, false}
 use mathlib.Core.List.{List, [], _∷_, _++_, append-assoc, append-nil}
 use lib.Dec.{leb, ltb}
-use lib.ListN.{length, length-map, getD, set, take, drop, length-append, length-take, length-drop, length-set, drop-of-length-le, List·getD-append}
+use lib.ListN.{length, length-map, getD, set, take, drop, length-append, length-drop, length-set, drop-of-length-le, List·getD-append}
 use lib.Seq.{drop-cons, drop-drop, getD-at, getD-take, getD-drop, getD-set-same, getD-set-other}
 use borrow.Author.Tests.{lt-ltb, le-ltb, le-leb, lt-leb}
 use Rattle.words.specs.Words.{Bytes, at, both, less, pick, plain, shared, word}
@@ -25,6 +25,7 @@ use Rattle.words.proofs.Words.{at-past, less-by, part-at, plain-injective, shar
 use Rattle.format.specs.Outcomes.{given, readingOf}
 use Rattle.format.specs.Records.{Names, Reading, Refused, after, goodLength, mostNames, readFrom, readList}
 use Rattle.format.proofs.Records.{read-refused, read-skip}
+use Rattle.numbers.proofs.Parts.{part-length}
 use Rattle.records.specs.declared.Verdict.the-variants.{Good, Bad}
 use Rattle.records.specs.Lists.{Judged, Noted, names, namesIn}
 
@@ -33,46 +34,19 @@ use Rattle.records.specs.Lists.{Judged, Noted, names, namesIn}
 abbrev pub part : Bytes → ℕ → ℕ → Bytes
 part s from size = take size (drop from s)
 
--- b is above a, with which it shares d bytes
-pub record AboveAt (a b : Bytes) (d : ℕ) : Type 0 where
-  pub shares : d ≡ shared a b
-  pub above : less (word plain a) (word plain b) ≡ true
-
--- two names that agree in the first d bytes, by their symbols there
-module _ (a b : Bytes) (d : ℕ) (agree : d ≤ shared a b) where
-  parted : d ≡ shared a b → less (word plain a) (word plain b) ≡ ltb (at (word plain a) d) (at (word plain b) d)
-  parted e = less-by (word plain a) (word plain b) d (shared-word plain plain-injective a b ∙ sym e)
-
-  differ : (at (word plain a) d ≡ at (word plain b) d → ⊥) → d ≡ shared a b
-  differ n =
-      sym (part-at (word plain a) (word plain b) d (omega (arith, shared-word plain plain-injective a b)) n) ∙ shared-word plain plain-injective a b
-
-  symbol-above : at (word plain a) d < at (word plain b) d → AboveAt a b d
-  symbol-above l =
-      let e : d ≡ shared a b = differ (λ f. omega arith) in
-      record { shares = e; above = parted e ∙ lt-ltb (at (word plain a) d) (at (word plain b) d) l }
-
-  symbol-below : at (word plain b) d < at (word plain a) d → less (word plain a) (word plain b) ≡ false
-  symbol-below l = parted (differ (λ f. omega arith)) ∙ le-ltb (at (word plain a) d) (at (word plain b) d) (omega arith)
-
-  no-symbol : length b ≤ d → less (word plain a) (word plain b) ≡ false
-  no-symbol l =
-      parted (omega (arith, shared-le b a, shared-comm a b))
-      ∙ ap (ltb (at (word plain a) d)) (at-past (word plain b) d (omega (arith, length-map b plain)))
-      ∙ le-ltb (at (word plain a) d) 0 zero-le
+-- symbol number i of the name there
+abbrev symbol : Bytes → ℕ → ℕ → ℕ → ℕ
+symbol s from size i = at (word plain (part s from size)) i
 
 module _ (s : Bytes) (from size : ℕ) (inside : from + size ≤ length s) where
-  part-length : length (part s from size) ≡ size
-  part-length = simp (length-take, length-drop) (omega arith)
-
   part-byte : (i : ℕ) → i < size → getD (part s from size) i 0 ≡ getD s (from + i) 0
   part-byte i h = rw (getD-take, getD-drop)
 
-  symbol-in : (i : ℕ) → i < size → at (word plain (part s from size)) i ≡ suc (getD s (from + i) 0)
-  symbol-in i h = word-at plain (part s from size) i (omega (arith, part-length)) ∙ ap suc (part-byte i h)
+  symbol-in : (i : ℕ) → i < size → symbol s from size i ≡ suc (getD s (from + i) 0)
+  symbol-in i h = word-at plain (part s from size) i (omega (arith, part-length s from size inside)) ∙ ap suc (part-byte i h)
 
-  symbol-past : at (word plain (part s from size)) size ≡ 0
-  symbol-past = at-past (word plain (part s from size)) size (omega (arith, part-length, length-map (part s from size) plain))
+  symbol-past : (i : ℕ) → size ≤ i → symbol s from size i ≡ 0
+  symbol-past i h = at-past (word plain (part s from size)) i (omega (arith, part-length s from size inside, length-map (part s from size) plain))
 
 -- ---- what is noted
 
@@ -162,9 +136,14 @@ pub record Comparing (s : Bytes) (lens steps : List ℕ) (o p m n len i : ℕ) :
   pub in-new : i ≤ len
   pub agree : i ≤ shared (part s p m) (part s (o + 1) len)
 
-module _ {s : Bytes} {lens steps : List ℕ} {o p m n : ℕ} where
-  abbrev pub NewAbove : {len i : ℕ} → Comparing s lens steps o p m n len i → Type 0
-  NewAbove {len} {i} k = AboveAt (part s p m) (part s (o + 1) len) i
+module _ {s : Bytes} {lens steps : List ℕ} {o p m n len i : ℕ} where
+  -- and in no more
+  pub record Parted (k : Comparing s lens steps o p m n len i) : Type 0 where
+    pub shares : i ≡ shared (part s p m) (part s (o + 1) len)
+
+  pub record NewAbove (k : Comparing s lens steps o p m n len i) : Type 0 where
+    pub parted : Parted k
+    pub above : less (word plain (part s p m)) (word plain (part s (o + 1) len)) ≡ true
 
 pub reading-start : (s : Bytes) (lens steps : List ℕ) → length lens ≡ 2000 → length steps ≡ 2000 → ReadUpTo s lens steps 0 0 0 0
 unfolding readList
@@ -247,74 +226,123 @@ module _ {s : Bytes} {lens steps : List ℕ} {o p m n len i : ℕ} (k : Comparin
   sized : wellSized s o len ≡ true
   sized = rw (lt-ltb 0 len (k .some), le-leb len 200 (k .short), length-drop (o + 1) s, le-leb len (length s - (o + 1)) (omega (arith, k .whole)))
 
-  not-above : less (word plain (part s p m)) (word plain (part s (o + 1) len)) ≡ false → Judged s lens steps (Bad 6 n)
-  not-above e = refused s lens steps 6 n (asked (k .stands) true false _ sized e refl)
+  old-length : length (part s p m) ≡ m
+  old-length = part-length s p m (k .stands .read .inside)
 
   new-length : length (part s (o + 1) len) ≡ len
   new-length = part-length s (o + 1) len (k .whole)
 
+  old-byte : i < m → getD (part s p m) i 0 ≡ getD s (p + i) 0
+  old-byte h = part-byte s p m (k .stands .read .inside) i h
+
+  new-byte : i < len → getD (part s (o + 1) len) i 0 ≡ getD s (o + 1 + i) 0
+  new-byte h = part-byte s (o + 1) len (k .whole) i h
+
+  -- one byte more that is the same
+  one-more : i < m → i < len → getD s (p + i) 0 ≡ getD s (o + 1 + i) 0 → i < shared (part s p m) (part s (o + 1) len)
+  one-more h l e =
+      shared-more (part s p m) (part s (o + 1) len) i (k .agree) (omega (arith, old-length)) (omega (arith, new-length)) (old-byte h ∙ e ∙ sym (new-byte l))
+
+  -- the bytes are compared up to the end of the shorter name
+  module _ {most : ℕ} (least : most ≡ min len m) where
+    pub one-ends : i ≡ most → Parted k
+    one-ends e =
+        let in-old : shared (part s p m) (part s (o + 1) len) ≤ m = omega (arith, shared-le (part s p m) (part s (o + 1) len), old-length) in
+        let in-new : shared (part s p m) (part s (o + 1) len) ≤ len =
+        omega (arith, shared-le (part s (o + 1) len) (part s p m), shared-comm (part s p m) (part s (o + 1) len), new-length) in
+        record { shares = omega arith }
+
+    module _ (left : i ≡ most → ⊥) where
+      old-left : i < m
+      old-left = omega arith
+
+      new-left : i < len
+      new-left = omega arith
+
+      pub bytes-differ : (getD s (p + i) 0 ≡ getD s (o + 1 + i) 0 → ⊥) → Parted k
+      bytes-differ d = record {
+        shares = sym (part-at (part s p m) (part s (o + 1) len) i (k .agree) (λ e. d (sym (old-byte old-left) ∙ e ∙ new-byte new-left)));
+      }
+
+      pub byte-same : getD s (p + i) 0 ≡ getD s (o + 1 + i) 0 → Comparing s lens steps o p m n len (i + 1)
+      byte-same e = record {
+        stands = k .stands;
+        some = k .some;
+        short = k .short;
+        whole = k .whole;
+        in-old = omega (arith, old-left);
+        in-new = omega (arith, new-left);
+        agree = omega (arith, one-more old-left new-left e);
+      }
+
+-- where they part, their symbols tell which name is less
+module _ {s : Bytes} {lens steps : List ℕ} {o p m n len i : ℕ} {k : Comparing s lens steps o p m n len i} (q : Parted k) where
+  order : less (word plain (part s p m)) (word plain (part s (o + 1) len)) ≡ ltb (symbol s p m i) (symbol s (o + 1) len i)
+  order =
+      let e : shared (word plain (part s p m)) (word plain (part s (o + 1) len)) ≡ i =
+      shared-word plain plain-injective (part s p m) (part s (o + 1) len) ∙ sym (q .shares) in
+      less-by (word plain (part s p m)) (word plain (part s (o + 1) len)) i e
+
+  not-less : symbol s (o + 1) len i ≤ symbol s p m i → Judged s lens steps (Bad 6 n)
+  not-less l = refused s lens steps 6 n (asked (k .stands) true false _ (sized k) (order ∙ le-ltb (symbol s p m i) (symbol s (o + 1) len i) l) refl)
+
+  is-less : symbol s p m i < symbol s (o + 1) len i → NewAbove k
+  is-less l = record { parted = q; above = order ∙ lt-ltb (symbol s p m i) (symbol s (o + 1) len i) l }
+
   pub new-ends : i ≡ len → Judged s lens steps (Bad 6 n)
-  new-ends e = not-above (no-symbol (part s p m) (part s (o + 1) len) i (k .agree) (omega (arith, new-length)))
+  new-ends e = not-less (omega (arith, symbol-past s (o + 1) len (k .whole) i (omega arith)))
 
-  pub old-ends : i ≡ m → (i ≡ len → ⊥) → NewAbove k
-  old-ends e left =
-      let h : i < len = omega (arith, k .in-new) in
-      symbol-above (part s p m) (part s (o + 1) len) i (k .agree)
-      (rw (symbol-in s (o + 1) len (k .whole) i h, e, symbol-past s p m (k .stands .read .inside)) (omega arith))
+  module _ (left : i ≡ len → ⊥) where
+    some-left : i < len
+    some-left = omega (arith, k .in-new)
 
-  module _ (apart : i ≡ m → ⊥) (left : i ≡ len → ⊥) where
-    old : i < m
-    old = omega (arith, k .in-old)
+    new-symbol : symbol s (o + 1) len i ≡ suc (getD s (o + 1 + i) 0)
+    new-symbol = symbol-in s (o + 1) len (k .whole) i some-left
 
-    new : i < len
-    new = omega (arith, k .in-new)
+    pub old-ends : m ≤ i → NewAbove k
+    old-ends h = is-less (omega (arith, new-symbol, symbol-past s p m (k .stands .read .inside) i h))
 
-    old-symbol : at (word plain (part s p m)) i ≡ suc (getD s (p + i) 0)
-    old-symbol = symbol-in s p m (k .stands .read .inside) i old
+    module _ (h : i < m) where
+      old-symbol : symbol s p m i ≡ suc (getD s (p + i) 0)
+      old-symbol = symbol-in s p m (k .stands .read .inside) i h
 
-    new-symbol : at (word plain (part s (o + 1) len)) i ≡ suc (getD s (o + 1 + i) 0)
-    new-symbol = symbol-in s (o + 1) len (k .whole) i new
+      pub byte-below : getD s (o + 1 + i) 0 < getD s (p + i) 0 → Judged s lens steps (Bad 6 n)
+      byte-below l = not-less (omega (arith, old-symbol, new-symbol))
 
-    pub byte-above : getD s (p + i) 0 < getD s (o + 1 + i) 0 → NewAbove k
-    byte-above l = symbol-above (part s p m) (part s (o + 1) len) i (k .agree) (omega (arith, old-symbol, new-symbol))
+      pub byte-above : getD s (p + i) 0 ≤ getD s (o + 1 + i) 0 → NewAbove k
+      byte-above l =
+          let differ : getD s (p + i) 0 ≡ getD s (o + 1 + i) 0 → ⊥ = λ e. omega (arith, one-more k h some-left e, q .shares) in
+          is-less (omega (arith, old-symbol, new-symbol))
 
-    pub byte-below : getD s (o + 1 + i) 0 < getD s (p + i) 0 → Judged s lens steps (Bad 6 n)
-    byte-below l = not-above (symbol-below (part s p m) (part s (o + 1) len) i (k .agree) (omega (arith, old-symbol, new-symbol)))
+module _ {s : Bytes} {lens steps : List ℕ} {o p m n len i : ℕ} {k : Comparing s lens steps o p m n len i} (a : NewAbove k) where
+  pub too-many : 2000 ≤ n → Judged s lens steps (Bad 7 n)
+  too-many h = refused s lens steps 7 n (asked (k .stands) true true false (sized k) (a .above) (le-ltb n mostNames h))
 
-    pub byte-same : getD s (p + i) 0 ≤ getD s (o + 1 + i) 0 → getD s (o + 1 + i) 0 ≤ getD s (p + i) 0 → Comparing s lens steps o p m n len (i + 1)
-    byte-same l g =
-        let inside : p + m ≤ length s = k .stands .read .inside in
-        let more : i < shared (part s p m) (part s (o + 1) len) =
-        shared-more (part s p m) (part s (o + 1) len) i (k .agree) (omega (arith, part-length s p m inside)) (omega (arith, new-length))
-        (omega (arith, part-byte s p m inside i old, part-byte s (o + 1) len (k .whole) i new)) in
-        record { stands = k .stands; some = k .some; short = k .short; whole = k .whole; in-old = omega (arith, old); in-new = omega (arith, new); agree = omega arith }
+  pub list-falls : length s - (o + 1 + len) < length s - o
+  list-falls = omega (arith, k .whole)
 
-  module _ (a : NewAbove k) where
-    pub too-many : 2000 ≤ n → Judged s lens steps (Bad 7 n)
-    too-many h = refused s lens steps 7 n (asked (k .stands) true true false sized (a .above) (le-ltb n mostNames h))
-
-    pub reading-more : n < 2000 → ReadUpTo s (set lens n len) (set steps n i) (o + 1 + len) (o + 1) len (n + 1)
-    reading-more h =
-        let r : ReadUpTo s lens steps o p m n = k .stands .read in
-        let x : Bytes = part s (o + 1) len in
-        let rest : Bytes = drop (o + 1 + len) s in
-        let skipped : readFrom plain (suc n) x len (drop (o + 1) s) ≡ readFrom plain (n + 1) x 0 rest =
-        read-skip plain (suc n) x len (drop (o + 1) s) ∙ rw (drop-drop len (o + 1) s, add-one n) in
-        record {
-          within = k .whole;
-          inside = k .whole;
-          few = omega arith;
-          lens-size = length-set lens n len ∙ r .lens-size;
-          steps-size = length-set steps n i ∙ r .steps-size;
-          done = r .done ++ (x ∷ []);
-          counted = length-append (r .done) (x ∷ []) ∙ ap (λ (c : ℕ). c + 1) (r .counted);
-          alone = λ e. absurd (omega arith);
-          last = λ j e. getD-at (r .done) x [] [] j (r .counted ∙ omega arith);
-          noted = noted-more (r .done) x lens steps n len i (r .noted) (r .counted) (omega (arith, r .lens-size)) (omega (arith, r .steps-size)) new-length
-              (λ e. omega (arith, k .in-old, r .alone e))
-              (λ j e. a .shares ∙ ap (λ (y : Bytes). shared y x) (sym (r .last j e)));
-          so-far =
-              asked (k .stands) true true true sized (a .above) (lt-ltb n mostNames h)
-              ∙ ap (λ (y : Reading). onto (r .done) (after x y)) skipped
-              ∙ onto-after (r .done) x (readFrom plain (n + 1) x 0 rest);
-        }
+  pub reading-more : n < 2000 → ReadUpTo s (set lens n len) (set steps n i) (o + 1 + len) (o + 1) len (n + 1)
+  reading-more h =
+      let r : ReadUpTo s lens steps o p m n = k .stands .read in
+      let x : Bytes = part s (o + 1) len in
+      let rest : Bytes = drop (o + 1 + len) s in
+      let skipped : readFrom plain (suc n) x len (drop (o + 1) s) ≡ readFrom plain (n + 1) x 0 rest =
+      read-skip plain (suc n) x len (drop (o + 1) s) ∙ rw (drop-drop len (o + 1) s, add-one n) in
+      record {
+        within = k .whole;
+        inside = k .whole;
+        few = omega arith;
+        lens-size = length-set lens n len ∙ r .lens-size;
+        steps-size = length-set steps n i ∙ r .steps-size;
+        done = r .done ++ (x ∷ []);
+        counted = length-append (r .done) (x ∷ []) ∙ ap (λ (c : ℕ). c + 1) (r .counted);
+        alone = λ e. absurd (omega arith);
+        last = λ j e. getD-at (r .done) x [] [] j (r .counted ∙ omega arith);
+        noted = noted-more (r .done) x lens steps n len i (r .noted) (r .counted) (omega (arith, r .lens-size)) (omega (arith, r .steps-size)) (new-length k)
+            (λ e. omega (arith, k .in-old, r .alone e))
+            (λ j e. a .parted .shares ∙ ap (λ (y : Bytes). shared y x) (sym (r .last j e)));
+        so-far =
+            asked (k .stands) true true true (sized k) (a .above) (lt-ltb n mostNames h)
+            ∙ ap (λ (y : Reading). onto (r .done) (after x y)) skipped
+            ∙ onto-after (r .done) x (readFrom plain (n + 1) x 0 rest);
+      }

@@ -1,6 +1,7 @@
 // Judging a list: document 01, 'The first bad record ends the reading'. One loop over the records yields the verdict by `break`; the
-// comparison of a name with the one before is nested inside and left by its label. What it learns on the way, each name's length and
-// what it shares with the name before, is noted for those who write the book.
+// comparison of a name with the one before is nested inside and left by its label. It finds the bytes that both begin with; the next
+// byte then tells the order, in one test. What it learns on the way, each name's length and what it shares with the name before, is
+// noted for those who write the book.
 ghost use mathlib.Core.Path.{_≡_};
 ghost use lib.ListN.{length};
 ghost use Rattle.records.specs.Lists.{Judged};
@@ -37,23 +38,24 @@ pub fn judge(list: &[u8], lens: &mut [u8], steps: &mut [u8]) -> Verdict
         if list.len() - start < len {
             break 'records Verdict::Bad(5, n);
         }
+        let most = numbers::lesser(len, before);
         let mut i: usize = 0;
         'bytes: loop {
-            if i == len {
-                break 'records Verdict::Bad(6, n);
-            }
-            if i == before {
+            if i == most {
                 break 'bytes;
             }
-            let old = list[prev + i];
-            let new = list[start + i];
-            if new < old {
-                break 'records Verdict::Bad(6, n);
-            }
-            if old < new {
+            if list[prev + i] != list[start + i] {
                 break 'bytes;
             }
             i += 1;
+        }
+        if i == len {
+            break 'records Verdict::Bad(6, n);
+        }
+        if i < before {
+            if list[start + i] < list[prev + i] {
+                break 'records Verdict::Bad(6, n);
+            }
         }
         if 2000 <= n {
             break 'records Verdict::Bad(7, n);

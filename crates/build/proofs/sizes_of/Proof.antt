@@ -1,4 +1,4 @@
--- `build::sizes_of` meets its contract: the writers' own answers are the sizes.
+-- `build::sizes_of` meets its contract: what is counted are the sizes.
 -- Assumes nothing.
 use Rattle.build.proofs.WholeBook.{book-fits, nodes-fit, sizes-are, tables-fit}
 use borrow.Author.Needs.{needs}
@@ -9,13 +9,7 @@ pub sizes-of-spec : {M : Type 1} → statement M
 sizes-of-spec =
     tie.close
     (tie.spec
-    (λ c. search needs)
-    (λ c. search needs)
-    (λ c. search needs)
     (λ c κs. search needs)
-    (λ c. search needs)
-    (λ c. search needs)
-    (λ c. search needs)
     (λ c κs. search needs)
     (λ c. search needs)
     (λ c. search needs)

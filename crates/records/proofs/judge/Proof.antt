@@ -1,5 +1,5 @@
 -- `records::judge` meets its contract. The loop over the records keeps `ReadUpTo`, and the loop over two names' bytes `Comparing`; each way
--- that the code goes is a law of proofs/Reading.antt. The measures are what is left of the list and of the name. Assumes nothing.
+-- that the code goes is a law of proofs/Reading.antt. The measures are what is left of the list and of the shorter name. Assumes nothing.
 use Prim.Native.Nat.{_-_}
 use native.Mathlib.Omega.{arith}
 use mathlib.Core.Logic.{⊎-elim}
@@ -11,10 +11,10 @@ use Rattle.records.proofs.judge.Statement.{statement}
 use Rattle.records.proofs.judge.Tie as tie
 
 abbrev Inv-bytes : tie.InvT-bytes
-Inv-bytes list lens steps at prev before n len start i₀ i = law.Comparing list lens steps at prev before n len i
+Inv-bytes list lens steps at prev before n len start most i₀ i = law.Comparing list lens steps at prev before n len i
 
 abbrev μ-bytes : tie.MeasureT-bytes
-μ-bytes list lens steps at prev before n len start i₀ i = len - i
+μ-bytes list lens steps at prev before n len start most i₀ i = most - i
 
 abbrev Inv-records : tie.InvT-records
 Inv-records list lens₀ steps₀ at₀ prev₀ before₀ n₀ lens steps at prev before n = law.ReadUpTo list lens steps at prev before n
@@ -23,20 +23,18 @@ abbrev μ-records : tie.MeasureT-records
 μ-records list lens₀ steps₀ at₀ prev₀ before₀ n₀ lens steps at prev before n = length list - at
 
 -- the comparison was left by either `break 'bytes`
-parted : (c : tie.Joined6 Inv-bytes μ-bytes Inv-records μ-records) → law.NewAbove (c .before .before .bytes .inv)
+parted : (c : tie.Left-bytes Inv-bytes μ-bytes Inv-records μ-records) → law.Parted (c .before .bytes .inv)
 parted c = ⊎-elim
-    (λ w. search law.old-ends)
-    (λ w. search law.byte-above)
-    (c .if6 .came)
+    (λ w. search law.one-ends)
+    (λ w. search law.bytes-differ)
+    (c .bytes-test .came)
 
-records-again : tie.Need-records-again Inv-bytes μ-bytes Inv-records μ-records
-records-again c = law.reading-more (c .before .before .before .bytes .inv) (parted (c .before)) (omega arith)
-
-returns-6 : tie.Need-returns-6 Inv-bytes μ-bytes Inv-records μ-records
-returns-6 c = law.byte-below (c .before .before .before .before .before .bytes .inv) (search needs) (search needs) (c .if7 .taken)
-
-returns-7 : tie.Need-returns-7 Inv-bytes μ-bytes Inv-records μ-records
-returns-7 c = law.too-many (c .before .before .before .bytes .inv) (parted (c .before)) (omega arith)
+-- the name before has a byte there, or none
+above : (c : tie.Joined7 Inv-bytes μ-bytes Inv-records μ-records) → law.NewAbove (c .before .before .before .bytes .inv)
+above c = ⊎-elim
+    (λ w. law.byte-above (parted (c .before .before)) (c .before .if6 .left) (w .0 .taken) (w .3 .left))
+    (λ w. law.old-ends (parted (c .before .before)) (c .before .if6 .left) (w .left))
+    (c .if7 .came)
 
 pub judge-spec : {M : Type 1} → statement M
 judge-spec =
@@ -51,6 +49,7 @@ judge-spec =
     (λ c κs. search needs)
     (λ c. omega arith)
     (λ c. omega arith)
+    (λ c κs. search needs)
     (λ c. search law.comparing-start)
     (λ c. omega arith)
     (λ c. omega arith)
@@ -66,7 +65,11 @@ judge-spec =
     (λ c. omega arith)
     (λ c. omega arith)
     (λ c. omega arith)
-    records-again
+    (λ c. omega arith)
+    (λ c. omega arith)
+    (λ c. omega arith)
+    (λ c. law.list-falls (above (c .before)))
+    (λ c. law.reading-more (above (c .before)) (c .if9 .left))
     (λ c. omega arith)
     (λ c. omega arith)
     (λ c. search law.good-list)
@@ -81,10 +84,10 @@ judge-spec =
     (λ c. search law.cut-name)
     (λ c. omega arith)
     (λ c. omega arith)
-    (λ c. search law.new-ends)
+    (λ c. law.new-ends (parted (c .before)) (c .if6 .taken))
     (λ c. omega arith)
     (λ c. omega arith)
-    returns-6
+    (λ c. search (law.byte-below, parted (c .before .before .before .before .before)))
     (λ c. omega arith)
     (λ c. omega arith)
-    returns-7)
+    (λ c. law.too-many (above (c .before)) (c .if9 .taken)))
