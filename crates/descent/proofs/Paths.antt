@@ -1,6 +1,7 @@
 -- The descent as a path of nodes, and what is concluded on it.
 --     halt-leaf, halt-short, halt-end, halt-other, taken     the ways that q can take at a node
 --     passed-start, passed-room, passed-on, passed-few               the path as it grows
+--     passed-deepens   its depths rise
 --     found            the highest node whose depth is at least what the reached name shares: it holds the names that share most
 --     edge-.., fork-.. the place there
 -- Assumes nothing.
@@ -222,6 +223,18 @@ module _ (ws : Words) where
 
       pub passed-few : n ≤ 202
       passed-few = omega (arith, t .count, depth-few passed-sits short)
+
+      -- depths rise along the path
+      pub passed-deepens : (i j : ℕ) → i < j → j < n → node ws (getD p i 0) .depth < node ws (getD p j 0) .depth
+      passed-deepens i zero h k = absurd (lt-irrefl i (omega arith))
+      passed-deepens i (suc j) h k = go (λ x. passed-deepens i j x (omega arith)) (apart i j)
+        where
+          go : (i < j → node ws (getD p i 0) .depth < node ws (getD p j 0) .depth) → (i < j) ⊎ (j ≤ i)
+              → node ws (getD p i 0) .depth < node ws (getD p (suc j) 0) .depth
+          go ih (inl x) = omega (arith, ih x, t .step j k .deeper)
+          go ih (inr x) =
+              let e : j ≡ i = omega arith in
+              subst (λ (a : ℕ). node ws (getD p a 0) .depth < node ws (getD p (suc j) 0) .depth) e (t .step j k .deeper)
 
       module _ {c : ℕ} (k : Taken ws q v c) where
         pub passed-room : n < 202

@@ -1,10 +1,12 @@
 -- A name that is read back and put into a room.
+--     position-ask      an accepting check lets each position be asked
+--     block-none        the block of a position where k is 0
 --     Found, found, found-asks, found-name      where the block of a position starts, and what streams from there
 --     fronted-..        bytes at the front of a room, one by one
 --     put-short, put-all            the room is too short; it holds the name
 -- Assumes nothing.
 use Prim.Native.Nat.{ℕ, _*_, _+_, _-_, _/_, _<_, _≤_}
-use native.Mathlib.Nat.{div-add-mod', div-le-self}
+use native.Mathlib.Nat.{div-add-mod', div-le-self, div-zero}
 use native.Mathlib.Numerals.{add-one}
 use native.Mathlib.Omega.{arith}
 use mathlib.Core.Path.{_≡_, _∙_, ap, ap₂, refl, subst, sym}
@@ -12,30 +14,46 @@ use mathlib.Core.List.{List, [], _++_}
 use lib.ListN.{drop, getD, length, length-drop, length-set, set, take}
 use lib.Seq.{getD-drop, length-take-le, paste, paste-suc, paste-zero, take-all}
 use borrow.Author.Tests.{le-leb, lt-leb}
-use Rattle.words.specs.Words.{Bytes}
-use Rattle.format.specs.Book.{number}
-use Rattle.format.specs.Outcomes.{over}
+use Rattle.words.specs.Words.{Bytes, plain}
+use Rattle.format.specs.Book.{number, opened}
+use Rattle.format.specs.Outcomes.{checkOf, over}
+use Rattle.numbers.proofs.Parts.{Held}
 use Rattle.streams.specs.Runs.{Rest}
 use Rattle.streams.specs.Streams.{namesOf}
 use Rattle.streams.proofs.Rereading.{block-from}
 use Rattle.streams.proofs.Walks.{has-names}
 use Rattle.entries.specs.Judging.{NameIs, ReadAsk}
-use Rattle.accept.specs.Parts.{told, toldNames}
+use Rattle.accept.specs.Parts.{checkedNumbers, told, toldNames}
+use Rattle.accept.specs.declared.Checked.{Checked}
+use Rattle.accept.specs.declared.Checked.the-variants.{Sound}
+use Rattle.accept.proofs.Judging.{checked-sound}
 use Rattle.names.specs.Names.{Named, PositionAsk, Put}
+
+-- ---- what can be asked
+
+pub position-ask : (b : Bytes) (n k position : ℕ) → Held b → (v : Checked) → checkedNumbers v ≡ checkOf (opened plain b) → v ≡ Sound n k → position < n
+    → PositionAsk b k position
+position-ask b n k position held v s u h =
+    let t = checked-sound b n k held v s u in
+    record { parts = t .parts; block = t .block; within = omega (arith, t .count) }
 
 -- ---- where a position's block starts
 
-pub record Found (b : Bytes) (k position table : ℕ) : Type 0 where
-  pub room : table + 2 * (position / k) + 2 ≤ length b
+-- a division by 0 gives 0
+pub block-none : (position : ℕ) {k : ℕ} → k ≡ 0 → 0 ≡ position / k
+block-none position e = sym (ap (λ (n : ℕ). position / n) e ∙ div-zero position)
+
+pub record Found (b : Bytes) (k position table block : ℕ) : Type 0 where
+  pub room : table + 2 * block + 2 ≤ length b
   pub few : position ≤ 2000
-  pub below : position / k ≤ position
-  pub first : position / k * k ≤ position
-  pub reads : ReadAsk b (number b (table + 2 * (position / k))) (position - position / k * k)
-  pub gives : (name : Bytes) (len : ℕ) → NameIs b (number b (table + 2 * (position / k))) (position - position / k * k) name len
+  pub below : block ≤ position
+  pub first : block * k ≤ position
+  pub reads : ReadAsk b (number b (table + 2 * block)) (position - block * k)
+  pub gives : (name : Bytes) (len : ℕ) → NameIs b (number b (table + 2 * block)) (position - block * k) name len
       → Named (getD (namesOf b) position []) len name
 
-pub found : (b : Bytes) (k position table : ℕ) → PositionAsk b k position → table ≡ told b 4 → Found b k position table
-found b k position table a e =
+found-told : (b : Bytes) (k position : ℕ) → PositionAsk b k position → Found b k position (told b 4) (position / k)
+found-told b k position a =
     let p = a .parts in
     let has = p .entries in
     let inside : told b 4 ≤ length b = omega (arith, p .trail .total, p .trail .order) in
@@ -47,7 +65,7 @@ found b k position table a e =
     (position / k) (position / k * k) (told b 4) 0 [] (has .names) (omega arith) inside r refl (omega arith) in
     let d : position / k * k + (position - position / k * k) ≡ position = omega arith in
     let u : position - position / k * k < length (drop (position / k * k) (has .names)) = omega (arith, length-drop (position / k * k) (has .names)) in
-    subst (Found b k position) (sym e) (record {
+    record {
       room = omega (arith, f .room, p .trail .total);
       few = omega (arith, within, has .count, p .trail .few);
       below = div-le-self position k;
@@ -60,15 +78,19 @@ found b k position table a e =
         room = n .room;
         size = n .size;
       };
-    })
+    }
+
+pub found : {b : Bytes} {k position table block : ℕ} → PositionAsk b k position → table ≡ told b 4 → block ≡ position / k → Found b k position table block
+found {b} {k} {position} {table} a e f =
+    subst (Found b k position table) (sym f) (subst (λ (t : ℕ). Found b k position t (position / k)) (sym e) (found-told b k position a))
 
 -- with the offset that the code has read
-module _ (b : Bytes) (k position table start : ℕ) (f : Found b k position table) (e : start ≡ number b (table + 2 * (position / k))) where
-  pub found-asks : ReadAsk b start (position - position / k * k)
-  found-asks = subst (λ (n : ℕ). ReadAsk b n (position - position / k * k)) (sym e) (f .reads)
+module _ {b : Bytes} {k position table block start : ℕ} (f : Found b k position table block) (e : start ≡ number b (table + 2 * block)) where
+  pub found-asks : ReadAsk b start (position - block * k)
+  found-asks = subst (λ (n : ℕ). ReadAsk b n (position - block * k)) (sym e) (f .reads)
 
-  pub found-name : (name : Bytes) (len : ℕ) → NameIs b start (position - position / k * k) name len → Named (getD (namesOf b) position []) len name
-  found-name name len n = f .gives name len (subst (λ (o : ℕ). NameIs b o (position - position / k * k) name len) e n)
+  pub found-name : (name : Bytes) (len : ℕ) → NameIs b start (position - block * k) name len → Named (getD (namesOf b) position []) len name
+  found-name name len n = f .gives name len (subst (λ (o : ℕ). NameIs b o (position - block * k) name len) e n)
 
 -- ---- at the front of a room
 

@@ -1,11 +1,22 @@
 // A name read back from a book, from the start of its block on.
 ghost use mathlib.Core.Path.{_≡_};
 ghost use mathlib.Core.List.{[]};
-ghost use Prim.Native.Nat.{_≤_};
+ghost use Prim.Native.Nat.{_/_, _≤_};
 ghost use lib.ListN.{getD, length};
 ghost use Rattle.format.specs.Outcomes.{over};
 ghost use Rattle.streams.specs.Streams.{namesOf};
 ghost use Rattle.names.specs.Names.{Named, PositionAsk, Put};
+
+// The block of a position. k is never 0; that it is asked leaves no trap in the compiled code, in front of which every array that is used
+// later would be copied.
+fn block_of(k: usize, position: usize) -> usize
+    ensures { λ r. ⌜ r ≡ position / k ⌝ }
+{
+    if k == 0 {
+        return 0;
+    }
+    position / k
+}
 
 // The name at a position of a book with blocks of k names.
 pub fn read_name(book: &[u8], k: usize, position: usize) -> entries::Entry
@@ -14,7 +25,7 @@ pub fn read_name(book: &[u8], k: usize, position: usize) -> entries::Entry
 {
     let at = book.len() - 16;
     let table = numbers::number_at(book, at + 4);
-    let block = position / k;
+    let block = block_of(k, position);
     let start = numbers::number_at(book, table + 2 * block);
     entries::name_of(book, start, position - block * k)
 }

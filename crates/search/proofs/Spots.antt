@@ -1,5 +1,5 @@
 -- The node that is found, and the answers there.
---     Climbing, climb-..   the loop of `highest`
+--     Climbing, climb-..   the loop of `highest`, from the end of the path
 --     end-.., met-..       the last node of the path; the name that is reached, and how it stands to the question
 --     spot                 the highest node that is deep enough is the one with the names that share most
 --     seat-..              the place there: before or after the edge, a child, the end of the row
@@ -21,7 +21,7 @@ use Rattle.answers.specs.Questions.{Pair as Numbers, ask, count, exact, nearest
 use Rattle.answers.proofs.Nearest.{reached-most}
 use Rattle.descent.specs.Vocabulary.{Descended, Highest, Reached, Searchable, Sits, Sought, asked, from, node, upto, wordsIn}
 use Rattle.descent.proofs.Cuts.{exact-here, exact-nowhere, range-none, whole-range}
-use Rattle.descent.proofs.Paths.{edge-after, edge-before, fork-child, fork-end, fork-wide, found, only-reached, passed-sits, reached-is}
+use Rattle.descent.proofs.Paths.{edge-after, edge-before, fork-child, fork-end, fork-wide, found, only-reached, passed-deepens, passed-sits, reached-is}
 use Rattle.streams.specs.Streams.{namesOf, wordsOf}
 use Rattle.accept.specs.Parts.{told}
 use Rattle.names.specs.Names.{Named}
@@ -30,38 +30,54 @@ use Rattle.search.proofs.Ways.{asked-length}
 
 -- ---- `highest`
 
--- the first j nodes of the path are less deep than m
+-- from the end of the path to j no node but the last is less deep than m
 pub record Climbing (b : Bytes) (start : ℕ) (p : List ℕ) (n m j : ℕ) : Type 0 where
   pub nodes : OnPath b start p n
   pub within : j < n
-  pub above : (i : ℕ) → i < j → node (wordsIn plain b) (getD p i 0) .depth < m
+  pub deep : (m ≤ node (wordsIn plain b) (getD p j 0) .depth) ⊎ (suc j ≡ n)
 
-pub climb-start : {b : Bytes} {start : ℕ} {p : List ℕ} {n m : ℕ} → OnPath b start p n → Climbing b start p n m 0
-climb-start t = record { nodes = t; within = t .some; above = λ i h. absurd (lt-irrefl i (omega arith)) }
+pub climb-start : {b : Bytes} {start : ℕ} {p : List ℕ} {n m : ℕ} → OnPath b start p n → Climbing b start p n m (n - 1)
+climb-start t = record { nodes = t; within = omega (arith, t .some); deep = inr (omega (arith, t .some)) }
 
 module _ {b : Bytes} {start : ℕ} {p : List ℕ} {n m j : ℕ} (k : Climbing b start p n m j) where
-  module _ {v : ℕ} (e : v ≡ getD p j 0) where
+  -- node r of the path is the highest, if those above it are less deep
+  climbed : {r : ℕ} → r ≡ getD p j 0 → ((i : ℕ) → i < j → node (wordsIn plain b) (getD p i 0) .depth < m) → Highest (wordsIn plain b) p n m r
+  climbed {r} e a = record {
+    index = j;
+    within = k .within;
+    is = e;
+    above = a;
+    deep = subst (λ (u : ℕ). (m ≤ node (wordsIn plain b) u .depth) ⊎ (suc j ≡ n)) (sym e) (k .deep);
+  }
+
+  pub climb-end : j ≤ 0 → {r : ℕ} → r ≡ getD p 0 0 → Highest (wordsIn plain b) p n m r
+  climb-end h e =
+      let z : 0 ≡ j = omega arith in
+      climbed (e ∙ ap (λ (i : ℕ). getD p i 0) z) (λ i x. absurd (lt-irrefl i (omega arith)))
+
+  -- v is the node before, d its depth
+  module _ (h : 0 < j) {v : ℕ} (e : v ≡ getD p (j - 1) 0) where
     pub climb-numbered : Numbered b start v
     climb-numbered = record {
       searchable = k .nodes .searchable;
-      inside = subst (λ (u : ℕ). u < length (table (wordsIn plain b))) (sym e) (k .nodes .sits j (k .within) .inside);
+      inside = subst (λ (u : ℕ). u < length (table (wordsIn plain b))) (sym e) (k .nodes .sits (j - 1) (omega (arith, k .within)) .inside);
     }
 
-    pub climb-end : n ≤ j + 1 → Highest (wordsIn plain b) p n m v
-    climb-end h = record { index = j; within = k .within; is = e; above = k .above; deep = inr (omega (arith, k .within)) }
+    module _ {d : ℕ} (de : d ≡ node (wordsIn plain b) v .depth) where
+      depth-is : d ≡ node (wordsIn plain b) (getD p (j - 1) 0) .depth
+      depth-is = de ∙ ap (λ (u : ℕ). node (wordsIn plain b) u .depth) e
 
-    -- d is the node's depth
-    pub climb-found : {d : ℕ} → d ≡ node (wordsIn plain b) v .depth → m ≤ d → Highest (wordsIn plain b) p n m v
-    climb-found de h = record { index = j; within = k .within; is = e; above = k .above; deep = inl (omega arith) }
+      pub climb-more : m ≤ d → Climbing b start p n m (j - 1)
+      climb-more l = record { nodes = k .nodes; within = omega (arith, k .within); deep = inl (omega (arith, depth-is)) }
 
-    pub climb-more : j + 1 < n → {d : ℕ} → d ≡ node (wordsIn plain b) v .depth → d < m → Climbing b start p n m (j + 1)
-    climb-more h {d} de l = record { nodes = k .nodes; within = h; above = λ i x. go i x (apart i j) }
-      where
-        go : (i : ℕ) → i < j + 1 → (i < j) ⊎ (j ≤ i) → node (wordsIn plain b) (getD p i 0) .depth < m
-        go i x (inl y) = k .above i y
-        go i x (inr y) =
-            let f : v ≡ getD p i 0 = e ∙ ap (λ (a : ℕ). getD p a 0) {y = i} (omega arith) in
-            subst (λ (u : ℕ). node (wordsIn plain b) u .depth < m) f (omega arith)
+      pub climb-found : d < m → {r : ℕ} → r ≡ getD p j 0 → Highest (wordsIn plain b) p n m r
+      climb-found l f = climbed f (λ i x. go i x (apart i (j - 1)))
+        where
+          go : (i : ℕ) → i < j → (i < j - 1) ⊎ (j - 1 ≤ i) → node (wordsIn plain b) (getD p i 0) .depth < m
+          go i x (inl y) = omega (arith, depth-is, k .nodes .deepens i (j - 1) y (omega (arith, k .within)))
+          go i x (inr y) =
+              let g : j - 1 ≡ i = omega arith in
+              subst (λ (a : ℕ). node (wordsIn plain b) (getD p a 0) .depth < m) g (omega (arith, depth-is))
 
 -- ---- `meet`
 
@@ -92,7 +108,7 @@ module _ (b q : Bytes) {start : ℕ} (o : Searchable plain b start) {p : List �
   end-numbered = record { searchable = o; inside = ends .inside }
 
   pub end-path : OnPath b start p n
-  end-path = record { searchable = o; long = t .path .long; some = t .path .some; few = t .few; sits = t .path .sits }
+  end-path = record { searchable = o; long = t .path .long; some = t .path .some; few = t .few; sits = t .path .sits; deepens = passed-deepens (wordsIn plain b) (o .rises) (t .path) (o .short) }
 
   module _ {r : ℕ} (f : r ≡ node (wordsIn plain b) last .first) where
     is : r ≡ reached (asked plain q) (wordsIn plain b)

@@ -2,7 +2,7 @@
 --     Numbered, FieldAsk    a record of the node table; one of its fields
 --     AtNode, AtFork        a node; a node of several names
 --     WayOf                 where a question goes from a node
---     OnPath                the front of an array holds nodes
+--     OnPath                the front of an array holds nodes, each deeper than the one before
 --     NameAsk, MetSays      a name can be read; how it stands to a question
 --     SpotSays, AtSpot      the node whose names share most with a question
 --     Askable, KindAsk      what an accepted book with names is to a search; the kind has a number from 1 on
@@ -48,13 +48,14 @@ abbrev pub WayOf : Words → List ℕ → ℕ → Way → Type 0
 WayOf ws q v (Down c) = Taken ws q v c
 WayOf ws q v Stay = Halts ws q v
 
--- the first n numbers of p are nodes
+-- the first n numbers of p are nodes, and their depths rise
 pub record OnPath (b : Bytes) (start : ℕ) (p : List ℕ) (n : ℕ) : Type 0 where
   pub searchable : Searchable plain b start
   pub long : length p ≡ 202
   pub some : 0 < n
   pub few : n ≤ 202
   pub sits : (j : ℕ) → j < n → Sits (wordsIn plain b) (getD p j 0)
+  pub deepens : (i j : ℕ) → i < j → j < n → node (wordsIn plain b) (getD p i 0) .depth < node (wordsIn plain b) (getD p j 0) .depth
 
 -- ---- the name that is reached
 

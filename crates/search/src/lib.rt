@@ -161,21 +161,25 @@ fn descend(book: &[u8], nodes: usize, question: &[u8]) -> Descent
     }
 }
 
-// The highest node of the path whose depth is at least `shared`, or the last.
+// The highest node of the path whose depth is at least `shared`, or the last. It is looked for from the end, where it mostly stands: depths
+// rise along the path, so it is the first one that has a less deep node above it, or the root. The path is taken out of the struct, since
+// the compiler copies it twice where it is indexed in there.
 fn highest(book: &[u8], nodes: usize, way: Descent, shared: usize) -> usize
     requires { ⌜ OnPath (now book) nodes (way .path) (way .len) ⌝ }
     ensures { λ r. ⌜ Highest (wordsIn plain (now (book .entry))) (way .path) (way .len) shared r ⌝ }
 {
+    let path = way.path;
     let len = way.len;
-    let mut j: usize = 0;
-    while j + 1 < len {
-        let v = numbers::wide16(way.path[j]);
-        if shared <= depth_of(book, nodes, v) {
-            return v;
+    let mut j = len - 1;
+    while 0 < j {
+        let above = j - 1;
+        let v = numbers::wide16(path[above]);
+        if depth_of(book, nodes, v) < shared {
+            return numbers::wide16(path[j]);
         }
-        j += 1;
+        j = above;
     }
-    numbers::wide16(way.path[j])
+    numbers::wide16(path[0])
 }
 
 // The name at a position, rebuilt, and how it stands to the question.

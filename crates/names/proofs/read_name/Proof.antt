@@ -6,16 +6,10 @@ use borrow.Author.Needs.{needs}
 use Rattle.names.proofs.read_name.Statement.{statement}
 use Rattle.names.proofs.read_name.Tie as tie
 
--- where the table's start is read
-here : (c : tie.After-number-at)
-    → Found (c .before .before .args .book .now) (c .before .before .args .k) (c .before .before .args .position) (c .number-at .result)
+-- where the block is known
+here : (c : tie.After-block-of) → let a = c .before .before .before .args in
+    Found (a .book .now) (a .k) (a .position) (c .before .number-at .result) (c .block-of .result)
 here c = search found
-
-sub-name-of : tie.Need-sub-name-of
-sub-name-of c = here (c .before) .first
-
-name-of-requires : tie.Need-name-of-requires
-name-of-requires c κs = found-asks _ _ _ _ _ (here (c .before)) (c .number-at2 .ensures .0)
 
 pub read-name-spec : {M : Type 1} → statement M
 read-name-spec =
@@ -24,11 +18,11 @@ read-name-spec =
     (λ c. search needs)
     (λ c. search needs)
     (λ c κs. search needs)
-    (λ c. search needs)
+    (λ c κs. search needs)
     (λ c. omega (arith, here c))
     (λ c. omega (arith, here c))
     (λ c κs. omega (arith, here c))
     (λ c. omega (arith, here (c .before)))
-    sub-name-of
-    name-of-requires
+    (λ c. here (c .before) .first)
+    (λ c κs. search (found-asks, here (c .before)))
     (λ c. search (found, found-name)))

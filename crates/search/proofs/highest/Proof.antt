@@ -1,7 +1,6 @@
--- `search::highest` meets its contract. The invariant of its loop is `Climbing`: the nodes passed are less deep than `shared`.
--- The measure is what is left of the path.
+-- `search::highest` meets its contract. The invariant of its loop is `Climbing`: from the end of the path on, each node but the last is deep enough.
+-- The measure is the number of nodes above.
 -- Assumes nothing.
-use Prim.Native.Nat.{_-_}
 use native.Mathlib.Omega.{arith}
 use borrow.Author.Needs.{needs}
 use Rattle.search.proofs.Spots.{Climbing, climb-end, climb-found, climb-more, climb-numbered, climb-start}
@@ -9,13 +8,10 @@ use Rattle.search.proofs.highest.Statement.{statement}
 use Rattle.search.proofs.highest.Tie as tie
 
 abbrev Inv-loop : tie.InvT-loop
-Inv-loop book nodes shared way len j₀ j = Climbing book nodes (way .path) len shared j
+Inv-loop book nodes shared path len j₀ j = Climbing book nodes path len shared j
 
 abbrev μ-loop : tie.MeasureT-loop
-μ-loop book nodes shared way len j₀ j = len - j
-
-loop-again : tie.Need-loop-again Inv-loop μ-loop
-loop-again c = climb-more (c .before .before .before .before .before .loop .inv) (c .before .before .wide16 .ensures .0) (search needs) (c .before .depth-of .ensures) (search needs)
+μ-loop book nodes shared path len j₀ j = j
 
 pub highest-spec : {M : Type 1} → statement M
 highest-spec =
@@ -23,17 +19,19 @@ highest-spec =
     (tie.spec
     Inv-loop
     μ-loop
+    (λ c. search needs)
     (λ c. climb-start (search needs))
     (λ c. omega arith)
     (λ c. omega arith)
     (λ c. omega arith)
     (λ c κs. search needs)
     (λ c κs. search climb-numbered)
+    (λ c. omega arith)
+    (λ c. omega arith)
+    (λ c κs. search needs)
     (λ c. search climb-found)
     (λ c. omega arith)
-    (λ c. omega arith)
-    loop-again
-    (λ c. omega arith)
+    (λ c. search climb-more)
     (λ c. omega arith)
     (λ c κs. search needs)
     (λ c. search climb-end))
