@@ -2,7 +2,6 @@
 --     build-within      the bytes that an accepted build counts stand in the room
 --     read-within       the bytes that a read counts stand in the room; a refused one counts none
 --     build-kept, read-kept, batch-kept     a refused call changes nothing; another one nothing behind the bytes that it counts
---     check-within      what an accepted check accepts has a trailer, and a block size that is not 0
 --     question-long, question-none, question-given      1 before 10; 10; what the list answers
 --     GoodRow, row-good, row-bad     a batch row that can be asked: what it gets, and what another gets
 --     batch-rows        every row of an accepted batch gets its own answer
@@ -18,12 +17,11 @@ use borrow.Author.Tests.{eq-eqb, eqb-true, le-leb, leb-true, lt-leb}
 use Rattle.words.specs.Words.{Bytes, Rule, both, pick}
 use Rattle.words.proofs.Words.{both-true}
 use Rattle.format.specs.Records.{Names, Reading, Refused, longest, readList}
-use Rattle.format.specs.Book.{Book, NoBook, Opened, book, goodBlock, longestBook, opened, trailerSize}
-use Rattle.format.proofs.Book.{book-length, book-opened, fits-parts}
+use Rattle.format.specs.Book.{Book, NoBook, Opened, book, goodBlock, longestBook, opened}
 use Rattle.format.proofs.Outcomes.{Kept, picked, same-kept, write-kept}
 use Rattle.format.proofs.Records.{read-refused}
-use Rattle.format.specs.Outcomes.{Answer, Written, checkOf, given, over, refused, write}
-use Rattle.answers.specs.Calls.{Batched, Row, batch, batchOf, build, builtFrom, check, goodRow, questionOf, readBack, readBackOf, rowAnswer}
+use Rattle.format.specs.Outcomes.{Answer, Written, given, over, refused, write}
+use Rattle.answers.specs.Calls.{Batched, Row, batch, batchOf, build, builtFrom, goodRow, questionOf, readBack, readBackOf, rowAnswer}
 use Rattle.answers.specs.Questions.{Pair, answer}
 
 -- ---- what the numbers count
@@ -80,23 +78,6 @@ module _ (room : Bytes) where
     pub read-kept : (s : Bytes) (i : ℕ) → Kept room (readBack ρ s i room)
     unfolding readBack
     read-kept s i = read-of-kept i (opened ρ s)
-
--- what an accepted check says of the bytes
-pub record Trailed (s : Bytes) (a : Answer) : Type 0 where
-  pub low : 1 ≤ a .second
-  pub size : trailerSize ≤ length s
-
-module _ (ρ : Rule) (s : Bytes) where
-  check-of-within : (o : Opened) → opened ρ s ≡ o → checkOf o .code ≡ 0 → Trailed s (checkOf o)
-  unfolding checkOf
-  check-of-within NoBook p e = absurd (omega arith)
-  check-of-within (Book k xs) p e =
-      let b = book-opened ρ s k xs p in
-      record { low = fits-parts ρ k xs (b .0) .low; size = omega (arith, book-length ρ k xs, ap length (b .1)) }
-
-  pub check-within : (a : Answer) → a ≡ check ρ s → a .code ≡ 0 → Trailed s a
-  unfolding check
-  check-within a p = rw p (check-of-within (opened ρ s) refl)
 
 -- ---- a question to a book of some names
 

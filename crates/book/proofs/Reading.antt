@@ -1,7 +1,7 @@
 -- How a check and a read end, by the ways that the calls go.
 --     check-unsound                         no book; that a check accepts is `check-sound` of the crate questions
 --     read-unsound, read-past               no book; no name at the position
---     position-ask, read-short, read-put    the name can be read; the room is too short; the name stands at its front
+--     read-short, read-put                  the room is too short; the name stands at its front
 -- Assumes nothing.
 use Prim.Native.Nat.{ℕ, _<_, _≤_}
 use native.Mathlib.Omega.{arith}
@@ -18,13 +18,13 @@ use Rattle.format.proofs.Book.{book-opened, fits-parts}
 use Rattle.format.proofs.Records.{rising-sizes, sound-rising}
 use Rattle.format.specs.Outcomes.{Answer as Numbers, Written, checkOf, given, over, refused, write}
 use Rattle.answers.specs.Calls.{check, readBack, readBackOf}
-use Rattle.numbers.proofs.Parts.{Held, held-bytes}
+use Rattle.numbers.proofs.Parts.{Held}
 use Rattle.streams.specs.Streams.{namesOf}
 use Rattle.accept.specs.Parts.{checkedNumbers}
 use Rattle.accept.specs.declared.Checked.{Checked}
 use Rattle.accept.specs.declared.Checked.the-variants.{Sound, Unsound}
-use Rattle.accept.proofs.Judging.{SoundBook, sound-book}
-use Rattle.names.specs.Names.{PositionAsk, Put}
+use Rattle.accept.proofs.Judging.{SoundBook, checked-sound}
+use Rattle.names.specs.Names.{Put}
 use Rattle.shapes.specs.Shapes.{answered}
 use Rattle.shapes.specs.declared.Answer.{Answer}
 use Rattle.questions.proofs.Checks.{no-book}
@@ -48,7 +48,7 @@ read-unsound b room i r e v s u = ap (ended room) e ∙ sym (ap (readBackOf i ro
 
 module _ (b room : Bytes) (i n k : ℕ) (held : Held b) (v : Checked) (s : checkedNumbers v ≡ checkOf (opened plain b)) (u : v ≡ Sound n k) where
   shown : SoundBook b n k
-  shown = sound-book b n k (held-bytes b held) (ap checkedNumbers (sym u) ∙ s)
+  shown = checked-sound b n k held v s u
 
   abbrev name : Bytes
   name = getD (namesOf b) i []
@@ -60,9 +60,6 @@ module _ (b room : Bytes) (i n k : ℕ) (held : Held b) (v : Checked) (s : check
   pub read-past : (r : Answer) → answered r ≡ refused 3 → n ≤ i → written r room ≡ readBack plain b i room
   unfolding readBackOf
   read-past r e h = ap (ended room) e ∙ sym (asked ∙ rw (le-ltb i (length (namesOf b)) (omega (arith, shown .count))) refl)
-
-  pub position-ask : i < n → PositionAsk b k i
-  position-ask h = record { parts = shown .parts; block = shown .block; within = omega (arith, shown .count) }
 
   module _ (h : i < n) where
     within : i < length (namesOf b)

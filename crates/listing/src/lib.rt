@@ -1,8 +1,9 @@
 // The listing of a book, on standard output: a line of numbers, then a line for each name. Whatever bytes come, it is safe and ends.
-// The work is done by `book::book_check` and `book::book_read`. Each read checks the whole book again: a call trusts no bytes, and a
-// listing is in no hurry. No call tells what an entry stores, so the stored count is made of the name before.
-ghost use Prim.Native.Nat.{_<_, _≤_};
+// The book is checked once, by `accept::check_book`; then each name is read by `names::read_name`, which trusts what the check has
+// shown. What an entry stores is not told with its name, so the stored count is made of the name before.
+ghost use Prim.Native.Nat.{ℕ, _<_, _≤_};
 ghost use lib.ListN.{length};
+ghost use Rattle.names.specs.Names.{PositionAsk};
 use libc::STDOUT_FILENO;
 
 // A number, after a word or a space.
@@ -75,15 +76,15 @@ fn say_line(position: usize, k: usize, before: &[u8], name: &[u8])
 
 // The lines of n names in blocks of k.
 fn say_lines(book: &[u8], n: usize, k: usize)
-    requires { ⌜ 0 < k ⌝ }
+    requires { ⌜ ((i : ℕ) → i < n → PositionAsk (now book) k i) ⌝ }
 {
     let mut before = [0u8; 200];
     let mut before_len: usize = 0;
     let mut i: usize = 0;
     while i < n {
-        let mut name = [0u8; 200];
-        let answer = book::book_read(book, i, &mut name);
-        let len = answer.first;
+        let entry = names::read_name(book, k, i);
+        let name = entry.name;
+        let len = entry.len;
         say_line(i, k, &before[..before_len], &name[..len]);
         before = name;
         before_len = len;
@@ -104,14 +105,14 @@ fn say_head(book: &[u8], n: usize, k: usize)
 
 // The listing of a book; of bytes that are none, the line `refused 2`.
 pub fn list(book: &[u8]) {
-    let answer = book::book_check(book);
-    let code = answer.code;
-    let n = answer.first;
-    let k = answer.second;
-    if code == 0 {
-        say_head(book, n, k);
-        say_lines(book, n, k);
-    } else {
-        io::write_all(STDOUT_FILENO, b"refused 2\n");
+    let checked = accept::check_book(book);
+    match checked {
+        accept::Checked::Sound(n, k) => {
+            say_head(book, n, k);
+            say_lines(book, n, k);
+        }
+        accept::Checked::Unsound => {
+            io::write_all(STDOUT_FILENO, b"refused 2\n");
+        }
     }
 }

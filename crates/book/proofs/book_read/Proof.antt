@@ -4,7 +4,8 @@ use Prim.Native.Nat.{_<_}
 use native.Mathlib.Omega.{arith}
 use mathlib.Core.Path.{_≡_}
 use borrow.Author.Needs.{needs}
-use Rattle.book.proofs.Reading.{position-ask, read-past, read-put, read-short, read-unsound}
+use Rattle.names.proofs.Rebuilding.{position-ask}
+use Rattle.book.proofs.Reading.{read-past, read-put, read-short, read-unsound}
 use Rattle.book.proofs.book_read.Statement.{statement}
 use Rattle.book.proofs.book_read.Tie as tie
 

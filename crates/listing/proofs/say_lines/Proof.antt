@@ -1,13 +1,12 @@
--- `listing::say_lines` is safe and ends. The name before counts bytes that stand in its room; the measure is how many names are left. What a
--- read counts stands in the room, by `read-within`.
+-- `listing::say_lines` is safe and ends. The name before counts bytes that stand in its room; the measure is how many names are left.
 -- Assumes nothing.
 use Prim.Native.Nat.{_-_, _≤_}
+use native.Mathlib.Omega.{arith}
 use mathlib.Core.Path.{sym}
 use lib.ListN.{length}
 use lib.Seq.{length-take-le}
 use borrow.Author.Needs.{needs}
-use Rattle.words.specs.Words.{plain}
-use Rattle.answers.proofs.Calls.{read-within}
+use Rattle.names.specs.Names.{PositionAsk}
 use Rattle.listing.proofs.say_lines.Statement.{statement}
 use Rattle.listing.proofs.say_lines.Tie as tie
 
@@ -17,6 +16,10 @@ Inv-loop book n k before₀ before-len₀ i₀ before before-len i = before-len 
 abbrev μ-loop : tie.MeasureT-loop
 μ-loop book n k before₀ before-len₀ i₀ before before-len i = n - i
 
+-- in a turn
+asked : (c : tie.In-loop Inv-loop μ-loop) → let a = c .before .before .before .args in PositionAsk (a .book .now) (a .k) (c .before .loop .i)
+asked c = c .before .before .before .pre _ (c .loop-test .taken)
+
 pub say-lines-spec : {M : Type 1} → statement M
 say-lines-spec =
     tie.close
@@ -24,14 +27,13 @@ say-lines-spec =
     Inv-loop
     μ-loop
     (λ c. search needs)
-    (λ c. search needs)
-    (λ c κs. search needs)
+    (λ c κs. asked c)
     (λ c. search needs)
     (λ c. sym (length-take-le _ _ (search needs)))
-    (λ c. search (needs, read-within plain))
-    (λ c. sym (length-take-le _ _ (search (needs, read-within plain))))
-    (λ c κs. search needs)
+    (λ c. search needs)
+    (λ c. sym (length-take-le _ _ (search needs)))
+    (λ c κs. omega (arith, asked (c .before .before .before .before)))
     (λ c. search needs)
     (λ c. search needs)
-    (λ c. search (needs, read-within plain))
+    (λ c. search needs)
     (λ c. search needs))
