@@ -8,9 +8,12 @@
 #   host/measure.sh place|range|nearest ..        of book_place, book_range, book_nearest, as for exact
 #   host/measure.sh questions BOOKFILE            of mixed questions to that book, less those of its check
 #   host/measure.sh batch BOOKFILE                of book_batch with 64 mixed questions to that book, and of each of them alone
+#   host/measure.sh growth                        of build, check and place, on lists of which one parameter doubles
+#   host/measure.sh worst [SEED]                  of check and place, on shapes that may cost most: the ten dearest of each
 #
 # A question is a text, or `hex:` and two digits for each byte. `vectors lists FOLDER` and `vectors books FOLDER K` write files to measure
-# with. The words go to the program `bench`. The archive is the one that MISTROGU_ARCHIVE names, or a new one from archive.sh.
+# with. The words go to the program `bench`. The archive is the one that MISTROGU_ARCHIVE names, or a new one from archive.sh;
+# reference.sh and small.sh make others, to measure in the same way.
 #
 # `questions` makes 100 questions from the book's names, the same ones each time: 20 names, 20 beginnings, 20 extensions, 20 that miss a
 # name by one byte, and 20 strangers. Each is asked in all four kinds, and every call is counted by itself. Since a call checks the book
@@ -20,6 +23,8 @@
 # `batch` takes 64 of these questions from all over the mix, 16 in each kind, asks them as one batch, and then each by a call of its own,
 # which checks the book again. It prints the instructions of the batch, those of the others, and how many times the average of the others
 # the batch took.
+#
+# `growth` prints a table. Beside each number stands how many times the one before it is; of place the check is taken off.
 set -eu
 [ $# -ge 1 ] || { sed -n '2,/^set /s/^# \{0,1\}//p' "$0" >&2; exit 2; }
 call=book_$1
@@ -107,8 +112,41 @@ one_batch() {
         }' "$work/counts"
 }
 
+# A line of three calls for each list: label, bytes of the book, build, check, place less the check. What is too large is left out.
+three_calls() {
+    each_call "$@"
+    awk "$counted"'
+        { label = $0; sub(/^[^ ]* [^ ]* /, "", label); bytes = label; sub(/.*: /, "", bytes); sub(/: [^:]*$/, "", label) }
+        $2 == "build" { build = $1 }
+        $2 == "check" { check = $1 }
+        $2 == "place" { print label "\t" bytes "\t" build "\t" check "\t" $1 - check }
+        END { if (failed) exit 1 }' "$work/counts" >"$work/lists"
+}
+
+growth() {
+    three_calls growth
+    awk -F '\t' '
+        function cell(now, before) { return before ? sprintf("%d (%.2f)", now, now / before) : now }
+        BEGIN { print "| Parameter | Value | Bytes of the book | build | check | place, after the check |"; print "|---|---:|---:|---:|---:|---:|" }
+        {
+            split($1, part, ", ")
+            if (part[1] != parameter) build = check = place = 0
+            parameter = part[1]
+            print "| " parameter " | " part[2] " | " $2 " | " cell($3, build) " | " cell($4, check) " | " cell($5, place) " |"
+            build = $3; check = $4; place = $5
+        }' "$work/lists"
+}
+
+worst() {
+    three_calls worst "$@"
+    echo "check:" && sort -t "$(printf '\t')" -k 4,4nr "$work/lists" | awk -F '\t' 'NR <= 10 { print $4 " " $1 ", bytes " $2 }'
+    echo "place, after the check:" && sort -t "$(printf '\t')" -k 5,5nr "$work/lists" | awk -F '\t' 'NR <= 10 { print $5 " " $1 ", bytes " $2 }'
+}
+
 case $1 in
 questions) mixed_questions "$@" ;;
 batch) shift && one_batch "$@" ;;
+growth) growth ;;
+worst) shift && worst "$@" ;;
 *) one_call "$@" ;;
 esac

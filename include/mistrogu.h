@@ -44,12 +44,11 @@
  * - There is stack for the call: MISTROGU_BUILD_STACK bytes for book_build and
  *   MISTROGU_STACK for every other call are enough for any input, be it a book or
  *   not, with what the call itself pushes and without what your own memcpy and
- *   memset take. Real names take some 4,900 bytes; names that are each the
- *   beginning of the next, and bytes that are made to look so, take the most. The
- *   numbers are read out of the compiled code, by `host/bound`, for all inputs.
- *   A guest with less than 5,368 bytes of stack cannot build, and one with less
- *   than 3,040 cannot make any other call; between that and MISTROGU_STACK it
- *   depends on how deep the book's names nest (docs/BENCHMARKS.md has a table).
+ *   memset take. On real names every call but book_build takes less than 2,048
+ *   bytes; names that are each the beginning of the next, and bytes that are made
+ *   to look so, take the most, 96 bytes for each level. docs/BENCHMARKS.md says
+ *   which guest can call what. The numbers are read out of the compiled code, by
+ *   `host/bound`, for all inputs.
  *
  * The code is for x86-64 with the calling convention of System V (Linux and its
  * kin); there a struct of three words comes back through memory, which a C or
@@ -78,9 +77,9 @@ extern "C" {
 /* The most rows of a batch. */
 #define MISTROGU_MOST_ROWS 64
 /* Bytes of stack that are enough for book_build, whatever it is given. */
-#define MISTROGU_BUILD_STACK 5632
+#define MISTROGU_BUILD_STACK 5504
 /* Bytes of stack that are enough for every other call, whatever it is given. */
-#define MISTROGU_STACK 40960
+#define MISTROGU_STACK 20480
 
 /* The numbers given back when a call says no. */
 enum mistrogu_refusal {

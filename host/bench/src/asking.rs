@@ -90,7 +90,7 @@ fn measured_exact(book: &[u8], question: &[u8]) -> proved::Answer {
 
 /// The same for `book_place`.
 #[inline(never)]
-fn measured_place(book: &[u8], question: &[u8]) -> proved::Answer {
+pub fn measured_place(book: &[u8], question: &[u8]) -> proved::Answer {
     proved::book_place(book, question)
 }
 

@@ -6,7 +6,8 @@
 //! `bench questions BOOKFILE` checks the book and then asks mixed questions;
 //! `bench together BOOKFILE` asks some of them as one batch, and then each of
 //! them alone. In each case the answer is printed, and it has to be the second
-//! program's: a wrong answer is not worth measuring.
+//! program's: a wrong answer is not worth measuring. `bench growth` and `bench
+//! worst` build, check and ask lists of many shapes.
 //!
 //! Another call is a module with one function, and one more line in [`CALLS`].
 
@@ -16,6 +17,7 @@ mod building;
 mod checking;
 mod mixed;
 mod reading;
+mod shaped;
 mod stack;
 
 use std::process::ExitCode;
@@ -110,6 +112,12 @@ fn run(words: &[String]) -> Result<String, String> {
     if words.first().is_some_and(|word| word == "together") {
         return batching::together(&words[1..]);
     }
+    if words.first().is_some_and(|word| word == "growth") {
+        return shaped::growth();
+    }
+    if words.first().is_some_and(|word| word == "worst") {
+        return shaped::worst(&words[1..]);
+    }
     let Ready {
         mut measured,
         expected,
@@ -152,5 +160,7 @@ fn usage() -> String {
         .collect();
     lines.push("bench questions BOOKFILE".to_string());
     lines.push("bench together BOOKFILE".to_string());
+    lines.push("bench growth".to_string());
+    lines.push("bench worst [SEED]".to_string());
     lines.join("\n")
 }

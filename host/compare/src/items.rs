@@ -5,7 +5,7 @@ use crate::Numbers;
 use compare::mix::{positions, questions, EACH};
 use compare::sorted::Sorted;
 use compare::stations::{stations, BLOCK};
-use compare::steps::{Kind, Step, Subject, KINDS, LIBRARY, MODEL, ROWS, SORTED};
+use compare::steps::{Kind, Step, Subject, KINDS, LIBRARY, MODEL, REFERENCE, ROWS, SORTED};
 use model::layout::LONGEST_BOOK;
 use model::names::{leading_equal, LONGEST_NAME, MOST_NAMES};
 use model::questions::node_reached;
@@ -87,6 +87,11 @@ fn accepted((first, second): (usize, usize)) -> Numbers {
 
 /// The numbers of the library's answer.
 fn of_library(answer: proved::Answer) -> Numbers {
+    [answer.code, answer.first, answer.second]
+}
+
+/// The numbers of the reference's answer.
+fn of_reference(answer: reference::Answer) -> Numbers {
     [answer.code, answer.first, answer.second]
 }
 
@@ -239,9 +244,11 @@ impl<A: Copy + Send, F: FnMut(&mut [A]) -> Numbers + Send> Call for Batching<A, 
 pub fn items(data: &'static Data, peers: &[(String, Loaded)]) -> (Vec<Subject>, Vec<Item>) {
     let mut subjects = vec![
         subject("Mistrogu", data.book.len()),
+        subject("reference", data.book.len()),
         subject("second program", data.book.len()),
     ];
-    let mut items = library_items(data);
+    let mut items = checked_items(data, library());
+    items.extend(checked_items(data, reference()));
     items.extend(model_items(data));
 
     let starts = Box::leak(Box::new([0; MOST_NAMES]));
@@ -274,25 +281,94 @@ fn item(subject: usize, step: Step, call: impl Call + 'static) -> Item {
     }
 }
 
-/// A call of the library that asks a question.
-type AskBook = fn(&[u8], &[u8]) -> proved::Answer;
+/// A call that asks a question.
+type Ask<A> = fn(&[u8], &[u8]) -> A;
+/// A call that asks a batch: the book, the buffer, its rows and its answers.
+type Batch<A, R> = fn(&[u8], &[u8], &[R], &mut [A]) -> A;
 
-/// The proved library's calls.
-fn library_items(data: &'static Data) -> Vec<Item> {
+/// The calls of a library that checks a book before it answers, with its own
+/// answers and rows.
+#[derive(Clone, Copy)]
+struct Checked<A, R> {
+    subject: usize,
+    build: fn(&[u8], usize, &mut [u8]) -> A,
+    check: fn(&[u8]) -> A,
+    read: fn(&[u8], usize, &mut [u8]) -> A,
+    asks: [Ask<A>; 4],
+    batch: Batch<A, R>,
+    /// A row of its own.
+    row: fn(usize, usize, usize) -> R,
+    /// The numbers of its answer.
+    tell: fn(A) -> Numbers,
+}
+
+/// The proved library.
+fn library() -> Checked<proved::Answer, proved::Row> {
+    Checked {
+        subject: LIBRARY,
+        build: proved::book_build,
+        check: proved::book_check,
+        read: proved::book_read,
+        asks: [
+            proved::book_exact,
+            proved::book_place,
+            proved::book_range,
+            proved::book_nearest,
+        ],
+        batch: proved::book_batch,
+        row: |kind, start, length| proved::Row {
+            kind,
+            start,
+            length,
+        },
+        tell: of_library,
+    }
+}
+
+/// Careful code without index tests.
+fn reference() -> Checked<reference::Answer, reference::Row> {
+    Checked {
+        subject: REFERENCE,
+        build: reference::book_build,
+        check: reference::book_check,
+        read: reference::book_read,
+        asks: [
+            reference::book_exact,
+            reference::book_place,
+            reference::book_range,
+            reference::book_nearest,
+        ],
+        batch: reference::book_batch,
+        row: |kind, start, length| reference::Row {
+            kind,
+            start,
+            length,
+        },
+        tell: of_reference,
+    }
+}
+
+/// The calls of a library that checks.
+fn checked_items<A, R>(data: &'static Data, calls: Checked<A, R>) -> Vec<Item>
+where
+    A: Copy + Default + Send + 'static,
+    R: Copy + Send + 'static,
+{
+    let (own, tell) = (calls.subject, calls.tell);
     let mut room = vec![0; LONGEST_BOOK];
-    let length = proved::book_build(&data.list, BLOCK, &mut room).first;
-    assert_eq!(&room[..length], data.book, "the library's book");
+    let length = tell((calls.build)(&data.list, BLOCK, &mut room))[1];
+    assert_eq!(&room[..length], data.book, "the book");
 
     let nothing = Once {
         make: || Numbers::default(),
         expected: Numbers::default(),
     };
     let build = Once {
-        make: move || of_library(proved::book_build(&data.list, BLOCK, &mut room)),
+        make: move || tell((calls.build)(&data.list, BLOCK, &mut room)),
         expected: [0, data.book.len(), 0],
     };
     let check = Once {
-        make: || of_library(proved::book_check(&data.book)),
+        make: move || tell((calls.check)(&data.book)),
         expected: [0, data.names.len(), BLOCK],
     };
     let read = Reading {
@@ -300,51 +376,50 @@ fn library_items(data: &'static Data) -> Vec<Item> {
         every: 1,
         in_order: true,
         room: vec![0; LONGEST_NAME],
-        read: |position, room: &mut [u8]| of_library(proved::book_read(&data.book, position, room)),
+        read: move |position, room: &mut [u8]| tell((calls.read)(&data.book, position, room)),
     };
     let mut items = vec![
-        item(LIBRARY, Step::Nothing, nothing),
-        item(LIBRARY, Step::Build, build),
-        item(LIBRARY, Step::Check, check),
-        item(LIBRARY, Step::Read, read),
+        item(own, Step::Nothing, nothing),
+        item(own, Step::Build, build),
+        item(own, Step::Check, check),
+        item(own, Step::Read, read),
     ];
-    let calls: [AskBook; 4] = [
-        proved::book_exact,
-        proved::book_place,
-        proved::book_range,
-        proved::book_nearest,
-    ];
-    for (kind, ask_book) in KINDS.into_iter().zip(calls) {
+    for (kind, ask_book) in KINDS.into_iter().zip(calls.asks) {
         let ask = Asking {
             data,
             kind,
             every: 1,
             whole: true,
-            ask: move |question: &[u8]| of_library(ask_book(&data.book, question)),
+            ask: move |question: &[u8]| tell(ask_book(&data.book, question)),
         };
-        items.push(item(LIBRARY, Step::Ask(kind), ask));
+        items.push(item(own, Step::Ask(kind), ask));
     }
-    let batch = |kinds: Vec<Kind>| {
-        let rows = data.batch(&kinds, |kind, start, length| proved::Row {
-            kind,
-            start,
-            length,
-        });
-        Batching {
+    items.extend(checked_batches(data, calls));
+    items
+}
+
+/// The batches of a library that checks: a mixed one, and one of each kind.
+fn checked_batches<A, R>(data: &'static Data, calls: Checked<A, R>) -> Vec<Item>
+where
+    A: Copy + Default + Send + 'static,
+    R: Copy + Send + 'static,
+{
+    let tell = calls.tell;
+    let batch = |step: Step, kinds: Vec<Kind>| {
+        let rows = data.batch(&kinds, calls.row);
+        let ask =
+            move |answers: &mut [A]| tell((calls.batch)(&data.book, &data.buffer, &rows, answers));
+        let batch = Batching {
             data,
             kinds,
-            answers: vec![proved::Answer::default(); ROWS],
-            ask: move |answers: &mut [proved::Answer]| {
-                of_library(proved::book_batch(&data.book, &data.buffer, &rows, answers))
-            },
-            tell: of_library,
-        }
+            answers: vec![A::default(); ROWS],
+            ask,
+            tell,
+        };
+        item(calls.subject, step, batch)
     };
-    items.push(item(LIBRARY, Step::Batch, batch(mixed_kinds())));
-    for kind in KINDS {
-        let batch = batch(vec![kind; ROWS]);
-        items.push(item(LIBRARY, Step::BatchOf(kind), batch));
-    }
+    let mut items = vec![batch(Step::Batch, mixed_kinds())];
+    items.extend(KINDS.map(|kind| batch(Step::BatchOf(kind), vec![kind; ROWS])));
     items
 }
 

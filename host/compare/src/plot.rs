@@ -18,8 +18,9 @@ const GAP: f64 = 8.0;
 const TITLE: f64 = 34.0;
 
 /// The colours of the subjects on a light and on a dark page.
-const COLOURS: [(&str, &str); 5] = [
+const COLOURS: [(&str, &str); 6] = [
     ("#c2410c", "#fb923c"),
+    ("#a16207", "#facc15"),
     ("#6b7280", "#9ca3af"),
     ("#1d4ed8", "#60a5fa"),
     ("#047857", "#34d399"),
@@ -222,21 +223,26 @@ fn row(scale: &Scale, y: f64, height: f64, name: &str, marks: &[Option<f64>]) ->
     text
 }
 
-/// A subject's mark: circle, square, diamond, triangle, cross.
+/// A subject's mark: circle, flat bar, square, diamond, triangle, cross.
 fn mark(number: usize, x: f64, y: f64) -> String {
     let class = number % COLOURS.len();
     let shape = match class {
         0 => format!(r#"<circle cx="{x:.1}" cy="{y:.1}" r="4.5""#),
         1 => format!(
+            r#"<rect x="{:.1}" y="{:.1}" width="10" height="3""#,
+            x - 5.0,
+            y - 1.5
+        ),
+        2 => format!(
             r#"<rect x="{:.1}" y="{:.1}" width="7" height="7""#,
             x - 3.5,
             y - 3.5
         ),
-        2 => format!(
+        3 => format!(
             r#"<path d="M{x:.1} {:.1}l4.5 4.5l-4.5 4.5l-4.5 -4.5z""#,
             y - 4.5
         ),
-        3 => format!(r#"<path d="M{x:.1} {:.1}l4.5 8h-9z""#, y - 4.5),
+        4 => format!(r#"<path d="M{x:.1} {:.1}l4.5 8h-9z""#, y - 4.5),
         _ => format!(
             r#"<path stroke-width="2.5" d="M{:.1} {:.1}l7 7m0 -7l-7 7""#,
             x - 3.5,

@@ -67,10 +67,12 @@ pub struct Subject {
 
 /// The subjects by their numbers: the proved library is the first of them.
 pub const LIBRARY: usize = 0;
+/// Careful code without index tests.
+pub const REFERENCE: usize = 1;
 /// The second program.
-pub const MODEL: usize = 1;
+pub const MODEL: usize = 2;
 /// The plain sorted array.
-pub const SORTED: usize = 2;
+pub const SORTED: usize = 3;
 
 /// Average and most of several calls.
 #[derive(Clone, Copy, Debug, PartialEq)]
@@ -110,12 +112,12 @@ impl Figures {
         counts.map_or(0.0, |counts| counts[0] as f64)
     }
 
-    /// Instructions after the check: of the library what a call takes more than
-    /// its check, of the second program what it takes with the names at hand.
-    /// The others have no check, so it is the call itself.
+    /// Instructions after the check: of the library and of the reference what a
+    /// call takes more than its check, of the second program what it takes with
+    /// the names at hand. The others have no check, so it is the call itself.
     pub fn held(&self, subject: usize, step: Step) -> Option<Spread> {
         match subject {
-            LIBRARY => {
+            LIBRARY | REFERENCE => {
                 let call = self.whole(subject, step)?;
                 let check = self.whole(subject, Step::Check)?.mean;
                 Some(Spread {
@@ -133,16 +135,16 @@ impl Figures {
         self.times.get(&(subject, step)).cloned()
     }
 
-    /// In each round, the time after the check. Of the library it is a 64th of
-    /// what a batch of that kind takes more than the check, since a question
-    /// is too small beside the check to be seen.
+    /// In each round, the time after the check. Of the library and of the
+    /// reference it is a 64th of what a batch of that kind takes more than the
+    /// check, since a question is too small beside the check to be seen.
     pub fn held_times(&self, subject: usize, step: Step) -> Option<Vec<f64>> {
         match (subject, step) {
-            (LIBRARY, Step::Ask(kind)) => {
+            (LIBRARY | REFERENCE, Step::Ask(kind)) => {
                 let more = self.times.get(&(subject, Step::BatchOf(kind)))?;
                 Some(more.iter().map(|more| more / ROWS as f64).collect())
             }
-            (LIBRARY, _) => None,
+            (LIBRARY | REFERENCE, _) => None,
             (MODEL, _) => self.whole_times(subject, held_step(step)),
             _ => self.whole_times(subject, step),
         }

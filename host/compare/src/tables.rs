@@ -1,7 +1,7 @@
 //! The figures as a page of Markdown.
 
 use crate::steps::{
-    median_ratio, Figures, Spread, Step, Subject, KINDS, LIBRARY, MODEL, ROWS, SORTED,
+    median_ratio, Figures, Spread, Step, Subject, KINDS, LIBRARY, MODEL, REFERENCE, ROWS, SORTED,
 };
 
 /// What the page says of the names.
@@ -69,6 +69,8 @@ marisa's as far as they go.
 
 - **Mistrogu** is the proved library. It trusts no byte: **a single question checks the whole book before it answers**, and so does a
   read; nothing is kept between calls. A batch checks once for all its rows.
+- **The reference** is careful Rust without index tests or a heap, which nothing proves: one slip in it reads or writes what is not its
+  own. It checks before it answers, too, and is there to be measured alone.
 - **The second program** is the plain model that tests are made from. It opens the book anew for each call, too, and is not meant to be
   fast. It was asked one question of each shape.
 - **The sorted array** is the list with an offset for each name, searched by halving. It needs no check because it trusts whoever made
@@ -100,7 +102,7 @@ fn sizes(about: &About, subjects: &[Subject]) -> String {
     for (number, subject) in subjects.iter().enumerate() {
         match number {
             LIBRARY => row("book, with blocks of 16", subject.size),
-            MODEL => {}
+            REFERENCE | MODEL => {}
             SORTED => row("sorted array: list and offsets of four bytes", subject.size),
             _ => row(&format!("dictionary of {}", subject.name), subject.size),
         }
@@ -148,7 +150,7 @@ fn held_instructions(subjects: &[Subject], figures: &Figures) -> String {
     }
     rows.extend([share, alone]);
     format!(
-        "## Instructions after the check: average / most\n\nOf Mistrogu: a single call less the check. Of the second program: the question to \
+        "## Instructions after the check: average / most\n\nOf Mistrogu and the reference: a single call less the check. Of the second program: the question to \
          the names, once the book is open. The others have no check, so it is the call itself.\n\n{}",
         table("Asked", subjects, &rows)
     )
@@ -179,8 +181,8 @@ fn times(about: &About, subjects: &[Subject], figures: &Figures) -> String {
     rows.retain(|row| row[1] != NONE);
     format!(
         "## Time\n\nIn Mistrogu's column its check is 1. In the others Mistrogu's time in the same row is 1: 1/2,000 is the two \
-         thousandth part of it. Processor time; medians of {} rounds in one process. After the check, Mistrogu's time is a 64th of \
-         what a batch of that kind takes more than the check.\n\n{}",
+         thousandth part of it. Processor time; medians of {} rounds in one process. After the check, the time of \
+         Mistrogu and of the reference is a 64th of what a batch of that kind takes more than the check.\n\n{}",
         about.rounds,
         table("Call", subjects, &rows)
     )
@@ -198,7 +200,7 @@ fn stacks(subjects: &[Subject], figures: &Figures) -> String {
     let rows: Vec<Vec<String>> = whole_lines().into_iter().map(row).collect();
     format!(
         "## Stack in bytes\n\nThe deepest of all inputs, with the measuring's own frames, under 100 bytes. What is on the heap is not counted: \
-         Mistrogu and the sorted array use none.\n\n{}",
+         Mistrogu, the reference and the sorted array use none.\n\n{}",
         table("Call", subjects, &rows)
     )
 }

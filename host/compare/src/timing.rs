@@ -8,7 +8,7 @@
 //! at different places.
 
 use crate::items::Item;
-use compare::steps::{median, Step, LIBRARY};
+use compare::steps::{median, Step};
 use std::collections::BTreeMap;
 use std::ffi::{c_int, c_long};
 use std::hint::black_box;
@@ -33,11 +33,9 @@ const SPAN: Duration = Duration::from_millis(10);
 /// more than the check. In a round the subjects follow each other in every step,
 /// so that a slow moment meets them all.
 pub fn time(items: &mut [Item]) -> BTreeMap<(usize, Step), Vec<f64>> {
-    let mut order: Vec<&mut Item> = items.iter_mut().collect();
+    let (mut checks, mut order): (Vec<&mut Item>, Vec<&mut Item>) =
+        items.iter_mut().partition(|item| item.step == Step::Check);
     order.sort_by_key(|item| (item.step, item.subject));
-    let is_check = |item: &&mut Item| (item.subject, item.step) == (LIBRARY, Step::Check);
-    let at = order.iter().position(is_check).expect("there is a check");
-    let check = order.remove(at);
 
     let mut times: BTreeMap<(usize, Step), Vec<f64>> = BTreeMap::new();
     for _ in 0..ROUNDS {
@@ -45,11 +43,16 @@ pub fn time(items: &mut [Item]) -> BTreeMap<(usize, Step), Vec<f64>> {
             let of_item = times.entry((item.subject, item.step)).or_default();
             of_item.push(time);
         };
-        let time = in_round(check);
-        note(check, time);
+        for check in &mut checks {
+            let time = in_round(check);
+            note(check, time);
+        }
         for item in &mut order {
-            let time = match item.step {
-                Step::BatchOf(_) => more_than(check, item),
+            let own = checks
+                .iter_mut()
+                .find(|check| check.subject == item.subject);
+            let time = match (item.step, own) {
+                (Step::BatchOf(_), Some(check)) => more_than(check, item),
                 _ => in_round(item),
             };
             note(item, time);

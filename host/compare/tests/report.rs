@@ -2,13 +2,13 @@
 
 use compare::plot::drawing;
 use compare::steps::{
-    median_ratio, Figures, Kind, Step, Subject, KINDS, LIBRARY, MODEL, ROWS, SORTED,
+    median_ratio, Figures, Kind, Step, Subject, KINDS, LIBRARY, MODEL, REFERENCE, ROWS, SORTED,
 };
 use compare::tables::{page, About};
 
-/// Three subjects, with figures that are easily told apart.
+/// Four subjects, with figures that are easily told apart.
 fn made_up() -> (Vec<Subject>, Figures) {
-    let names = ["Mistrogu", "second program", "sorted array"];
+    let names = ["Mistrogu", "reference", "second program", "sorted array"];
     let subjects = names.map(|name| Subject {
         name: name.to_string(),
         size: 1000,
@@ -26,9 +26,12 @@ fn made_up() -> (Vec<Subject>, Figures) {
     note(LIBRARY, Step::Nothing, &[10], 1.0);
     note(LIBRARY, Step::Check, &[100_010], 6400.0);
     note(LIBRARY, Step::Batch, &[164_010], 7040.0);
+    note(REFERENCE, Step::Check, &[90_010], 3200.0);
     for kind in KINDS {
         note(LIBRARY, Step::Ask(kind), &[100_410, 100_810], 6401.0);
         note(LIBRARY, Step::BatchOf(kind), &[164_010], 6400.0);
+        note(REFERENCE, Step::Ask(kind), &[90_210, 90_310], 3201.0);
+        note(REFERENCE, Step::BatchOf(kind), &[102_010], 3200.0);
         note(MODEL, Step::Ask(kind), &[5_000_010], 64_010.0);
         note(MODEL, Step::HeldAsk(kind), &[7_010], 50.0);
         note(SORTED, Step::Ask(kind), &[710], 20.0);
@@ -46,9 +49,11 @@ fn after_the_check_the_librarys_check_is_taken_off() {
             .map(|spread| (spread.mean, spread.most))
     };
     assert_eq!(held(LIBRARY), Some((600.0, 800.0)));
+    assert_eq!(held(REFERENCE), Some((250.0, 300.0)));
     assert_eq!(held(MODEL), Some((7000.0, 7000.0)));
     assert_eq!(held(SORTED), Some((700.0, 700.0)));
     assert_eq!(figures.held_times(LIBRARY, step), Some(vec![100.0, 200.0]));
+    assert_eq!(figures.held_times(REFERENCE, step), Some(vec![50.0, 100.0]));
     assert_eq!(figures.held_times(SORTED, step), Some(vec![20.0, 40.0]));
     assert_eq!(figures.held_times(LIBRARY, Step::Read), None);
     assert_eq!(median_ratio(&[1.0, 9.0, 6.0], &[2.0, 3.0, 3.0]), 2.0);
@@ -68,13 +73,13 @@ fn the_page_has_a_row_for_each_call_and_says_what_is_left_out() {
     };
     let page = page(&about, &subjects, &figures);
     for line in [
-        "| exact | 100,600 | 5,000,000 | 700 |",
-        "| exact | 600 / 800 | 7,000 / 7,000 | 700 / 700 |",
-        "| exact, after the check | 1/64 | 0.50 | 0.20 |",
-        "| row of a batch, with its 64th of the check | 2,562 | - | - |",
-        "| row of a batch, without | 1,000 | - | - |",
-        "| build | - | - | - |",
-        "| check | 64 | - | - |",
+        "| exact | 100,600 | 90,250 | 5,000,000 | 700 |",
+        "| exact | 600 / 800 | 250 / 300 | 7,000 / 7,000 | 700 / 700 |",
+        "| exact, after the check | 1/64 | 0.50 | 0.50 | 0.20 |",
+        "| row of a batch, with its 64th of the check | 2,562 | - | - | - |",
+        "| row of a batch, without | 1,000 | - | - | - |",
+        "| build | - | - | - | - |",
+        "| check | 64 | 64 | - | - |",
         "fst is left out.",
     ] {
         assert!(page.lines().any(|other| other == line), "{line}\n{page}");

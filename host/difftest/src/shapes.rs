@@ -4,6 +4,7 @@ use model::book_of;
 use model::names::{LONGEST_NAME, MOST_NAMES};
 use vectors::lists::{self, Names};
 use vectors::random::Random;
+use vectors::worst::{self, Comb};
 
 /// A rising list of one of the shapes below. The large ones are rare, since the
 /// second program takes its time over them.
@@ -15,7 +16,8 @@ pub fn any_names(random: &mut Random, block: usize) -> Names {
         80..=119 => all_bytes(random),
         120..=199 => shared_beginnings(random),
         200..=239 => deep(random),
-        240..=269 => wide(random),
+        240..=259 => wide(random),
+        260..=269 => costly(random),
         _ => shortest_and_longest(random),
     }
 }
@@ -77,6 +79,24 @@ fn wide(random: &mut Random) -> Names {
     let below = [stem.clone(), random.string(&lists::all_bytes(), 1, 2)].concat();
     let names = [lists::fan(&stem), lists::fan(&below)].concat();
     some_of(random, lists::sorted(names))
+}
+
+/// Shapes that cost most, not as large as they can be.
+fn costly(random: &mut Random) -> Names {
+    if random.once_in(2) {
+        return worst::chains(random.between(1, 120), random.between(1, 40), 1).names;
+    }
+    let levels = random.between(1, 60);
+    let comb = Comb {
+        levels,
+        step: random.between(1, 3),
+        leaves: random.between(1, 4),
+        tail: random.below(19),
+        last: random.between(2, 40),
+        block: 1,
+        astray: false,
+    };
+    comb.worst().names
 }
 
 /// Names with lengths at the ends of what is allowed: 1, 2, 199 and 200.

@@ -85,10 +85,10 @@ pub const MOST_ROWS: usize = 64;
 /// The most names of a block; the least is 1.
 pub const LARGEST_BLOCK: usize = 64;
 /// The bytes of stack that are enough for [`build`], whatever is lent to it.
-pub const BUILD_STACK: usize = 5632;
+pub const BUILD_STACK: usize = 5504;
 /// The bytes of stack that are enough for every other call, whatever is lent to
 /// it: a book, or bytes that are none.
-pub const STACK: usize = 40_960;
+pub const STACK: usize = 20_480;
 
 /// What a check tells of a book.
 #[derive(Clone, Copy, Debug, PartialEq, Eq, Hash)]

@@ -22,6 +22,8 @@
 //! | [`pieces`] | a book in pieces, to be put together wrongly |
 //! | [`damage`] | ways to spoil a list or a book |
 //! | [`hostile`] | books that are none, by their node tables |
+//! | [`growth`] | lists of which one parameter doubles |
+//! | [`worst`] | lists and questions that cost most |
 //! | [`rooms`] | rooms before and after a call |
 //! | [`random`] | numbers that look random |
 //!
@@ -38,6 +40,7 @@ pub mod building;
 pub mod checking;
 pub mod checksum;
 pub mod damage;
+pub mod growth;
 pub mod hostile;
 pub mod lists;
 pub mod pieces;
@@ -45,6 +48,7 @@ pub mod questions;
 pub mod random;
 pub mod reading;
 pub mod rooms;
+pub mod worst;
 
 /// One call with all that goes into it.
 pub trait Case {

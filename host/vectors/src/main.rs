@@ -6,6 +6,7 @@ use std::process::ExitCode;
 use std::{env, fs, io};
 use vectors::hostile;
 use vectors::lists::{self, Names};
+use vectors::worst;
 use vectors::{Set, SETS};
 
 const USAGE: &str = "\
@@ -14,6 +15,7 @@ vectors purposes SET     say what each case of the set is for
 vectors lists FOLDER     write lists to measure with, as FOLDER/NAME.list
 vectors books FOLDER K   write their books with that block size, as FOLDER/NAME.book
 vectors hostile FOLDER   write the largest books that are none by their nodes, as FOLDER/KIND.book
+vectors worst FOLDER     write the dearest that were found, as FOLDER/NAME.list, .book and, with its question in hex, .question
 The sets are:";
 
 fn main() -> ExitCode {
@@ -23,6 +25,7 @@ fn main() -> ExitCode {
         ["lists", folder] => write_lists(Path::new(folder)),
         ["books", folder, block] => write_books(Path::new(folder), block),
         ["hostile", folder] => write_hostile(Path::new(folder)),
+        ["worst", folder] => write_worst(Path::new(folder)),
         ["purposes", name] => with_set(name, |set| {
             print!("{}", set.purposes());
             Ok(())
@@ -100,6 +103,25 @@ fn write_hostile(folder: &Path) -> Result<(), String> {
     for kind in hostile::kinds() {
         let name = format!("{}.book", kind.how.replace(' ', "-"));
         write_file(folder, &name, &kind.largest().bytes())?;
+    }
+    Ok(())
+}
+
+/// Writes the lists and questions that cost most.
+fn write_worst(folder: &Path) -> Result<(), String> {
+    for (name, worst) in [
+        ("dearest-check", worst::dearest_check()),
+        ("dearest-question", worst::dearest_question()),
+    ] {
+        let digits = worst.question.iter().map(|byte| format!("{byte:02X}"));
+        let question = format!("hex:{}\n", digits.collect::<String>());
+        write_file(
+            folder,
+            &format!("{name}.list"),
+            &model::write_list(&worst.names),
+        )?;
+        write_file(folder, &format!("{name}.book"), &worst.book())?;
+        write_file(folder, &format!("{name}.question"), question.as_bytes())?;
     }
     Ok(())
 }

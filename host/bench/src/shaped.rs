@@ -1,0 +1,106 @@
+//! Lists by their shape: each is built, its book checked, and a place asked.
+//!
+//! `growth` goes over lists of which one parameter doubles, `worst` over shapes
+//! that may cost most: some by a plan, some by chance.
+
+use crate::building::measured_build;
+use crate::checking::measured_check;
+use crate::{asking, read_number, shown};
+use model::layout::LONGEST_BOOK;
+use model::names::MOST_NAMES;
+use model::{write_list, Answer};
+use vectors::growth;
+use vectors::random::Random;
+use vectors::worst::{self, chains, Comb, Worst};
+
+/// Builds, checks and asks: a line for each call, with this label. Nothing
+/// where the list is too large for a book.
+///
+/// The second program would take too long under a profiler, so what is expected
+/// is said by the plain list.
+fn lines(label: &str, list: &Worst, room: &mut [u8]) -> Result<Vec<String>, String> {
+    let records = write_list(&list.names);
+    let built = measured_build(&records, list.block, room);
+    if built.code == 9 {
+        return Ok(vec![format!("build {label}: too large")]);
+    }
+    let book = &room[..built.first];
+    let place = list.names.partition_point(|name| *name < list.question);
+    let expected = |first, second| Answer {
+        code: 0,
+        first,
+        second,
+    };
+    shown(measured_check(book), expected(list.names.len(), list.block))?;
+    shown(
+        asking::measured_place(book, &list.question),
+        expected(place, 0),
+    )?;
+    let bytes = built.first;
+    let line = |call: &str| format!("{call} {label}: {bytes}");
+    Ok(["build", "check", "place"].map(line).to_vec())
+}
+
+/// Lists of which one parameter doubles.
+pub fn growth() -> Result<String, String> {
+    let mut room = vec![0; LONGEST_BOOK];
+    let mut all = Vec::new();
+    for grown in growth::all() {
+        let label = format!("{}, {}", grown.parameter, grown.value);
+        all.extend(lines(&label, &grown.list, &mut room)?);
+    }
+    Ok(all.join("\n"))
+}
+
+/// Shapes that may cost most, the random ones by this seed.
+pub fn worst(words: &[String]) -> Result<String, String> {
+    let seed = words.first().map_or(Ok(1), |word| read_number(word))?;
+    let mut random = Random::from_seed(seed as u64);
+    let mut shapes = planned();
+    shapes.extend((0..400).filter_map(|_| any_comb(&mut random)));
+    shapes.extend((0..60).map(|_| any_chains(&mut random)));
+    shapes.extend((0..10).map(|_| worst::any(&mut random)));
+    let mut room = vec![0; LONGEST_BOOK];
+    let mut all = Vec::new();
+    for shape in shapes {
+        all.extend(lines(&shape.what, &shape, &mut room)?);
+    }
+    Ok(all.join("\n"))
+}
+
+/// Chains of every length in blocks of every size, as many names as can be, and
+/// those that were dearest before.
+fn planned() -> Vec<Worst> {
+    let mut shapes = vec![worst::dearest_check(), worst::dearest_question()];
+    for length in [2, 4, 8, 12, 15, 16, 17, 18, 20, 32, 64, 200] {
+        for block in [1, 2, 4, 8, 16, 64] {
+            shapes.push(chains(2000, length, block));
+        }
+    }
+    shapes
+}
+
+/// Some chains.
+fn any_chains(random: &mut Random) -> Worst {
+    let count = random.between(1000, 2000);
+    chains(count, random.between(1, 60), random.between(1, 64))
+}
+
+/// Some comb, if there is one like that: mostly with as many names as can be.
+fn any_comb(random: &mut Random) -> Option<Worst> {
+    let shallowest = if random.once_in(2) { 1 } else { 150 };
+    let levels = random.between(shallowest, 199);
+    let last = random.between(2, 254);
+    let most = (MOST_NAMES - last) / levels;
+    let least = if random.once_in(4) { 1 } else { most };
+    let comb = Comb {
+        levels,
+        step: random.between(1, 199 / levels),
+        leaves: random.between(least.min(most), most).clamp(1, 254),
+        tail: random.below(120) / random.between(1, 20),
+        last,
+        block: random.between(1, 64),
+        astray: random.once_in(2),
+    };
+    comb.can_be().then(|| comb.worst())
+}

@@ -1,0 +1,281 @@
+//! A name read back and the four questions, of a book that passed the check.
+
+use crate::bytes::{byte, leading_equal, part, put, two};
+use crate::checking::Parts;
+use crate::{LONGEST_NAME, LONGEST_PATH, NODE};
+use core::mem::MaybeUninit;
+
+/// A book that passed the check.
+#[derive(Clone, Copy)]
+pub struct Sound<'lent> {
+    book: &'lent [u8],
+    parts: Parts,
+}
+
+/// A name that was rebuilt.
+struct Name {
+    bytes: [u8; LONGEST_NAME],
+    length: usize,
+}
+
+/// The numbers of a node.
+#[derive(Clone, Copy)]
+enum Field {
+    Symbol,
+    Depth,
+    First,
+    Names,
+    Nodes,
+}
+
+/// The node with the names that share most with a question, how many bytes
+/// they share, and the next symbol of the name that was reached.
+struct Spot {
+    node: usize,
+    shared: usize,
+    symbol: usize,
+}
+
+/// Symbol number so and so of a name or a question; 0 at its end.
+#[inline(always)]
+fn symbol_at(name: &[u8], at: usize) -> usize {
+    // SAFETY: where it is read the place lies inside.
+    if at < name.len() {
+        unsafe { byte(name, at) + 1 }
+    } else {
+        0
+    }
+}
+
+impl<'lent> Sound<'lent> {
+    /// The book, to be asked.
+    ///
+    /// # Safety
+    ///
+    /// The check gave these parts for it.
+    pub unsafe fn new(book: &'lent [u8], parts: Parts) -> Sound<'lent> {
+        Sound { book, parts }
+    }
+
+    /// How many names there are.
+    pub fn names(self) -> usize {
+        self.parts.names
+    }
+
+    /// A number of a node.
+    ///
+    /// # Safety
+    ///
+    /// There is such a node.
+    #[inline(always)]
+    unsafe fn field(self, node: usize, field: Field) -> usize {
+        let at = self.parts.nodes_at + NODE * node + 2 * field as usize;
+        two(self.book, at)
+    }
+
+    /// The name at a position.
+    ///
+    /// # Safety
+    ///
+    /// There is one.
+    #[inline(always)]
+    unsafe fn name(self, position: usize) -> Name {
+        let block = position / self.parts.block;
+        let mut at = two(self.book, self.parts.blocks_at + 2 * block);
+        let mut name = Name {
+            bytes: [0; LONGEST_NAME],
+            length: 0,
+        };
+        for _ in 0..=position - block * self.parts.block {
+            let (stored, rest) = (byte(self.book, at), byte(self.book, at + 1));
+            put(&mut name.bytes, stored, part(self.book, at + 2, rest));
+            name.length = stored + rest;
+            at += 2 + rest;
+        }
+        name
+    }
+
+    /// Writes the name at a position to the front of the room and gives its
+    /// length; nothing where the room is too short.
+    ///
+    /// # Safety
+    ///
+    /// There is such a position.
+    pub unsafe fn read(self, position: usize, room: &mut [u8]) -> Option<usize> {
+        let name = self.name(position);
+        if room.len() < name.length {
+            return None;
+        }
+        put(room, 0, part(&name.bytes, 0, name.length));
+        Some(name.length)
+    }
+
+    /// The first child of a node whose symbol is not below this one, or where
+    /// its row ends.
+    ///
+    /// # Safety
+    ///
+    /// There is such a node.
+    #[inline(always)]
+    unsafe fn seek(self, node: usize, symbol: usize) -> usize {
+        let end = node + self.field(node, Field::Nodes);
+        let mut child = node + 1;
+        while child < end && self.field(child, Field::Symbol) < symbol {
+            child += self.field(child, Field::Nodes);
+        }
+        child
+    }
+
+    /// Goes down from the root, notes every node but the root, and gives the
+    /// last one.
+    ///
+    /// # Safety
+    ///
+    /// There are names.
+    #[inline(always)]
+    unsafe fn descend(self, question: &[u8], mut note: impl FnMut(usize)) -> usize {
+        let mut node = 0;
+        while self.field(node, Field::Names) != 1 {
+            let depth = self.field(node, Field::Depth);
+            if question.len() < depth {
+                break;
+            }
+            let symbol = symbol_at(question, depth);
+            let child = self.seek(node, symbol);
+            let end = node + self.field(node, Field::Nodes);
+            if child >= end || self.field(child, Field::Symbol) != symbol {
+                break;
+            }
+            note(child);
+            node = child;
+        }
+        node
+    }
+
+    /// The position that a question reaches, and its name.
+    ///
+    /// # Safety
+    ///
+    /// There are names.
+    #[inline(always)]
+    unsafe fn reach(self, question: &[u8]) -> (usize, Name) {
+        let position = self.field(self.descend(question, |_| {}), Field::First);
+        (position, self.name(position))
+    }
+
+    /// The node with the names that share most with a question.
+    ///
+    /// # Safety
+    ///
+    /// There are names.
+    #[inline(always)]
+    unsafe fn locate(self, question: &[u8]) -> Spot {
+        // The root, and what is noted behind it: the depths rise, up to 201.
+        let mut path = [MaybeUninit::<u16>::uninit(); LONGEST_PATH];
+        path[0].write(0);
+        let mut length = 1;
+        let last = self.descend(question, |node| {
+            path.get_unchecked_mut(length).write(node as u16);
+            length += 1;
+        });
+        let noted = |at: usize| usize::from(path.get_unchecked(at).assume_init());
+        let name = self.name(self.field(last, Field::First));
+        let name = part(&name.bytes, 0, name.length);
+        let shared = leading_equal(question, name);
+        let mut at = length - 1;
+        while at > 0 {
+            if self.field(noted(at - 1), Field::Depth) < shared {
+                break;
+            }
+            at -= 1;
+        }
+        Spot {
+            node: noted(at),
+            shared,
+            symbol: symbol_at(name, shared),
+        }
+    }
+
+    /// How many names are less than the question, once that node is known.
+    ///
+    /// # Safety
+    ///
+    /// The spot is this question's.
+    #[inline(always)]
+    unsafe fn seat(self, question: &[u8], spot: &Spot) -> usize {
+        let symbol = symbol_at(question, spot.shared);
+        let first = self.field(spot.node, Field::First);
+        let past = first + self.field(spot.node, Field::Names);
+        if spot.shared < self.field(spot.node, Field::Depth) {
+            return if spot.symbol < symbol { past } else { first };
+        }
+        let child = self.seek(spot.node, symbol);
+        if child < spot.node + self.field(spot.node, Field::Nodes) {
+            self.field(child, Field::First)
+        } else {
+            past
+        }
+    }
+
+    /// (position, 1) where a name equals the question, else (0, 0).
+    pub fn exact(self, question: &[u8]) -> (usize, usize) {
+        if self.parts.names == 0 {
+            return (0, 0);
+        }
+        // SAFETY: there are names.
+        let (position, name) = unsafe { self.reach(question) };
+        // SAFETY: a name lies inside its room.
+        let name = unsafe { part(&name.bytes, 0, name.length) };
+        let is_same =
+            name.len() == question.len() && leading_equal(name, question) == question.len();
+        if is_same {
+            (position, 1)
+        } else {
+            (0, 0)
+        }
+    }
+
+    /// How many names are less than the question, and a 0.
+    pub fn place(self, question: &[u8]) -> (usize, usize) {
+        if self.parts.names == 0 {
+            return (0, 0);
+        }
+        // SAFETY: there are names.
+        let place = unsafe {
+            let spot = self.locate(question);
+            self.seat(question, &spot)
+        };
+        (place, 0)
+    }
+
+    /// The question's place, and how many names begin with it.
+    pub fn range(self, question: &[u8]) -> (usize, usize) {
+        if self.parts.names == 0 {
+            return (0, 0);
+        }
+        // SAFETY: there are names.
+        unsafe {
+            let spot = self.locate(question);
+            let place = self.seat(question, &spot);
+            if spot.shared < question.len() {
+                (place, 0)
+            } else {
+                (place, self.field(spot.node, Field::Names))
+            }
+        }
+    }
+
+    /// The position that the question reaches, and how many bytes its name
+    /// shares; nothing where there are no names.
+    pub fn nearest(self, question: &[u8]) -> Option<(usize, usize)> {
+        if self.parts.names == 0 {
+            return None;
+        }
+        // SAFETY: there are names, and a name lies inside its room.
+        unsafe {
+            let (position, name) = self.reach(question);
+            let name = part(&name.bytes, 0, name.length);
+            Some((position, leading_equal(name, question)))
+        }
+    }
+}

@@ -1,0 +1,170 @@
+//! The calls, each with its refusals in their order.
+
+use crate::asking::Sound;
+use crate::building::{judge, Noted};
+use crate::checking::check;
+use crate::{LARGEST_BLOCK, LONGEST_BOOK, LONGEST_NAME};
+
+/// What every call gives back, and what an answer row of a batch holds.
+#[derive(Clone, Copy, Debug, PartialEq, Eq, Default)]
+#[repr(C)]
+pub struct Answer {
+    /// 0 where the call is accepted, else the number of the refusal.
+    pub code: usize,
+    /// The first number of the answer.
+    pub first: usize,
+    /// The second number of the answer.
+    pub second: usize,
+}
+
+/// A question row of a batch: its kind and its span of the question buffer.
+#[derive(Clone, Copy, Debug, PartialEq, Eq, Default)]
+#[repr(C)]
+pub struct Row {
+    /// 1 exact, 2 place, 3 range, 4 nearest.
+    pub kind: usize,
+    /// Where the question begins in the buffer.
+    pub start: usize,
+    /// How many bytes the question has.
+    pub length: usize,
+}
+
+/// A batch has 0 to 64 rows.
+const MOST_ROWS: usize = 64;
+
+/// Code 0 and the two numbers of the answer.
+fn accepted(first: usize, second: usize) -> Answer {
+    Answer {
+        code: 0,
+        first,
+        second,
+    }
+}
+
+/// A refusal, and the record's number where it has one.
+pub(crate) fn refused(code: usize, first: usize) -> Answer {
+    Answer {
+        code,
+        first,
+        second: 0,
+    }
+}
+
+/// Builds a book. Refusals: 8; of each record in turn 5, 6 and 7; 9; 4.
+pub fn book_build(list: &[u8], block: usize, room: &mut [u8]) -> Answer {
+    if !(1..=LARGEST_BLOCK).contains(&block) {
+        return refused(8, 0);
+    }
+    let mut noted = Noted::default();
+    if let Err(answer) = judge(list, &mut noted) {
+        return answer;
+    }
+    let sizes = noted.sizes(block);
+    let length = sizes.book();
+    if length > LONGEST_BOOK {
+        return refused(9, 0);
+    }
+    if room.len() < length {
+        return refused(4, 0);
+    }
+    // SAFETY: the list was judged, and the room is long enough.
+    unsafe { noted.write(list, block, sizes, room) };
+    accepted(length, 0)
+}
+
+/// Checks a book: n and k. Refusal: 2.
+pub fn book_check(book: &[u8]) -> Answer {
+    match check(book) {
+        None => refused(2, 0),
+        Some(parts) => accepted(parts.names, parts.block),
+    }
+}
+
+/// The book, if it is one.
+fn sound(book: &[u8]) -> Option<Sound<'_>> {
+    let parts = check(book)?;
+    // SAFETY: the check gave these parts.
+    Some(unsafe { Sound::new(book, parts) })
+}
+
+/// Reads a name back by its position. Refusals: 2, 3, 4.
+pub fn book_read(book: &[u8], position: usize, room: &mut [u8]) -> Answer {
+    let Some(sound) = sound(book) else {
+        return refused(2, 0);
+    };
+    if position >= sound.names() {
+        return refused(3, 0);
+    }
+    // SAFETY: there is such a position.
+    match unsafe { sound.read(position, room) } {
+        None => refused(4, 0),
+        Some(length) => accepted(length, 0),
+    }
+}
+
+/// Exact: (position, 1) where a name equals the question. Refusals: 2, 1.
+pub fn book_exact(book: &[u8], question: &[u8]) -> Answer {
+    ask_book(book, 1, question)
+}
+
+/// Place: how many names are less than the question. Refusals: 2, 1.
+pub fn book_place(book: &[u8], question: &[u8]) -> Answer {
+    ask_book(book, 2, question)
+}
+
+/// Range: the question's place and how many names begin with it. Refusals:
+/// 2, 1.
+pub fn book_range(book: &[u8], question: &[u8]) -> Answer {
+    ask_book(book, 3, question)
+}
+
+/// Nearest: a position and how many leading bytes are shared there. Refusals:
+/// 2, 1, 10.
+pub fn book_nearest(book: &[u8], question: &[u8]) -> Answer {
+    ask_book(book, 4, question)
+}
+
+/// A single question.
+fn ask_book(book: &[u8], kind: usize, question: &[u8]) -> Answer {
+    match sound(book) {
+        None => refused(2, 0),
+        Some(sound) => ask(sound, kind, question),
+    }
+}
+
+/// A question to a book that was checked. Refusals: 1, 10.
+fn ask(sound: Sound, kind: usize, question: &[u8]) -> Answer {
+    if question.len() > LONGEST_NAME {
+        return refused(1, 0);
+    }
+    let numbers = match kind {
+        1 => Some(sound.exact(question)),
+        2 => Some(sound.place(question)),
+        3 => Some(sound.range(question)),
+        _ => sound.nearest(question),
+    };
+    match numbers {
+        None => refused(10, 0),
+        Some((first, second)) => accepted(first, second),
+    }
+}
+
+/// A batch of questions. Refusals: 12, 2. Those of a row (11, 1, 10) go into the
+/// row's own answer.
+pub fn book_batch(book: &[u8], questions: &[u8], rows: &[Row], answers: &mut [Answer]) -> Answer {
+    if rows.len() > MOST_ROWS || rows.len() != answers.len() {
+        return refused(12, 0);
+    }
+    let Some(sound) = sound(book) else {
+        return refused(2, 0);
+    };
+    for (row, answer) in rows.iter().zip(answers) {
+        let end = row.start.checked_add(row.length);
+        let question = end.and_then(|end| questions.get(row.start..end));
+        *answer = match question {
+            Some(question) if (1..=4).contains(&row.kind) => ask(sound, row.kind, question),
+            _ => refused(11, 0),
+        };
+    }
+    accepted(rows.len(), 0)
+}

@@ -1,0 +1,80 @@
+//! The calls under the names of the proved library's, for C: so every script
+//! that measures that one measures this one as well. reference.sh makes the
+//! archive.
+
+use crate::{Answer, Row};
+use core::slice::{from_raw_parts, from_raw_parts_mut};
+
+#[no_mangle]
+unsafe extern "C" fn book_build(
+    list: *const u8,
+    length: usize,
+    block: usize,
+    room: *mut u8,
+    space: usize,
+) -> Answer {
+    crate::book_build(
+        from_raw_parts(list, length),
+        block,
+        from_raw_parts_mut(room, space),
+    )
+}
+
+#[no_mangle]
+unsafe extern "C" fn book_check(book: *const u8, length: usize) -> Answer {
+    crate::book_check(from_raw_parts(book, length))
+}
+
+#[no_mangle]
+unsafe extern "C" fn book_read(
+    book: *const u8,
+    length: usize,
+    position: usize,
+    room: *mut u8,
+    space: usize,
+) -> Answer {
+    crate::book_read(
+        from_raw_parts(book, length),
+        position,
+        from_raw_parts_mut(room, space),
+    )
+}
+
+#[no_mangle]
+unsafe extern "C" fn book_exact(b: *const u8, n: usize, q: *const u8, m: usize) -> Answer {
+    crate::book_exact(from_raw_parts(b, n), from_raw_parts(q, m))
+}
+
+#[no_mangle]
+unsafe extern "C" fn book_place(b: *const u8, n: usize, q: *const u8, m: usize) -> Answer {
+    crate::book_place(from_raw_parts(b, n), from_raw_parts(q, m))
+}
+
+#[no_mangle]
+unsafe extern "C" fn book_range(b: *const u8, n: usize, q: *const u8, m: usize) -> Answer {
+    crate::book_range(from_raw_parts(b, n), from_raw_parts(q, m))
+}
+
+#[no_mangle]
+unsafe extern "C" fn book_nearest(b: *const u8, n: usize, q: *const u8, m: usize) -> Answer {
+    crate::book_nearest(from_raw_parts(b, n), from_raw_parts(q, m))
+}
+
+#[no_mangle]
+unsafe extern "C" fn book_batch(
+    book: *const u8,
+    length: usize,
+    questions: *const u8,
+    space: usize,
+    rows: *const Row,
+    count: usize,
+    answers: *mut Answer,
+    places: usize,
+) -> Answer {
+    crate::book_batch(
+        from_raw_parts(book, length),
+        from_raw_parts(questions, space),
+        from_raw_parts(rows, count),
+        from_raw_parts_mut(answers, places),
+    )
+}

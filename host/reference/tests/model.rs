@@ -1,0 +1,228 @@
+//! Held to the second program, on random and on damaged books.
+
+use model::book_of;
+use vectors::damage::{self, spoil_book, spoil_bytes, spoil_names};
+use vectors::lists::{self, Names};
+use vectors::pieces::Pieces;
+use vectors::questions::{any_question, around_all};
+use vectors::random::Random;
+use vectors::{batches, hostile};
+
+type Numbers = (usize, usize, usize);
+
+fn ours(answer: reference::Answer) -> Numbers {
+    (answer.code, answer.first, answer.second)
+}
+
+fn theirs(answer: model::Answer) -> Numbers {
+    (answer.code, answer.first, answer.second)
+}
+
+/// Lists of every shape, small enough for the second program.
+fn any_names(random: &mut Random) -> Names {
+    let all = lists::all_bytes();
+    match random.below(8) {
+        0 => Names::new(),
+        1 => lists::random(random, b"ab", 60, 1, 8),
+        2 => lists::random(random, &all, 60, 1, 40),
+        3 => lists::grown(random, b"abc", 80, 12),
+        4 => lists::grown(random, &all, 40, 60),
+        5 => lists::chain(random.byte(), random.between(1, 200)),
+        6 => lists::mirror(b'a', b'b', random.between(1, 200)),
+        _ => lists::fan(&random.string(b"ab", 1, 5)),
+    }
+}
+
+/// Everything that can be asked of bytes, whatever they are.
+fn same_answers(random: &mut Random, book: &[u8], names: &Names) {
+    assert_eq!(
+        ours(reference::book_check(book)),
+        theirs(model::book_check(book))
+    );
+    let position = random.below(names.len() + 2);
+    let (mut one, mut other) = ([7; 200], [7; 200]);
+    let room = random.between(0, 200);
+    let read = reference::book_read(book, position, &mut one[..room]);
+    assert_eq!(
+        ours(read),
+        theirs(model::book_read(book, position, &mut other[..room]))
+    );
+    assert_eq!(one, other, "the room of a read");
+    let question = any_question(random, names);
+    same_questions(book, &question);
+}
+
+/// A question in all four kinds.
+fn same_questions(book: &[u8], question: &[u8]) {
+    let kinds = [
+        (
+            ours(reference::book_exact(book, question)),
+            theirs(model::book_exact(book, question)),
+        ),
+        (
+            ours(reference::book_place(book, question)),
+            theirs(model::book_place(book, question)),
+        ),
+        (
+            ours(reference::book_range(book, question)),
+            theirs(model::book_range(book, question)),
+        ),
+        (
+            ours(reference::book_nearest(book, question)),
+            theirs(model::book_nearest(book, question)),
+        ),
+    ];
+    for (one, other) in kinds {
+        assert_eq!(one, other, "{question:?}");
+    }
+}
+
+#[test]
+fn builds_the_same_books() {
+    let mut random = Random::from_seed(1);
+    for _ in 0..600 {
+        let mut names = any_names(&mut random);
+        let block = random.below(67);
+        if random.once_in(4) {
+            spoil_names(&mut random, &mut names);
+        }
+        let mut list = model::write_list(&names);
+        if random.once_in(4) {
+            spoil_bytes(&mut random, &mut list);
+        }
+        let length = book_of(block.max(1), &names).len();
+        let room = random.between(length.saturating_sub(2), length + 2);
+        let (mut one, mut other) = (vec![7; room], vec![7; room]);
+        let built = reference::book_build(&list, block, &mut one);
+        assert_eq!(
+            ours(built),
+            theirs(model::book_build(&list, block, &mut other))
+        );
+        assert_eq!(one, other, "the book");
+    }
+}
+
+#[test]
+fn builds_the_largest_books() {
+    let lists = [
+        lists::pairs(2000),
+        lists::pairs(2001),
+        lists::binary(1860),
+        lists::long(300),
+        lists::long(320),
+        lists::with_book_length(&lists::binary(1800), 16, 65_535),
+        lists::with_book_length(&lists::binary(1800), 16, 65_536),
+    ];
+    for names in lists {
+        let list = model::write_list(&names);
+        let (mut one, mut other) = (vec![7; 65_536], vec![7; 65_536]);
+        let built = reference::book_build(&list, 16, &mut one);
+        assert_eq!(
+            ours(built),
+            theirs(model::book_build(&list, 16, &mut other))
+        );
+        assert_eq!(one, other, "the book");
+        let book = &one[..built.first];
+        assert_eq!(
+            ours(reference::book_check(book)),
+            theirs(model::book_check(book))
+        );
+    }
+}
+
+#[test]
+fn answers_the_same_of_sound_and_of_damaged_books() {
+    let mut random = Random::from_seed(2);
+    for _ in 0..1500 {
+        let names = any_names(&mut random);
+        let block = random.between(1, 64);
+        let book = match random.below(4) {
+            0 => book_of(block, &names),
+            1 if names.len() > 1 => hostile::any(&mut random, block, &names).bytes(),
+            _ => spoil_book(&mut random, block, &names),
+        };
+        same_answers(&mut random, &book, &names);
+    }
+}
+
+#[test]
+fn refuses_every_change_that_the_second_program_refuses() {
+    let mut random = Random::from_seed(3);
+    for (block, names) in [(2, lists::example()), (16, lists::stops())] {
+        let pieces = Pieces::of(block, &names);
+        let book = pieces.bytes();
+        let mut spoilt = damage::changed_bytes(&book);
+        spoilt.extend(damage::cut_books(&book));
+        for change in [
+            damage::other_counts,
+            damage::large_counts,
+            damage::other_rests,
+            damage::other_entries,
+            damage::other_starts,
+            damage::other_nodes,
+            damage::gaps,
+            damage::other_pieces,
+        ] {
+            spoilt.extend(change(&pieces));
+        }
+        for (how, bytes) in spoilt {
+            let one = ours(reference::book_check(&bytes));
+            assert_eq!(one, theirs(model::book_check(&bytes)), "{how}");
+            if random.once_in(20) {
+                same_answers(&mut random, &bytes, &names);
+            }
+        }
+    }
+}
+
+#[test]
+fn refuses_every_hostile_table() {
+    for kind in hostile::kinds() {
+        for book in [kind.with_names(hostile::DEEPER_THAN_ANY), kind.largest()] {
+            let bytes = book.bytes();
+            let one = ours(reference::book_check(&bytes));
+            assert_eq!(one, theirs(model::book_check(&bytes)), "{}", kind.how);
+        }
+    }
+}
+
+#[test]
+fn answers_all_around_every_name() {
+    for (block, names) in [(2, lists::example()), (7, lists::stops())] {
+        let book = book_of(block, &names);
+        for question in around_all(&names) {
+            same_questions(&book, &question);
+        }
+        for length in [0, 199, 200, 201, 300] {
+            same_questions(&book, &vec![b'M'; length]);
+        }
+    }
+}
+
+#[test]
+fn answers_a_batch_row_by_row() {
+    let mut random = Random::from_seed(4);
+    for _ in 0..300 {
+        let names = any_names(&mut random);
+        let book = book_of(random.between(1, 64), &names);
+        let batch = batches::any_batch(&mut random, &names);
+        let rows = batch.rows();
+        let places = batches::any_places(&mut random, rows.len());
+        let mut other = vec![model::Answer::default(); places];
+        let expected = model::book_batch(&book, &batch.questions, &rows, &mut other);
+        let rows: Vec<reference::Row> = rows
+            .iter()
+            .map(|row| reference::Row {
+                kind: row.kind,
+                start: row.start,
+                length: row.length,
+            })
+            .collect();
+        let mut one = vec![reference::Answer::default(); places];
+        let answer = reference::book_batch(&book, &batch.questions, &rows, &mut one);
+        assert_eq!(ours(answer), theirs(expected));
+        let one: Vec<Numbers> = one.into_iter().map(ours).collect();
+        let other: Vec<Numbers> = other.into_iter().map(theirs).collect();
+        assert_eq!(one, other);
+    }
+}

@@ -1,0 +1,170 @@
+//! Lists and questions that cost most, by their parameters.
+//!
+//! What a check takes goes with the names, the forks and the blocks; what a
+//! question takes, with the children that it passes on its way down, the entries
+//! of the last block, and the bytes that it compares. `measure.sh worst` looks
+//! for parameters; the dearest that were found are [`dearest_check`] and
+//! [`dearest_question`].
+
+use crate::lists::{sorted, Names};
+use crate::random::Random;
+use model::layout::{book_of, LONGEST_BOOK};
+use model::names::{LONGEST_NAME, MOST_NAMES};
+
+/// A list, a block size and a question.
+#[derive(Clone)]
+pub struct Worst {
+    /// What it is, in a word and its parameters.
+    pub what: String,
+    /// The names.
+    pub names: Names,
+    /// The block size.
+    pub block: usize,
+    /// The question.
+    pub question: Vec<u8>,
+}
+
+impl Worst {
+    /// The book.
+    pub fn book(&self) -> Vec<u8> {
+        book_of(self.block, &self.names)
+    }
+
+    /// Whether a book can be made of it.
+    pub fn fits(&self) -> bool {
+        let names = self.names.len() <= MOST_NAMES;
+        names && self.book().len() <= LONGEST_BOOK
+    }
+}
+
+/// A chain of this length behind each first byte, or behind each two of them
+/// where there are more: x, xa, xaa, .. Every name but the last of a chain is a
+/// fork, too. The question is the last name.
+pub fn chains(count: usize, length: usize, block: usize) -> Worst {
+    let heads = count.div_ceil(length);
+    let head = |number: usize| match heads {
+        ..=256 => vec![number as u8],
+        _ => vec![(number / 256) as u8, number as u8],
+    };
+    let names = (0..count).map(|number| {
+        let links = number % length;
+        [head(number / length), vec![b'a'; links]].concat()
+    });
+    let names: Names = names.collect();
+    Worst {
+        what: format!("chains, names {count} length {length} block {block}"),
+        question: names.last().cloned().unwrap_or_default(),
+        names,
+        block,
+    }
+}
+
+/// A path of forks, each as many bytes below the one before as `step` says. At
+/// each fork some leaves stand before the way down, with tails, and at the last
+/// one there are leaves alone. The question passes all of them and fits none of
+/// the last. Where bytes lie between the forks it differs in one of the first
+/// of these, which the way down does not look at.
+#[derive(Clone, Copy, Debug)]
+pub struct Comb {
+    /// How many forks the path has before the last.
+    pub levels: usize,
+    /// How many bytes lie between two.
+    pub step: usize,
+    /// How many leaves stand before the way down.
+    pub leaves: usize,
+    /// How many bytes they have behind the first.
+    pub tail: usize,
+    /// How many leaves the last fork has.
+    pub last: usize,
+    /// How many names a block has.
+    pub block: usize,
+    /// Whether the question differs in a byte that is not looked at.
+    pub astray: bool,
+}
+
+/// The byte of the way down, and the one between the forks.
+const DOWN: u8 = 255;
+const BETWEEN: u8 = b'm';
+
+impl Comb {
+    /// Whether its names are short enough and its rows have enough bytes.
+    pub fn can_be(&self) -> bool {
+        let depth = self.levels * self.step + 1;
+        let rows = self.leaves < usize::from(DOWN) && (2..=254).contains(&self.last);
+        let count = self.levels * self.leaves + self.last;
+        rows && depth + self.tail <= LONGEST_NAME && count <= MOST_NAMES
+    }
+
+    /// The bytes down to the fork of this number.
+    fn stem(&self, fork: usize) -> Vec<u8> {
+        let mut link = vec![BETWEEN; self.step];
+        link[0] = DOWN;
+        link.repeat(fork)
+    }
+
+    /// The list and its question.
+    pub fn worst(&self) -> Worst {
+        let leaf =
+            |stem: &[u8], byte: usize| [stem, &[byte as u8], &vec![b't'; self.tail]].concat();
+        let mut names = Names::new();
+        for fork in 0..self.levels {
+            let stem = self.stem(fork);
+            names.extend((0..self.leaves).map(|byte| leaf(&stem, byte)));
+        }
+        let stem = self.stem(self.levels);
+        names.extend((0..self.last).map(|byte| [&stem[..], &[byte as u8]].concat()));
+        let mut question = [&stem[..], &[DOWN - 1]].concat();
+        if self.astray && self.step > 1 {
+            question[1] = BETWEEN + 1;
+        }
+        Worst {
+            what: format!("{self:?}"),
+            names,
+            block: self.block,
+            question,
+        }
+    }
+}
+
+/// Random names of a random kind that share beginnings, as many as can be, and a
+/// question for them.
+pub fn any(random: &mut Random) -> Worst {
+    let letters = random.between(1, 4);
+    let alphabet = &b"abcd"[..letters];
+    let (count, tail) = (random.between(500, MOST_NAMES), random.between(1, 12));
+    let block = *random.one_of(&[1, 2, 4, 16, 64]);
+    let names = crate::lists::grown(random, alphabet, 2 * count, tail);
+    let mut worst = Worst {
+        what: format!("grown, letters {letters} tail {tail} block {block}"),
+        names: sorted(names).into_iter().take(count).collect(),
+        block,
+        question: Vec::new(),
+    };
+    while !worst.fits() {
+        worst.names.truncate(worst.names.len() * 9 / 10);
+    }
+    worst.question = random.one_of(&worst.names).clone();
+    worst
+}
+
+/// The dearest check that was found: as many names as can be, nearly all of them
+/// forks, each in a block of its own and as long as there is space for.
+pub fn dearest_check() -> Worst {
+    chains(MOST_NAMES, 17, 1)
+}
+
+/// The dearest question that was found: as many levels as can be, with nine
+/// children to pass on each, and the name that it comes to is the last of a
+/// block.
+pub fn dearest_question() -> Worst {
+    let comb = Comb {
+        levels: 199,
+        step: 1,
+        leaves: 9,
+        tail: 0,
+        last: 209,
+        block: 64,
+        astray: false,
+    };
+    comb.worst()
+}

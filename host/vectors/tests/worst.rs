@@ -1,0 +1,79 @@
+//! Lists that cost most, and those of which one parameter doubles, are lists.
+
+use model::calls::LONGEST_QUESTION;
+use model::names::LONGEST_NAME;
+use vectors::growth;
+use vectors::random::Random;
+use vectors::worst::{any, chains, dearest_check, dearest_question, Comb, Worst};
+
+/// Names rise and are long enough, a book can be made, the question can be asked.
+fn assert_sound(worst: &Worst) {
+    let what = &worst.what;
+    assert!(worst.names.is_sorted_by(|one, next| one < next), "{what}");
+    let lengths = worst.names.iter().map(Vec::len);
+    assert!(lengths.clone().min() > Some(0), "{what}");
+    assert!(lengths.max() <= Some(LONGEST_NAME), "{what}");
+    assert!(worst.question.len() <= LONGEST_QUESTION, "{what}");
+    assert!(worst.fits(), "{what}");
+}
+
+#[test]
+fn the_dearest_are_sound_and_as_large_as_they_say() {
+    let (check, question) = (dearest_check(), dearest_question());
+    for worst in [&check, &question] {
+        assert_sound(worst);
+        assert_eq!(worst.names.len(), 2000);
+    }
+    assert_eq!(check.book().len(), 64_813);
+    assert_eq!(question.book().len(), 31_748);
+    assert!(!chains(2000, 18, 1).fits(), "one more would be too long");
+    // The name that the question comes to is the last of a block.
+    let first = question.names.partition_point(|name| name.len() < 200);
+    assert_eq!(first % question.block, question.block - 1);
+}
+
+#[test]
+fn what_is_made_at_random_is_sound() {
+    let mut random = Random::from_seed(1);
+    for _ in 0..3 {
+        assert_sound(&any(&mut random));
+    }
+    let comb = Comb {
+        levels: 3,
+        step: 4,
+        leaves: 2,
+        tail: 5,
+        last: 3,
+        block: 2,
+        astray: true,
+    };
+    assert!(comb.can_be());
+    let worst = comb.worst();
+    assert_sound(&worst);
+    assert_eq!(worst.names.len(), 3 * 2 + 3);
+    // It goes astray at a byte that the way down does not look at.
+    assert_eq!(worst.question[..4], [255, b'm' + 1, b'm', b'm']);
+}
+
+#[test]
+fn one_parameter_doubles() {
+    let all = growth::all();
+    for grown in &all {
+        assert_sound(&grown.list);
+    }
+    for pair in all.windows(2) {
+        if pair[0].parameter == pair[1].parameter {
+            let doubled = 2 * pair[0].value;
+            assert!((doubled..=doubled + 1).contains(&pair[1].value));
+        }
+    }
+    let count = |parameter| {
+        let named = all.iter().filter(|grown| grown.parameter == parameter);
+        named
+            .map(|grown| grown.list.names.len())
+            .collect::<Vec<usize>>()
+    };
+    assert_eq!(count("names"), [125, 250, 500, 1000, 2000]);
+    assert_eq!(count("levels"), [200; 5]);
+    assert_eq!(count("children in a row"), [256; 5]);
+}
