@@ -29,10 +29,14 @@ def read_crates(path):
 
 
 def depths(crates):
+    """name -> its row, counted from the lowest, in whatever order the lines stand."""
     rows = {}
-    for name, (_, names) in crates.items():
-        rows[name] = 1 + max((rows[d] for d in names), default=-1)
-    return rows
+
+    def row(name):
+        if name not in rows:
+            rows[name] = 1 + max((row(d) for d in crates[name][1]), default=-1)
+        return rows[name]
+    return {name: row(name) for name in crates}
 
 
 def direct(crates, name):
