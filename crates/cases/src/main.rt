@@ -19,5 +19,6 @@ fn main() {
     walk::run(Call::Check, b"check.cases", &mut file);
     walk::run(Call::Read, b"read.cases", &mut file);
     walk::run(Call::Ask, b"ask.cases", &mut file);
+    walk::run(Call::Ask, b"dearest.cases", &mut file);
     walk::run(Call::Batch, b"batch.cases", &mut file);
 }

@@ -31,6 +31,7 @@ use crate::pieces::Pieces;
 use crate::questions::{all_short, any_question, around_all, extensions, misses};
 use crate::random::Random;
 use crate::rooms::printed_answer;
+use crate::worst::{dearest_check, dearest_question};
 use crate::{Case, Set};
 use model::{book_exact, book_nearest, book_of, book_place, book_range};
 use std::rc::Rc;
@@ -39,6 +40,12 @@ use std::rc::Rc;
 pub const SET: Set = Set {
     name: "ask",
     cases: boxed_cases,
+};
+
+/// A second set, with a file of the same kind.
+pub const DEAREST: Set = Set {
+    name: "dearest",
+    cases: boxed_dearest,
 };
 
 /// A question to a book, asked in all four kinds.
@@ -109,7 +116,15 @@ pub fn cases() -> Vec<AskCase> {
 }
 
 fn boxed_cases() -> Vec<Box<dyn Case>> {
-    let cases = cases().into_iter();
+    boxed(cases())
+}
+
+fn boxed_dearest() -> Vec<Box<dyn Case>> {
+    boxed(dearest())
+}
+
+fn boxed(cases: Vec<AskCase>) -> Vec<Box<dyn Case>> {
+    let cases = cases.into_iter();
     cases.map(|case| Box::new(case) as Box<dyn Case>).collect()
 }
 
@@ -446,4 +461,16 @@ fn hostile_tables() -> Vec<AskCase> {
             of_bytes(&purpose, book, vec![question.clone()])
         })
         .collect()
+}
+
+/// The books that cost most, to check and to ask: the question of each, with a
+/// byte more, and what misses it by one byte.
+pub fn dearest() -> Vec<AskCase> {
+    let worst = [("check", dearest_check()), ("question", dearest_question())];
+    let cases = worst.into_iter().flat_map(|(call, worst)| {
+        let asked = &worst.question;
+        let around = [vec![asked.clone()], extensions(asked), misses(asked)];
+        of_bytes(&format!("dearest {call}"), worst.book(), around.concat())
+    });
+    cases.collect()
 }

@@ -70,11 +70,12 @@ pub struct Set {
 }
 
 /// Every set, in the order in which a program runs them.
-pub const SETS: [Set; 5] = [
+pub const SETS: [Set; 6] = [
     building::SET,
     checking::SET,
     reading::SET,
     asking::SET,
+    asking::DEAREST,
     batching::SET,
 ];
 

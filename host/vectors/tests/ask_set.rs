@@ -199,3 +199,22 @@ fn damaged_books_are_asked_questions_of_201_bytes_too() {
     let long = cases.iter().filter(|case| case.question.len() > 200);
     assert!(long.filter(refused).count() > 40);
 }
+
+#[test]
+fn the_dearest_books_are_a_file_of_the_same_kind() {
+    let file = asking::DEAREST.case_file();
+    let cases = read_file(&file);
+    let lines = cases.iter().enumerate();
+    let text: String = lines.map(|(number, case)| line(number, case)).collect();
+    assert_eq!(text, asking::DEAREST.expected());
+    // Of 2,000 names in chains of 17 the last one stands at 1,999 and has 11
+    // bytes. The path has 199 levels with nine names each.
+    for (purpose, outcome) in [
+        ("dearest check: ", "0 1999 1 0 1999 0 0 1999 1 0 1999 11"),
+        ("dearest question: ", "0 0 0 0 2000 0 0 2000 0 0 1791 199"),
+    ] {
+        let mut cases = asking::dearest().into_iter();
+        let found = cases.find(|case| case.purpose().starts_with(purpose));
+        assert_eq!(found.expect(purpose).outcome(), outcome, "{purpose}");
+    }
+}
