@@ -130,7 +130,7 @@ pub +check-node+check-row-spec : {M : Type 1} → statement M
     (λ c. omega (arith, like t (c .before .before .before), c .before .before .before .before .before .before .before .before .before .before .loop .inv, c .before .before .before .before .before .before .before .before .before .before .loop .inv .known .short))
     (λ c. omega (arith, turn t c, (turn t c) .rows .within, (turn t c) .rows .known .few))
     (λ c. omega (arith, (turn t c) .rows .within, (turn t c) .rows .known .few))
-    (λ c. search (law.rows-apart, turn t (c .before .before)))
+    (λ c. law.rows-apart _ _ _ _ _ _ _ _ _ _ _ _ (turn t (c .before .before)) (c .before .if7 .taken) (c .if8 .taken))
     (λ c. search (law.rows-done, turn t (c .before .before)))
     (λ c κs. (turn t (c .before)) .fits)
     (λ c κs. law.rows-meets _ _ _ _ _ _ _ _ _ _ _ _ (turn t (c .before .before)) (c .before .if7 .left) _ (c .next-entry .ensures))

@@ -14,4 +14,4 @@ is-led-to-spec =
     (λ c. search led-symbol)
     (λ c. search needs)
     (λ c κs. search needs)
-    (λ c. search led-first))
+    (λ c. led-first _ _ _ _ _ _ _ (c .before .before .before .number-at .ensures .0) (c .before .before .symbol-of .ensures) (c .before .if1 .left) _ (c .number-at2 .ensures .0)))
