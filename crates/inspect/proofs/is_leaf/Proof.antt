@@ -13,7 +13,7 @@ is-leaf-spec =
     (λ c κs. search needs)
     (λ c κs. search needs)
     (λ c. search needs)
-    (λ c. search leaf-depth)
+    (λ c. leaf-depth _ _ _ _ _ (c .before .before .number-at .ensures .0) (c .before .length-of .ensures .0) (c .if1 .taken))
     (λ c. search needs)
     (λ c κs. search needs)
     (λ c. leaf-nodes _ _ _ _ _ (c .before .before .before .number-at .ensures .0) (c .before .before .length-of .ensures .0) (c .before .if1 .left) _ (c .number-at2 .ensures .0)))

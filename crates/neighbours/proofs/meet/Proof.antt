@@ -25,5 +25,5 @@ meet-spec =
     (λ c. search meet-few)
     (λ c. search meet-sum)
     (λ c κs. search meet-place)
-    (λ c κs. search meet-asks)
+    (λ c κs. meet-asks _ _ _ _ _ _ _ (c .number-at3 .ensures .0) (c .before .before .before .before .before .before .before .before .pre) (c .before .before .before .number-at .ensures .0) (c .before .number-at2 .ensures .0) (c .before .before .if2 .left) (c .before .before .before .before .before .wide .ensures .0) (c .before .before .before .before .if1 .left))
     (λ c. search meet-counted))
