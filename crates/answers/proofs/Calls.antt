@@ -20,7 +20,7 @@ use Rattle.format.specs.Records.{Names, Reading, Refused, longest, readList}
 use Rattle.format.specs.Book.{Book, NoBook, Opened, book, goodBlock, longestBook, opened}
 use Rattle.format.proofs.Outcomes.{Kept, picked, same-kept, write-kept}
 use Rattle.format.proofs.Records.{read-refused}
-use Rattle.format.specs.Outcomes.{Answer, Written, given, over, refused, write}
+use Rattle.format.specs.Outcomes.{Answer, Written, given, refused, write}
 use Rattle.answers.specs.Calls.{Batched, Row, batch, batchOf, build, builtFrom, goodRow, questionOf, readBack, readBackOf, rowAnswer}
 use Rattle.answers.specs.Questions.{Pair, answer}
 

@@ -12,7 +12,7 @@ use lib.ListN.{length, getD, take, drop}
 use Rattle.words.specs.Words.{Bytes, Rule, pick, both}
 use Rattle.format.specs.Records.{Reading, Names, Refused, readList, longest}
 use Rattle.format.specs.Book.{Opened, Book, NoBook, longestBook, goodBlock, book, opened}
-use Rattle.format.specs.Outcomes.{Answer, Written, checkOf, given, numbered, over, refused, write}
+use Rattle.format.specs.Outcomes.{Answer, Written, checkOf, given, numbered, refused, write}
 use Rattle.answers.specs.Questions.{answer}
 
 -- an answer, and the lent answer rows afterwards

@@ -3,16 +3,16 @@
 --     leaf-stands, leaf-not    the record of one name
 --     node-asks, node-says     the record of several names: what the check of its row asks, and what it says
 -- Assumes nothing.
-use Prim.Native.Nat.{ℕ, suc, pred, _+_, _-_, _*_, _≤_, _<_}
+use Prim.Native.Nat.{ℕ, suc, _+_, _*_, _≤_, _<_}
 use native.Mathlib.Omega.{arith}
 use mathlib.Core.Path.{_≡_, refl, sym, ap, _∙_, subst}
-use lib.ListN.{length, getD}
+use lib.ListN.{length}
 use Rattle.words.specs.Words.{Bytes, nth}
-use Rattle.format.specs.Book.{number, nodeSize}
+use Rattle.format.specs.Book.{number}
 use Rattle.format.specs.Nodes.{Node, leaf}
 use Rattle.streams.specs.Streams.{Here, lengthAt, namesOf, wordsOf}
 use Rattle.streams.proofs.Here.{here-length, words-count}
-use Rattle.standing.specs.Stands.{GroupAt, NodeAt, recordAt}
+use Rattle.standing.specs.Stands.{NodeAt, recordAt}
 use Rattle.standing.proofs.Children as child
 use Rattle.inspect.specs.Check.{Ask, LeafAt, NodeAsk, NodeSays, RowAsk, RowSays, Says}
 

@@ -7,7 +7,7 @@
 use Prim.Native.Nat.{ℕ, suc, pred, _+_, _-_, _*_, _≤_, _<_}
 use native.Mathlib.Nat.{lt-irrefl}
 use native.Mathlib.Omega.{arith}
-use mathlib.Core.Path.{_≡_, refl, sym, ap, _∙_, subst}
+use mathlib.Core.Path.{_≡_, refl, sym, _∙_, subst}
 use mathlib.Core.Bool.{Bool, false, not, true}
 use lib.ListN.{length, getD}
 use Rattle.words.specs.Words.{Bytes, at, nth, plain, shared, word}
@@ -15,7 +15,7 @@ use Rattle.words.proofs.Words.{false≠true}
 use Rattle.format.specs.Book.{nodeSize, number, trailerSize}
 use Rattle.format.specs.Nodes.{deep}
 use Rattle.format.specs.Records.{longest}
-use Rattle.streams.specs.Streams.{Here, InBlocks, Known, entryEnd, lengthAt, namesOf, offsetAt, offsetFrom, restAt, wordsOf}
+use Rattle.streams.specs.Streams.{Here, InBlocks, Known, entryEnd, lengthAt, namesOf, offsetFrom, restAt, wordsOf}
 use Rattle.streams.proofs.Here.{here-fits, here-next, here-rises, here-symbol, name-short, words-count}
 use Rattle.standing.specs.Stands.{Child, GroupAt, NodeAt}
 use Rattle.standing.proofs.Walk.{Ahead, Walk, deep-short, group-end, node-head, walk-done, walk-more, walk-next, walk-start}

@@ -2,7 +2,7 @@
 --     Along                 what is counted so far: what the last name that was passed shares with the name behind the block
 --     along-start, along-fits, along-asks, along-more, along-done     the loop
 -- Assumes nothing.
-use Prim.Native.Nat.{ℕ, suc, pred, _+_, _-_, _≤_, _<_}
+use Prim.Native.Nat.{ℕ, suc, pred, _+_, _≤_, _<_}
 use native.Mathlib.Nat.{lt-irrefl}
 use native.Mathlib.Omega.{arith}
 use mathlib.Core.Path.{_≡_, refl, sym, ap, ap₂, _∙_, subst}
@@ -12,10 +12,10 @@ use mathlib.Core.List.{List, [], _++_}
 use lib.ListN.{length, getD, take, drop, length-take, length-drop, length-map}
 use lib.Seq.{length-take-le}
 use borrow.Author.Tests.{le-ltb, lt-ltb}
-use Rattle.words.specs.Words.{Bytes, less, nth, plain, shared, word}
+use Rattle.words.specs.Words.{Bytes, less, nth, plain, shared}
 use Rattle.words.proofs.Rising.{nth-less}
 use Rattle.words.proofs.Words.{Sides, apart, before, behind, less-short, level, plain-injective, shared-append, shared-comm, shared-front, shared-trans, shared-two, shared-word, sides}
-use Rattle.streams.specs.Streams.{Here, Known, entryEnd, nameAt, namesOf, offsetAt, prevOf, restAt, wordsOf}
+use Rattle.streams.specs.Streams.{Here, Known, entryEnd, namesOf, offsetAt, prevOf, restAt, wordsOf}
 use Rattle.streams.proofs.Here.{comes, here-fits, here-next, here-only, here-rises, words-count, words-nth}
 use Rattle.neighbours.specs.Neighbours.{AlongAsk, AlongSays, NextAsk, RestAsk, sharedNext}
 

@@ -5,13 +5,12 @@
 use Prim.Native.Nat.{ℕ, _+_, _-_, _≤_, _<_}
 use native.Mathlib.Omega.{arith}
 use mathlib.Core.Path.{_≡_, refl, sym, ap, _∙_, subst}
-use mathlib.Core.Bool.{Bool}
-use lib.ListN.{length, getD, take, drop, length-take, length-drop}
+use lib.ListN.{length, getD, drop, length-take, length-drop}
 use lib.Seq.{getD-take, getD-drop}
 use borrow.Author.Tests.{le-ltb, lt-ltb}
 use mir.Val.{Fits}
 use mir.Syntax.{w64}
-use Rattle.words.specs.Words.{Bytes, pick, shared}
+use Rattle.words.specs.Words.{Bytes, shared}
 use Rattle.words.proofs.Words.{part-at, shared-le, shared-more}
 use Rattle.streams.specs.Streams.{restAt}
 use Rattle.neighbours.specs.Neighbours.{NextAsk, RestAsk, sharedNext}

@@ -8,7 +8,7 @@ use native.Mathlib.Omega.{arith}
 use mathlib.Core.Path.{_≡_, _∙_, ap, ap₂, refl, sym}
 use mathlib.Core.Bool.{Bool, false, true}
 use lib.Dec.{eqb, leb}
-use lib.ListN.{drop, length, take}
+use lib.ListN.{drop, take}
 use borrow.Author.Tests.{eq-eqb, eqb-true, le-leb, leb-true}
 use Rattle.words.specs.Words.{Bytes, plain}
 use Rattle.words.proofs.Words.{both-true}

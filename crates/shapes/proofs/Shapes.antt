@@ -3,7 +3,7 @@
 --     answered-injective     answers with the same numbers are the same
 --     answers-injective      and so are rows of answers
 -- Assumes nothing.
-use mathlib.Core.Path.{_≡_, refl, sym, ap, ap₂, _∙_}
+use mathlib.Core.Path.{_≡_, refl, sym, ap, _∙_}
 use mathlib.Core.List.{List, [], _∷_, map}
 use Rattle.format.specs.Outcomes.{Answer as Numbers}
 use Rattle.shapes.specs.Shapes.{answered}

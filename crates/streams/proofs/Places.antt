@@ -2,18 +2,15 @@
 --     offset-add, offset-next     entry number i + j is entry number j after entry number i
 --     stream-at                 a stream from entry number i on
 --     run-end, run-first-count, run-next-count    a run ends where its last entry does; inside it the stored count is what is shared
---     last-at, prev-last        the last of some names by position
---     block-end                 a block ends where the entry behind it stands
 -- Assumes nothing.
 use Prim.Native.Nat.{ℕ, zero, suc, _+_, _≤_, _<_}
 use native.Mathlib.Nat.{not-suc-le-zero, le-of-suc-le-suc}
 use native.Mathlib.Omega.{arith}
-use mathlib.Core.Path.{_≡_, refl, sym, ap, ap₂, _∙_, subst}
+use mathlib.Core.Path.{_≡_, refl, sym, ap, _∙_, subst}
 use mathlib.Core.List.{List, [], _∷_}
-use lib.ListN.{length, getD, take, drop, length-drop}
-use lib.Seq.{getD-drop, length-take-le}
+use lib.ListN.{length, getD, drop}
 use Rattle.words.specs.Words.{Bytes, shared}
-use Rattle.streams.specs.Runs.{Run, done, lastOf, more}
+use Rattle.streams.specs.Runs.{Run, done, more}
 use Rattle.streams.specs.Streams.{Stream, entry, entryEnd, offsetAt, offsetFrom, prevOf}
 use Rattle.streams.proofs.Fronts.{Entered, entered}
 
@@ -73,24 +70,3 @@ unfolding offsetFrom
 run-next-count b e o prev [] j w r h = absurd (not-suc-le-zero h)
 run-next-count b e o prev (x ∷ xs) zero w (more k q r) h = run-first-count b e (entryEnd b o) x xs w r (le-of-suc-le-suc h)
 run-next-count b e o prev (x ∷ xs) (suc j) w (more k q r) h = run-next-count b e (entryEnd b o) x xs j w r (le-of-suc-le-suc h)
-
--- ---- the last of some names
-
-pub last-at : (prev : Bytes) (m : ℕ) (xs : List Bytes) → m < length xs → lastOf prev (take (suc m) xs) ≡ getD xs m []
-unfolding lastOf
-last-at prev m [] h = absurd (not-suc-le-zero h)
-last-at prev zero (x ∷ xs) h = refl
-last-at prev (suc m) (x ∷ xs) h = last-at x m xs (le-of-suc-le-suc h)
-
-pub prev-last : (xs : List Bytes) (i m : ℕ) → 1 ≤ m → i + m ≤ length xs → prevOf xs (i + m) ≡ lastOf [] (take m (drop i xs))
-prev-last xs i zero one h = absurd (not-suc-le-zero one)
-prev-last xs i (suc m) one h =
-    let z : i + suc m ≡ suc (i + m) = omega arith in
-    ap (prevOf xs) z ∙ sym (getD-drop i xs m []) ∙ sym (last-at [] m (drop i xs) (omega (arith, length-drop i xs)))
-
--- ---- a block, by the numbers of its names
-
-pub block-end : (b : Bytes) (xs : List Bytes) (i m o e : ℕ) → offsetAt b i ≡ o → Run b e o [] (take m (drop i xs)) → i + m ≤ length xs → offsetAt b (i + m) ≡ e
-block-end b xs i m o e here run all =
-    let size : length (take m (drop i xs)) ≡ m = length-take-le m (drop i xs) (omega (arith, length-drop i xs)) in
-    offset-add b 0 i m ∙ ap₂ (λ (p q : ℕ). offsetFrom b p q) here (sym size) ∙ run-end b e o [] (take m (drop i xs)) run

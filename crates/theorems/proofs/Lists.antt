@@ -5,9 +5,9 @@
 --     round-trip                 both at once, from the code 0 of a build: the list is given again
 --     rest-some                  the rest of an entry is never empty
 -- Assumes nothing.
-use Prim.Native.Nat.{ℕ, suc, _*_, _≤_, _<_}
+use Prim.Native.Nat.{ℕ, _*_, _≤_, _<_}
 use native.Mathlib.Omega.{arith}
-use mathlib.Core.Path.{_≡_, refl, sym, ap, _∙_, subst}
+use mathlib.Core.Path.{_≡_, refl, ap, _∙_}
 use mathlib.Core.Bool.{Bool, false, true}
 use mathlib.Core.List.{List, [], map}
 use lib.Dec.{leb}
@@ -17,7 +17,7 @@ use borrow.Author.Tests.{le-leb, leb-true, lt-ltb}
 use Rattle.words.specs.Words.{Bytes, Lawful, Rule, less, pick, shared, word}
 use Rattle.words.proofs.Lists.{all-at}
 use Rattle.words.proofs.Rising.{nth-less, nth-word}
-use Rattle.words.proofs.Words.{both-true, false≠true, less-short, shared-word-le}
+use Rattle.words.proofs.Words.{both-true, less-short, shared-word-le}
 use Rattle.format.specs.Book.{book, entryPart, fits, goodBlock, longestBook}
 use Rattle.format.specs.Entries.{blocks, decode, decodeFrom, offsets}
 use Rattle.format.specs.Records.{Names, Reading, Refused, encode, readList, sound}

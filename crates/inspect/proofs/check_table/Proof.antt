@@ -1,6 +1,5 @@
 -- `inspect::check_table` meets its contract: no name, the root's record, one name, several names. The reasoning is in proofs/Table.antt.
 -- Assumes nothing.
-use native.Mathlib.Omega.{arith}
 use borrow.Author.Needs.{needs}
 use Rattle.inspect.proofs.Table as law
 use Rattle.inspect.proofs.check_table.Statement.{statement}

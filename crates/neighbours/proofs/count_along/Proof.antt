@@ -2,7 +2,6 @@
 -- Assumes nothing.
 use Prim.Native.Nat.{_-_}
 use native.Mathlib.Omega.{arith}
-use borrow.Author.Needs.{needs}
 use Rattle.neighbours.proofs.Along.{Along, along-asks, along-done, along-fits, along-more, along-start}
 use Rattle.neighbours.proofs.count_along.Statement.{statement}
 use Rattle.neighbours.proofs.count_along.Tie as tie

@@ -1,6 +1,5 @@
 -- `neighbours::meet` meets its contract.
 -- Assumes nothing.
-use native.Mathlib.Omega.{arith}
 use borrow.Author.Needs.{needs}
 use Rattle.neighbours.proofs.Meeting.{meet-asks, meet-counted, meet-few, meet-later, meet-none, meet-place, meet-reads, meet-stored, meet-sum}
 use Rattle.neighbours.proofs.meet.Statement.{statement}

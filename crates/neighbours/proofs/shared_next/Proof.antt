@@ -1,6 +1,5 @@
 -- `neighbours::shared_next` meets its contract.
 -- Assumes nothing.
-use native.Mathlib.Omega.{arith}
 use borrow.Author.Needs.{needs}
 use Rattle.neighbours.proofs.Rest.{next-asks, next-more, next-rest, next-small}
 use Rattle.neighbours.proofs.shared_next.Statement.{statement}

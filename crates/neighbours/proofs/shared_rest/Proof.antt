@@ -1,7 +1,6 @@
 -- `neighbours::shared_rest` meets its contract: `Equal` carries the loop.
 -- Assumes nothing.
 use Prim.Native.Nat.{_-_}
-use native.Mathlib.Omega.{arith}
 use borrow.Author.Needs.{needs}
 use Rattle.neighbours.proofs.Rest.{Equal, equal-ends, equal-more, equal-parts, equal-start}
 use Rattle.neighbours.proofs.shared_rest.Statement.{statement}
