@@ -14,7 +14,16 @@ abbrev μ-loop : tie.MeasureT-loop
 μ-loop book n k s u at₀ t₀ i₀ name₀ len₀ at t i name len = n - i
 
 loop-again : tie.Need-loop-again Inv-loop μ-loop
-loop-again c = search (walking-more, c .before .before .before .before .before .before .before .before .before .before .before .before .loop .inv)
+loop-again c =
+    let block = c .before .before .before in
+    let size = block .before .before in
+    let end = size .before .before in
+    let offset = end .before .before in
+    let test = offset .before .before in
+    let last = block .next-block in
+    walking-more (test .before .loop .inv) (end .block-end .ensures) (size .lesser .ensures) (test .loop-test .taken) _ _ (last .result .ok) (c .if4 .left)
+    (last .ensures .0) (last .ensures .1) (last .ensures .2)
+    (offset .before .if1 .left) _ (offset .number-at .ensures .0) (end .before .if2 .left) (size .before .if3 .left)
 
 pub check-entries-spec : {M : Type 1} → statement M
 check-entries-spec =
@@ -26,7 +35,7 @@ check-entries-spec =
     (λ c. omega arith)
     (λ c. search walking-room)
     (λ c κs. omega arith)
-    (λ c. search walking-place)
+    (λ c. walking-place (c .before .before .before .before .loop .inv) (c .before .before .before .loop-test .taken) _ (c .before .number-at .ensures .0) (λ same. omega arith))
     (λ c. search needs)
     (λ c κs. omega arith)
     (λ c. search walking-past)
@@ -40,4 +49,4 @@ check-entries-spec =
     (λ c. omega arith)
     loop-again
     (λ c. search walking-apart)
-    (λ c. search walking-end))
+    (λ c. walking-end (c .before .before .loop .inv) (c .before .loop-test .left) (c .if5 .left)))
