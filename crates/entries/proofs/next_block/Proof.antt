@@ -15,9 +15,29 @@ fits : (c : tie.After-is-entry) → not (c .is-entry .result) ≡ false
     → let a = c .before .before .before .before .before .args in entryEnd (a .book .now) (a .start) ≤ a .end
 fits c h = search next-fits
 
+-- the first name is not above the name before
+returns-2 : tie.Need-returns-2
+returns-2 c =
+    let rest = c .before .before .before .before .before .before .before .before .before in
+    let a = rest .before .before .before .before .before .before .before .before .args in (
+      omega arith,
+      omega arith,
+      next-low (a .book .now) (a .start) (a .end) (a .m) (a .name .now) (a .before) _ _ (rest .wide .ensures .0) (c .before .is-above .ensures) (a .name .now)
+          (c .if2 .taken),
+    )
+
 -- the first name is above the name before, and the block's own check answers
 returns-3 : tie.Need-returns-3
-returns-3 c = (omega arith, omega arith, search next-judged)
+returns-3 c =
+    let above = c .before .before .before .before .before in
+    let rest = above .before .before .before .before .before .before .before .before in
+    let a = rest .before .before .before .before .before .before .before .before .args in
+    let block = c .before .before .check-block in (
+      omega arith,
+      omega arith,
+      next-judged (a .book .now) (a .start) (a .end) (a .m) (a .name .now) (a .before) _ _ (rest .wide .ensures .0) (above .is-above .ensures) _ _
+          (block .result .ok) (c .before .before .before .before .if2 .left) (block .ensures .2),
+    )
 
 pub next-block-spec : {M : Type 1} → statement M
 next-block-spec =
@@ -49,7 +69,7 @@ next-block-spec =
     (λ c. omega (arith, fits))
     (λ c κs. search needs)
     (λ c. search needs)
-    (λ c. (omega arith, omega arith, search next-low))
+    returns-2
     (λ c κs. search needs)
     (λ c. search needs)
     returns-3)
