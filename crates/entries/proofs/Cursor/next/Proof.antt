@@ -6,6 +6,22 @@ use borrow.Author.Needs.{needs}
 use Rattle.entries.proofs.Cursor.next.Statement.{statement}
 use Rattle.entries.proofs.Cursor.next.Tie as tie
 
+-- what the entry keeps of the name before it and its own bytes are the name
+returns : tie.Need-returns
+returns c =
+    let start = c .before .before .before .before .before .before .before .before .before .before in
+    let a = start .args in
+    let pre = start .pre in
+    let shares = c .before .before .before .before .before .before .wide .ensures .0 in
+    let rest = c .before .before .before .before .wide2 .ensures .0 in
+    let put = c .before .before .put-rest .ensures in
+    record {
+      name-is = name-read (a .book .now) (a .name .now) _ _ _ _ _ (pre .0) (pre .1) (pre .2) shares rest put;
+      next-is = omega arith;
+      room = omega arith;
+      size = name-size (a .book .now) (a .name .now) _ _ _ _ _ (pre .0) (pre .1) (pre .2) shares rest put;
+    }
+
 pub next-spec : {M : Type 1} → statement M
 next-spec =
     tie.close
@@ -21,4 +37,4 @@ next-spec =
     (λ c. search needs)
     (λ c. search needs)
     (λ c. search needs)
-    (λ c. record { name-is = search name-read; next-is = omega arith; room = omega arith; size = search name-size }))
+    returns)
