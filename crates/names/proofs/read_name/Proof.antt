@@ -24,5 +24,5 @@ read-name-spec =
     (λ c κs. omega (arith, here c))
     (λ c. omega (arith, here (c .before)))
     (λ c. here (c .before) .first)
-    (λ c κs. search (found-asks, here (c .before)))
-    (λ c. search (found, found-name)))
+    (λ c κs. found-asks (here (c .before)) (c .number-at2 .ensures .0))
+    (λ c. found-name (here (c .before .before)) (c .before .number-at2 .ensures .0) _ _ (c .name-of .ensures)))
