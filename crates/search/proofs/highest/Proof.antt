@@ -13,6 +13,12 @@ Inv-loop book nodes shared path len j₀ j = Climbing book nodes path len shared
 abbrev μ-loop : tie.MeasureT-loop
 μ-loop book nodes shared path len j₀ j = j
 
+-- the node above is less deep than that
+returns : tie.Need-returns Inv-loop μ-loop
+returns c =
+    let test = c .before .before .before .before in
+    climb-found (test .before .loop .inv) (test .loop-test .taken) (c .before .before .before .wide16 .ensures .0) (c .before .before .depth-of .ensures) (c .before .if1 .taken) (c .wide162 .ensures .0)
+
 pub highest-spec : {M : Type 1} → statement M
 highest-spec =
     tie.close
@@ -29,9 +35,9 @@ highest-spec =
     (λ c. omega arith)
     (λ c. omega arith)
     (λ c κs. search needs)
-    (λ c. search climb-found)
+    returns
     (λ c. omega arith)
-    (λ c. search climb-more)
+    (λ c. climb-more (c .before .before .before .before .loop .inv) (c .before .before .before .loop-test .taken) (c .before .before .wide16 .ensures .0) (c .before .depth-of .ensures) (omega arith))
     (λ c. omega arith)
     (λ c κs. search needs)
     (λ c. search climb-end))
