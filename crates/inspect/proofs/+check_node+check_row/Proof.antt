@@ -134,6 +134,10 @@ pub +check-node+check-row-spec : {M : Type 1} → statement M
     (λ c. search (law.rows-done, turn t (c .before .before)))
     (λ c κs. (turn t (c .before)) .fits)
     (λ c κs. law.rows-meets _ _ _ _ _ _ _ _ _ _ _ _ (turn t (c .before .before)) (c .before .if7 .left) _ (c .next-entry .ensures))
-    (λ c. search (law.rows-parted, turn t (c .before .before .before .before)))
+    (λ c.
+    let went = c .before .before in
+    law.rows-parted _ _ _ _ _ _ _ _ _ _ _ _ (turn t (went .before .before)) (went .before .if7 .left) _ (went .next-entry .ensures) _ (c .before .meet .ensures) (omega (arith, c .if9)))
     (λ c. omega (arith, turn t (c .before .before .before .before)))
-    (λ c. search (law.rows-more, turn t (c .before .before .before .before)))
+    (λ c.
+    let went = c .before .before in
+    law.rows-more _ _ _ _ _ _ _ _ _ _ _ _ (turn t (went .before .before)) (went .before .if7 .left) _ (went .next-entry .ensures) _ (c .before .meet .ensures) (c .if9 .left))

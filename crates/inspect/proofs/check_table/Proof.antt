@@ -1,5 +1,6 @@
 -- `inspect::check_table` meets its contract: no name, the root's record, one name, several names. The reasoning is in proofs/Table.antt.
 -- Assumes nothing.
+use native.Mathlib.Omega.{arith}
 use borrow.Author.Needs.{needs}
 use Rattle.inspect.proofs.Table as law
 use Rattle.inspect.proofs.check_table.Statement.{statement}
@@ -9,7 +10,7 @@ pub check-table-spec : {M : Type 1} → statement M
 check-table-spec =
     tie.close
     (tie.spec
-    (λ c. search law.table-nothing)
+    (λ c. law.table-nothing _ _ _ _ (c .before .shared-slice-known .given) (c .before .before .pre) (c .if1 .taken))
     (λ c. search needs)
     (λ c. search law.table-short)
     (λ c κs. search needs)
@@ -24,8 +25,29 @@ check-table-spec =
     (λ c κs. search needs)
     (λ c. search needs)
     (λ c. search needs)
-    (λ c. search law.table-nodes)
+    (λ c.
+    let names = c .before .before in
+    let some = names .before .before .before .before .before .before .before in
+    law.table-nodes _ _ _ _ (some .before .shared-slice-known .given) (some .before .before .pre) (some .if1 .left) _ (c .before .number-at4 .ensures .0) (omega (arith, c .if6)))
     (λ c κs. search needs)
-    (λ c. search law.table-leaf)
-    (λ c κs. law.table-asks _ _ _ _ (c .before .before .before .before .before .before .before .before .before .before .before .before .pre) (c .before .before .before .before .before .before .before .before .before .before .if1 .left) (c .if7 .left) (c .before .before .before .before .before .before .before .before .before .if2 .left) _ _ _ (c .before .before .before .before .before .before .number-at2 .ensures .0) (c .before .before .before .before .before .if4 .left) (c .before .before .before .before .number-at3 .ensures .0) (c .before .before .before .if5 .left) (c .before .before .number-at4 .ensures .0) (c .before .if6 .left))
+    (λ c.
+    let nodes = c .before .before in
+    let names = nodes .before .before in
+    let first = names .before .before in
+    let symbol = first .before .before in
+    let room = symbol .before .before in
+    let some = room .before in
+    law.table-leaf _ _ _ _ (some .before .shared-slice-known .given) (some .before .before .pre) (some .if1 .left)
+    _ _ _ _ (symbol .before .number-at .ensures .0) (symbol .if3 .left) (first .before .number-at2 .ensures .0) (first .if4 .left)
+    (names .before .number-at3 .ensures .0) (names .if5 .left) (nodes .before .number-at4 .ensures .0) (nodes .if6 .left)
+    (c .before .if7 .taken) (room .if2 .left) _ (c .is-leaf .ensures))
+    (λ c κs.
+    let nodes = c .before in
+    let names = nodes .before .before in
+    let first = names .before .before in
+    let room = first .before .before .before .before in
+    let some = room .before in
+    law.table-asks _ _ _ _ (some .before .before .pre) (some .if1 .left) (c .if7 .left) (room .if2 .left)
+    _ _ _ (first .before .number-at2 .ensures .0) (first .if4 .left) (names .before .number-at3 .ensures .0) (names .if5 .left)
+    (nodes .before .number-at4 .ensures .0) (nodes .if6 .left))
     (λ c. search law.table-said))
