@@ -16,7 +16,7 @@ meet-spec =
     (λ c. search needs)
     (λ c κs. search needs)
     (λ c. search needs)
-    (λ c. search meet-none)
+    (λ c. meet-none _ _ _ (c .before .before .before .before .before .before .pre) _ (c .before .before .before .wide .ensures .0) _ (c .before .number-at .ensures .0) (c .before .before .if1 .left) (c .if2 .taken))
     (λ c. search needs)
     (λ c κs. search needs)
     (λ c. search needs)

@@ -11,7 +11,7 @@ shared-next-spec =
     (tie.spec
     (λ c. search needs)
     (λ c κs. search needs)
-    (λ c. search next-more)
+    (λ c. let a = c .before .before .before .before .args in next-more (a .book .now) (a .at) (a .a) _ _ (c .before .wide .ensures .0) (c .if1 .taken))
     (λ c κs. search next-asks)
     (λ c. search next-small)
     (λ c. search next-rest))
