@@ -14,7 +14,9 @@ abbrev μ-loop : tie.MeasureT-loop
 μ-loop list n steps k shared₀ count₀ lo₀ shared count lo = n - lo
 
 loop-again : tie.Need-loop-again Inv-loop μ-loop
-loop-again c = search surveying-more
+loop-again c =
+    let turn = c .before .before in
+    surveying-more (turn .before .before .before .before .before .pre) (turn .before .loop .inv) (turn .loop-test .taken) _ (c .wide .ensures .0)
 
 pub survey-blocks-spec : {M : Type 1} → statement M
 survey-blocks-spec =
@@ -26,7 +28,9 @@ survey-blocks-spec =
     (λ c. search surveying-start)
     (λ c. omega arith)
     (λ c κs. search needs)
-    (λ c. search surveying-enough)
+    (λ c.
+    let turn = c .before .before in
+    surveying-enough (turn .before .before .before .before .before .pre) (turn .before .loop .inv) (turn .loop-test .taken) _ (c .wide .ensures .0))
     (λ c. omega arith)
     (λ c. omega arith)
     (λ c. omega arith)
