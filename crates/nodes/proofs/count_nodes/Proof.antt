@@ -12,6 +12,13 @@ Inv-loop n steps depths₀ top₀ count₀ j₀ depths top count j = Counting n 
 abbrev μ-loop : tie.MeasureT-loop
 μ-loop n steps depths₀ top₀ count₀ j₀ depths top count j = j
 
+loop-again : tie.Need-loop-again Inv-loop μ-loop
+loop-again c =
+    let left = c .before .before .before .before in
+    let turn = left .before in
+    counting-push (turn .before .before .before .pre) (turn .before .loop .inv) (turn .loop-test .taken) _
+    (c .before .before .close-frames .ensures) (left .left-of .ensures .0) (left .left-of .ensures .1) _ (c .before .wide .ensures .0) (c .if1 .taken)
+
 loop-again-2 : tie.Need-loop-again-2 Inv-loop μ-loop
 loop-again-2 c = search (counting-keep, c .before .before .before .before .before .before .loop .inv)
 
@@ -33,7 +40,7 @@ count-nodes-spec =
     (λ c. search counting-slot)
     (λ c. omega arith)
     (λ c. omega arith)
-    (λ c. search counting-push)
+    loop-again
     (λ c. omega arith)
     loop-again-2
     (λ c. search counting-all))
