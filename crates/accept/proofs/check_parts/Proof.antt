@@ -18,7 +18,11 @@ returns-2 : tie.Need-returns-2
 returns-2 c = search (table-fails, asked (c .before .before .before .before))
 
 returns-3 : tie.Need-returns-3
-returns-3 c = search (all-pass, asked (c .before .before .before .before))
+returns-3 c =
+    let walked = c .before .before .before in
+    let four = walked .before in
+    all-pass _ _ _ _ _ (asked four) (four .before .before .before .before .shared-slice-known .given)
+    (walked .check-entries .result) (c .before .before .if1 .left) (walked .check-entries .ensures) _ (c .if2 .left) (c .before .check-table .ensures)
 
 pub check-parts-spec : {M : Type 1} → statement M
 check-parts-spec =
