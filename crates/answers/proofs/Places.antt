@@ -163,17 +163,22 @@ not-same x y h = differ x y (λ e. false≠true (sym (less-irrefl y) ∙ ap (λ 
 not-same′ : (x y : List ℕ) → less y x ≡ true → same x y ≡ false
 not-same′ x y h = differ x y (λ e. false≠true (sym (less-irrefl y) ∙ ap (less y) (sym e) ∙ h))
 
+-- the first word is taken just where it is q
+exact-cons : (i : ℕ) (q w : List ℕ) (ws : Words) → exactFrom i q (w ∷ ws) ≡ pick (same w q) (i, 1) (exactFrom (suc i) q ws)
+unfolding exactFrom
+exact-cons i q w ws = refl
+
 exact-none : (i : ℕ) (q : List ℕ) (ws : Words) → Above q ws → exactFrom i q ws ≡ (0, 0)
 unfolding exactFrom
 exact-none i q [] a = refl
-exact-none i q (w ∷ ws) (cons h a) = rw (not-same′ w q h) (exact-none (suc i) q ws a)
+exact-none i q (w ∷ ws) (cons h a) = exact-cons i q w ws ∙ rw (not-same′ w q h) (exact-none (suc i) q ws a)
 
 -- the name that equals q, if there is one, stands at q's place
 exact-from : (i : ℕ) (q : List ℕ) (ws : Words) → Positive q → Rises ws
     → exactFrom i q ws ≡ pick (both (ltb (place q ws) (length ws)) (same (getD ws (place q ws) []) q)) (i + place q ws, 1) (0, 0)
 unfolding exactFrom place count
 exact-from i q [] pq r = refl
-exact-from i q (w ∷ ws) pq (rise p a r) = go (ordered w q p pq) (exact-from (suc i) q ws pq r)
+exact-from i q (w ∷ ws) pq (rise p a r) = exact-cons i q w ws ∙ go (ordered w q p pq) (exact-from (suc i) q ws pq r)
   where
     n : ℕ
     n = place q ws

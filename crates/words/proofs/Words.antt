@@ -58,6 +58,12 @@ pub less-same : (a b : ℕ) (x y : List ℕ) → a ≡ b → less (a ∷ x) (b �
 unfolding less
 less-same a b x y e = rw (shared-same a b x y e)
 
+-- no word is less than itself
+pub less-irrefl : (x : List ℕ) → less x x ≡ false
+unfolding less shared
+less-irrefl [] = refl
+less-irrefl (a ∷ x) = less-same a a x x refl ∙ less-irrefl x
+
 pub less-other : (a b : ℕ) (x y : List ℕ) → (a ≡ b → ⊥) → less (a ∷ x) (b ∷ y) ≡ ltb a b
 unfolding less
 less-other a b x y n = rw (shared-other a b x y n)
@@ -224,10 +230,6 @@ less-cases a b x y h = elim (ℕ-discrete a b) [
 pub less-start : (b : ℕ) (y : List ℕ) → less [] (b ∷ y) ≡ ltb 0 b
 unfolding less shared
 less-start b y = refl
-
-pub less-irrefl : (x : List ℕ) → less x x ≡ false
-unfolding less
-less-irrefl x = le-ltb (at x (shared x x)) (at x (shared x x)) (omega arith)
 
 pub less-trans : (x y z : List ℕ) → less x y ≡ true → less y z ≡ true → less x z ≡ true
 less-trans [] [] z h k = k
