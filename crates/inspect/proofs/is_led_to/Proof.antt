@@ -1,5 +1,6 @@
 -- `inspect::is_led_to` meets its contract.
 -- Assumes nothing.
+use native.Mathlib.Omega.{arith}
 use borrow.Author.Needs.{needs}
 use Rattle.inspect.proofs.Fields.{led-first, led-symbol}
 use Rattle.inspect.proofs.is_led_to.Statement.{statement}
@@ -11,7 +12,7 @@ is-led-to-spec =
     (tie.spec
     (λ c κs. search needs)
     (λ c κs. search needs)
-    (λ c. search led-symbol)
+    (λ c. led-symbol _ _ _ _ _ _ _ (c .before .before .number-at .ensures .0) (c .before .symbol-of .ensures) (omega (arith, c .if1)))
     (λ c. search needs)
     (λ c κs. search needs)
     (λ c. led-first _ _ _ _ _ _ _ (c .before .before .before .number-at .ensures .0) (c .before .before .symbol-of .ensures) (c .before .if1 .left) _ (c .number-at2 .ensures .0)))
