@@ -1,17 +1,23 @@
 //! The four questions, of the book in a file.
 
 use crate::{read_file, Ready};
+use format::Kind;
 
 /// A call that asks a question of a book.
 pub type Ask<Answer> = fn(&[u8], &[u8]) -> Answer;
 
-/// The measured calls with their names, in the order of the kinds' numbers.
-pub const KINDS: [(&str, Ask<proved::Answer>); 4] = [
-    ("exact", measured_exact),
-    ("place", measured_place),
-    ("range", measured_range),
-    ("nearest", measured_nearest),
+/// The measured calls, in the order of the kinds' numbers.
+const MEASURED: [Ask<proved::Answer>; 4] = [
+    measured_exact,
+    measured_place,
+    measured_range,
+    measured_nearest,
 ];
+
+/// The measured call of a question of this kind.
+pub fn call_of(kind: Kind) -> Ask<proved::Answer> {
+    MEASURED[kind.index()]
+}
 
 /// Makes `book_exact` ready from a file's name and a question.
 pub fn exact(words: &[String]) -> Result<Ready, String> {

@@ -1,9 +1,9 @@
 //! `book_batch`, of the book in a file: 64 of the mixed questions, 16 in each
 //! kind. Of bytes that are no book they are strangers.
 
-use crate::asking::{shown_question, KINDS};
+use crate::asking::{call_of, shown_question};
 use crate::{mixed, read_file, shown, Ready};
-use model::calls::MOST_ROWS;
+use format::{Kind, MOST_ROWS};
 use model::{book_batch, open, Answer};
 use proved::Row;
 use vectors::batches::Batch;
@@ -68,9 +68,10 @@ pub fn together(words: &[String]) -> Result<String, String> {
     let mut lines = vec![format!("batch {answer}")];
     for (row, &expected) in prepared.rows.iter().zip(&prepared.expected_rows) {
         let question = &prepared.questions[row.start..row.start + row.length];
-        let (kind, ask) = KINDS[row.kind - 1];
-        let answer = shown(ask(&prepared.book, question), expected)?;
-        lines.push(format!("{kind} {answer}: {}", shown_question(question)));
+        let kind = Kind::from_number(row.kind).expect("every row has a kind");
+        let answer = shown(call_of(kind)(&prepared.book, question), expected)?;
+        let (kind, question) = (kind.name(), shown_question(question));
+        lines.push(format!("{kind} {answer}: {question}"));
     }
     Ok(lines.join("\n"))
 }
@@ -105,8 +106,8 @@ fn mixed_batch(names: &Names) -> Batch {
     let questions = mixed::questions(names);
     let rows = (0..MOST_ROWS).map(|number| {
         let question = &questions[number * questions.len() / MOST_ROWS];
-        let kind = 1 + number % KINDS.len();
-        (kind as u64, &question[..])
+        let kind = Kind::ALL[number % Kind::ALL.len()];
+        (kind.number() as u64, &question[..])
     });
     Batch::of(rows)
 }

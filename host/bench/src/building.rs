@@ -1,7 +1,7 @@
 //! `book_build`, from a file of list records into a room for the longest book.
 
 use crate::{read_file, read_number, Ready};
-use model::layout::LONGEST_BOOK;
+use format::LONGEST_BOOK;
 
 /// Makes the call ready from a file's name and a block size.
 pub fn ready(words: &[String]) -> Result<Ready, String> {

@@ -4,8 +4,9 @@
 //! book, a fifth beginnings of names, a fifth extensions, a fifth miss a name by
 //! one byte, and a fifth are strangers. Each is asked in all four kinds.
 
-use crate::asking::{shown_question, KINDS};
+use crate::asking::{call_of, shown_question};
 use crate::{checking, read_file, shown};
+use format::Kind;
 use model::names::leading_equal;
 use model::questions::{exact, node_reached, place, range};
 use model::tree::tree;
@@ -43,14 +44,15 @@ pub fn run(words: &[String]) -> Result<String, String> {
             range(&names, &question),
             nearest(&question),
         ];
-        for ((kind, ask), (first, second)) in KINDS.into_iter().zip(pairs) {
+        for (kind, (first, second)) in Kind::ALL.into_iter().zip(pairs) {
             let expected = Answer {
                 code: 0,
                 first,
                 second,
             };
-            let answer = shown(ask(&book, &question), expected)?;
-            lines.push(format!("{kind} {answer}: {}", shown_question(&question)));
+            let answer = shown(call_of(kind)(&book, &question), expected)?;
+            let (kind, question) = (kind.name(), shown_question(&question));
+            lines.push(format!("{kind} {answer}: {question}"));
         }
     }
     Ok(lines.join("\n"))

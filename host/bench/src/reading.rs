@@ -1,7 +1,7 @@
 //! `book_read`, from the book in a file into a room for the longest name.
 
 use crate::{read_file, read_number, Ready};
-use model::names::LONGEST_NAME;
+use format::LONGEST_NAME;
 
 /// Makes the call ready from a file's name and a position.
 pub fn ready(words: &[String]) -> Result<Ready, String> {

@@ -6,8 +6,7 @@
 use crate::building::measured_build;
 use crate::checking::measured_check;
 use crate::{asking, read_number, shown};
-use model::layout::LONGEST_BOOK;
-use model::names::MOST_NAMES;
+use format::{LONGEST_BOOK, MOST_NAMES};
 use model::{write_list, Answer};
 use vectors::growth;
 use vectors::random::Random;

@@ -5,9 +5,9 @@ use crate::Numbers;
 use compare::mix::{positions, questions, EACH};
 use compare::sorted::Sorted;
 use compare::stations::{stations, BLOCK};
-use compare::steps::{Kind, Step, Subject, KINDS, LIBRARY, MODEL, REFERENCE, ROWS, SORTED};
-use model::layout::LONGEST_BOOK;
-use model::names::{leading_equal, LONGEST_NAME, MOST_NAMES};
+use compare::steps::{Step, Subject, LIBRARY, MODEL, REFERENCE, ROWS, SORTED};
+use format::{Kind, LONGEST_BOOK, LONGEST_NAME, MOST_NAMES};
+use model::names::leading_equal;
 use model::questions::node_reached;
 use model::tree::tree;
 use vectors::lists::Names;
@@ -45,7 +45,7 @@ impl Data {
             let position = node_reached(&root, question).first;
             (position, leading_equal(&names[position], question))
         };
-        let answers = KINDS.map(|kind| {
+        let answers = Kind::ALL.map(|kind| {
             let answer = |question: &Vec<u8>| match kind {
                 Kind::Nearest => accepted(nearest(question)),
                 _ => accepted(ask_names(&names, kind, question)),
@@ -180,7 +180,7 @@ impl<F: FnMut(&[u8]) -> Numbers + Send> Call for Asking<F> {
     }
 
     fn is_right(&self, turn: usize, numbers: Numbers) -> bool {
-        let expected = self.data.answers[self.kind as usize][turn * self.every];
+        let expected = self.data.answers[self.kind.index()][turn * self.every];
         numbers == expected || (!self.whole && numbers[2] == expected[2])
     }
 }
@@ -235,7 +235,7 @@ impl<A: Copy + Send, F: FnMut(&mut [A]) -> Numbers + Send> Call for Batching<A, 
 
     fn is_right(&self, _: usize, numbers: Numbers) -> bool {
         let rows = self.kinds.iter().zip(&self.data.rows);
-        let expected = rows.map(|(&kind, &(number, _))| self.data.answers[kind as usize][number]);
+        let expected = rows.map(|(&kind, &(number, _))| self.data.answers[kind.index()][number]);
         numbers == [0, ROWS, 0] && self.answers.iter().copied().map(self.tell).eq(expected)
     }
 }
@@ -384,7 +384,7 @@ where
         item(own, Step::Check, check),
         item(own, Step::Read, read),
     ];
-    for (kind, ask_book) in KINDS.into_iter().zip(calls.asks) {
+    for (kind, ask_book) in Kind::ALL.into_iter().zip(calls.asks) {
         let ask = Asking {
             data,
             kind,
@@ -419,13 +419,13 @@ where
         item(calls.subject, step, batch)
     };
     let mut items = vec![batch(Step::Batch, mixed_kinds())];
-    items.extend(KINDS.map(|kind| batch(Step::BatchOf(kind), vec![kind; ROWS])));
+    items.extend(Kind::ALL.map(|kind| batch(Step::BatchOf(kind), vec![kind; ROWS])));
     items
 }
 
 /// The kinds of a mixed batch.
 fn mixed_kinds() -> Vec<Kind> {
-    KINDS.into_iter().cycle().take(ROWS).collect()
+    Kind::ALL.into_iter().cycle().take(ROWS).collect()
 }
 
 /// A call of the second program that asks a question.
@@ -472,7 +472,7 @@ fn model_items(data: &'static Data) -> Vec<Item> {
         model::book_range,
         model::book_nearest,
     ];
-    for (kind, ask_book) in KINDS.into_iter().zip(calls) {
+    for (kind, ask_book) in Kind::ALL.into_iter().zip(calls) {
         let ask = Asking {
             data,
             kind,
@@ -533,7 +533,7 @@ fn sorted_items(data: &'static Data, sorted: Sorted<'static>) -> Vec<Item> {
         item(SORTED, Step::Build, build),
         item(SORTED, Step::Read, read),
     ];
-    for kind in KINDS {
+    for kind in Kind::ALL {
         let ask = Asking {
             data,
             kind,
@@ -552,7 +552,7 @@ fn sorted_items(data: &'static Data, sorted: Sorted<'static>) -> Vec<Item> {
         ask: move |answers: &mut [Numbers]| {
             for (&(kind, start, length), answer) in rows.iter().zip(answers) {
                 let question = &data.buffer[start..start + length];
-                *answer = ask_sorted(sorted, KINDS[kind - 1], question);
+                *answer = ask_sorted(sorted, Kind::ALL[kind - 1], question);
             }
             [0, rows.len(), 0]
         },
@@ -570,7 +570,7 @@ fn loaded_items(data: &'static Data, subject: usize, loaded: Loaded, size: usize
     };
     let mut items = vec![item(subject, Step::Build, build)];
     // Who knows a place knows positions.
-    let whole = loaded.asks(Kind::Place as usize);
+    let whole = loaded.asks(Kind::Place);
     if loaded.reads() {
         let mut names = loaded.build(&data.list);
         let read = Reading {
@@ -582,15 +582,15 @@ fn loaded_items(data: &'static Data, subject: usize, loaded: Loaded, size: usize
         };
         items.push(item(subject, Step::Read, read));
     }
-    for kind in KINDS {
-        if loaded.asks(kind as usize) {
+    for kind in Kind::ALL {
+        if loaded.asks(kind) {
             let mut names = loaded.build(&data.list);
             let ask = Asking {
                 data,
                 kind,
                 every: 1,
                 whole,
-                ask: move |question: &[u8]| names.ask(kind as usize, question),
+                ask: move |question: &[u8]| names.ask(kind, question),
             };
             items.push(item(subject, Step::Ask(kind), ask));
         }

@@ -5,6 +5,7 @@
 //! there.
 
 use crate::Numbers;
+use format::Kind;
 use std::ffi::{c_char, c_int, c_void, CString};
 use std::mem::transmute;
 use std::ptr;
@@ -80,8 +81,8 @@ impl Loaded {
     }
 
     /// Whether this kind of question can be asked.
-    pub fn asks(self, kind: usize) -> bool {
-        self.asks[kind].is_some()
+    pub fn asks(self, kind: Kind) -> bool {
+        self.asks[kind.index()].is_some()
     }
 }
 
@@ -121,9 +122,9 @@ impl Dictionary {
     }
 
     /// Asks a question of this kind.
-    pub fn ask(&mut self, kind: usize, question: &[u8]) -> Numbers {
+    pub fn ask(&mut self, kind: Kind, question: &[u8]) -> Numbers {
         let mut numbers = Numbers::default();
-        if let Some(ask) = self.library.asks[kind] {
+        if let Some(ask) = self.library.asks[kind.index()] {
             // SAFETY: as for the size; the pointer comes with the length of its
             // own slice.
             unsafe {

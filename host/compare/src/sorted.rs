@@ -8,7 +8,8 @@
 //! read outside the list, because Rust tests every index, but it may stop the
 //! program, and an array that is out of order gives wrong answers.
 
-use model::names::{leading_equal, LONGEST_NAME};
+use format::LONGEST_NAME;
+use model::names::leading_equal;
 
 /// Names in order, in lent list records.
 #[derive(Clone, Copy)]

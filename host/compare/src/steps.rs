@@ -1,5 +1,6 @@
 //! What is measured, and the figures that come of it.
 
+use format::{Kind, MOST_ROWS};
 use std::collections::BTreeMap;
 
 /// Something that is measured of each way to keep names.
@@ -25,36 +26,8 @@ pub enum Step {
     HeldAsk(Kind),
 }
 
-/// The four kinds of question.
-#[derive(Clone, Copy, Debug, PartialEq, Eq, PartialOrd, Ord)]
-pub enum Kind {
-    /// Is there such a name?
-    Exact,
-    /// How many names are less?
-    Place,
-    /// Which names begin with it?
-    Range,
-    /// Which name shares most with it?
-    Nearest,
-}
-
-/// Every kind, in the order of their numbers in a batch row.
-pub const KINDS: [Kind; 4] = [Kind::Exact, Kind::Place, Kind::Range, Kind::Nearest];
-
-impl Kind {
-    /// The kind's name.
-    pub fn name(self) -> &'static str {
-        ["exact", "place", "range", "nearest"][self as usize]
-    }
-
-    /// The kind's number in a batch row.
-    pub fn number(self) -> usize {
-        self as usize + 1
-    }
-}
-
-/// How many rows a batch has here.
-pub const ROWS: usize = 64;
+/// How many rows a batch has here: as many as it can have.
+pub const ROWS: usize = MOST_ROWS;
 
 /// A way to keep names.
 #[derive(Clone, Debug)]

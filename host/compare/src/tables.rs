@@ -1,8 +1,9 @@
 //! The figures as a page of Markdown.
 
 use crate::steps::{
-    median_ratio, Figures, Spread, Step, Subject, KINDS, LIBRARY, MODEL, REFERENCE, ROWS, SORTED,
+    median_ratio, Figures, Spread, Step, Subject, LIBRARY, MODEL, REFERENCE, ROWS, SORTED,
 };
+use format::Kind;
 
 /// What the page says of the names.
 pub struct About {
@@ -33,7 +34,7 @@ pub fn whole_lines() -> Vec<Line> {
         ("check".to_string(), Step::Check),
         ("read".to_string(), Step::Read),
     ];
-    lines.extend(KINDS.map(|kind| (kind.name().to_string(), Step::Ask(kind))));
+    lines.extend(Kind::ALL.map(|kind| (kind.name().to_string(), Step::Ask(kind))));
     lines.push((format!("batch of {ROWS}"), Step::Batch));
     lines
 }
@@ -41,7 +42,7 @@ pub fn whole_lines() -> Vec<Line> {
 /// What is asked after the check.
 pub fn held_lines() -> Vec<Line> {
     let mut lines = vec![("read".to_string(), Step::Read)];
-    lines.extend(KINDS.map(|kind| (kind.name().to_string(), Step::Ask(kind))));
+    lines.extend(Kind::ALL.map(|kind| (kind.name().to_string(), Step::Ask(kind))));
     lines
 }
 

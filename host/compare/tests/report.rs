@@ -2,9 +2,10 @@
 
 use compare::plot::drawing;
 use compare::steps::{
-    median_ratio, Figures, Kind, Step, Subject, KINDS, LIBRARY, MODEL, REFERENCE, ROWS, SORTED,
+    median_ratio, Figures, Step, Subject, LIBRARY, MODEL, REFERENCE, ROWS, SORTED,
 };
 use compare::tables::{page, About};
+use format::Kind;
 
 /// Four subjects, with figures that are easily told apart.
 fn made_up() -> (Vec<Subject>, Figures) {
@@ -27,7 +28,7 @@ fn made_up() -> (Vec<Subject>, Figures) {
     note(LIBRARY, Step::Check, &[100_010], 6400.0);
     note(LIBRARY, Step::Batch, &[164_010], 7040.0);
     note(REFERENCE, Step::Check, &[90_010], 3200.0);
-    for kind in KINDS {
+    for kind in Kind::ALL {
         note(LIBRARY, Step::Ask(kind), &[100_410, 100_810], 6401.0);
         note(LIBRARY, Step::BatchOf(kind), &[164_010], 6400.0);
         note(REFERENCE, Step::Ask(kind), &[90_210, 90_310], 3201.0);

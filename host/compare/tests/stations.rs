@@ -1,7 +1,8 @@
 //! What the names promise.
 
 use compare::stations::{stations, BLOCK, COUNT};
-use model::layout::{node_count, LONGEST_BOOK};
+use format::LONGEST_BOOK;
+use model::layout::node_count;
 use model::names::is_sound_list;
 use model::{book_of, write_list};
 

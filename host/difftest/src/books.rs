@@ -3,8 +3,8 @@
 use crate::lent::lend;
 use crate::shapes::any_names;
 use fenced::Fenced;
+use format::MOST_NAMES;
 use model::book_of;
-use model::names::MOST_NAMES;
 use vectors::damage::{spoil_book, spoil_names};
 use vectors::hostile;
 use vectors::lists::{self, Names};

@@ -1,7 +1,7 @@
 //! Random lists of names, of many shapes.
 
+use format::{LONGEST_NAME, MOST_NAMES};
 use model::book_of;
-use model::names::{LONGEST_NAME, MOST_NAMES};
 use vectors::lists::{self, Names};
 use vectors::random::Random;
 use vectors::worst::{self, Comb};

@@ -1,10 +1,11 @@
 //! How many cases there were, and what came of them.
 
 use crate::Kind;
+use mistrogu::Refusal;
 use std::time::Duration;
 
-/// One more than the highest code of an answer.
-const CODES: usize = 13;
+/// How many codes an answer can have: 0 and the refusals.
+const CODES: usize = 1 + Refusal::ALL.len();
 
 /// For each kind of call, how often each code was given.
 pub struct Tally {

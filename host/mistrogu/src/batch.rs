@@ -4,38 +4,7 @@ use core::ops::Range;
 
 use proved::{Answer, Row};
 
-use crate::{accepted, found, near, span, Nearest, Refusal};
-
-/// A kind of question, with the number that a batch row tells it by.
-#[derive(Clone, Copy, Debug, PartialEq, Eq, Hash)]
-pub enum Kind {
-    /// Which name equals the question: see [`exact`](crate::exact).
-    Exact = 1,
-    /// How many names are less: see [`place`](crate::place).
-    Place = 2,
-    /// Which names begin with it: see [`range`](crate::range).
-    Range = 3,
-    /// A name that shares most with it: see [`nearest`](crate::nearest).
-    Nearest = 4,
-}
-
-impl Kind {
-    /// Its number, 1 to 4.
-    pub const fn number(self) -> usize {
-        self as usize
-    }
-
-    /// The kind of this number, if there is one.
-    pub const fn from_number(number: usize) -> Option<Self> {
-        match number {
-            1 => Some(Kind::Exact),
-            2 => Some(Kind::Place),
-            3 => Some(Kind::Range),
-            4 => Some(Kind::Nearest),
-            _ => None,
-        }
-    }
-}
+use crate::{accepted, found, near, span, Kind, Nearest, Refusal};
 
 /// The row of a question of this kind, which is this span of the question
 /// buffer. A span that ends before it starts has no bytes.

@@ -69,21 +69,13 @@ mod refusal;
 
 use core::ops::Range;
 
-pub use batch::{batch, reply, row, Kind, Reply};
+pub use batch::{batch, reply, row, Reply};
+#[doc(inline)]
+pub use format::{Kind, LARGEST_BLOCK, LONGEST_BOOK, LONGEST_NAME, MOST_NAMES, MOST_ROWS};
 pub use list::List;
 pub use proved::{Answer, Row};
 pub use refusal::{Refusal, Refused};
 
-/// The most bytes of a name, and of a question.
-pub const LONGEST_NAME: usize = 200;
-/// The most names of a book.
-pub const MOST_NAMES: usize = 2000;
-/// The most bytes of a book.
-pub const LONGEST_BOOK: usize = 65_535;
-/// The most rows of a batch.
-pub const MOST_ROWS: usize = 64;
-/// The most names of a block; the least is 1.
-pub const LARGEST_BLOCK: usize = 64;
 /// The bytes of stack that are enough for [`build`], whatever is lent to it.
 pub const BUILD_STACK: usize = 5504;
 /// The bytes of stack that are enough for every other call, whatever is lent to

@@ -44,7 +44,7 @@ fn refusals() {
 
 #[test]
 fn kinds() {
-    for kind in (1..=4).filter_map(Kind::from_number) {
+    for kind in Kind::ALL {
         let name = in_c(&format!("{kind:?}"));
         assert_eq!(constant(&name).0, format!("{name} = {}", kind.number()));
     }

@@ -1,9 +1,10 @@
 //! A book that was read and accepted.
 
 use crate::files;
-use crate::layout::{self, Node, Trailer, LONGEST_BOOK, LONGEST_NAME};
+use crate::layout::{self, Node, Trailer};
 use crate::outcome::Failure;
 use crate::progress::Progress;
+use mistrogu::{LONGEST_BOOK, LONGEST_NAME};
 use std::ffi::OsStr;
 use std::ops::Range;
 

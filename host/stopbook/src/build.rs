@@ -3,12 +3,12 @@
 use crate::args::{Shape, Words};
 use crate::book::Book;
 use crate::files;
-use crate::layout::{LARGEST_BLOCK, LONGEST_BOOK, MOST_NAMES};
 use crate::names::{self, Bad, Double, Names};
 use crate::outcome::{Failure, Outcome, Status, Streams};
 use crate::size::{self, Size};
 use crate::text::{counted, grouped, named};
 use crate::{help, Command};
+use mistrogu::{Refusal, LARGEST_BLOCK, LONGEST_BOOK, MOST_NAMES};
 use std::ffi::{OsStr, OsString};
 use std::os::unix::ffi::OsStrExt;
 
@@ -68,7 +68,7 @@ fn read_block(words: &Words) -> Result<usize, Failure> {
     match block.unwrap_or(USUAL_BLOCK) {
         block @ 1..=LARGEST_BLOCK => Ok(block),
         other => Err(Failure::usage(format!(
-            "--block takes 1 to 64, not {other}"
+            "--block takes 1 to {LARGEST_BLOCK}, not {other}"
         ))),
     }
 }
@@ -153,9 +153,9 @@ fn accept(names: Names, source: &str) -> Result<Vec<Vec<u8>>, Failure> {
     }
     let count = names.rising.len();
     if count > MOST_NAMES {
-        let (count, over) = (grouped(count), grouped(count - MOST_NAMES));
+        let [count, most, over] = [count, MOST_NAMES, count - MOST_NAMES].map(grouped);
         let text = format!(
-            "{source} has {count} names, and 2,000 are the most: {over} too many; \
+            "{source} has {count} names, and {most} are the most: {over} too many; \
              take some out or make two books"
         );
         return Err(Failure::refused(text));
@@ -171,9 +171,9 @@ fn build(names: &[Vec<u8>], block: usize, source: &str) -> Result<Book, Failure>
     let length = match mistrogu::build(&list, block, &mut room) {
         Ok(length) => length,
         Err(refused) => {
-            let text = match refused.refusal.number() {
-                9 => too_long(&size, size::fitting_block(names, block)),
-                _ => refused.refusal.to_string(),
+            let text = match refused.refusal {
+                Refusal::BookTooLong => too_long(&size, size::fitting_block(names, block)),
+                other => other.to_string(),
             };
             return Err(Failure::refused(format!("{source}: {text}")));
         }
@@ -186,13 +186,13 @@ fn build(names: &[Vec<u8>], block: usize, source: &str) -> Result<Book, Failure>
 /// By how much a book is too long, and what would help.
 fn too_long(size: &Size, fitting: Option<usize>) -> String {
     let total = size.total();
-    let over = grouped(total.saturating_sub(LONGEST_BOOK));
+    let over = total.saturating_sub(LONGEST_BOOK);
     let help = match fitting {
         Some(block) => format!("it fits with --block {block}"),
         None => "no block size makes it fit: take names out or make two books".to_string(),
     };
-    let total = grouped(total);
-    format!("the book would have {total} bytes, and 65,535 are the most: {over} too many; {help}")
+    let [total, most, over] = [total, LONGEST_BOOK, over].map(grouped);
+    format!("the book would have {total} bytes, and {most} are the most: {over} too many; {help}")
 }
 
 /// What is said of a book that was built.

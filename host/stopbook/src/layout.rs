@@ -5,20 +5,9 @@
 //! that the library has accepted. Given others, a function gives `None` or
 //! numbers without meaning, and never fails.
 
-/// The most names of a book.
-pub const MOST_NAMES: usize = 2_000;
-/// The most bytes of a name, and of a question.
-pub const LONGEST_NAME: usize = 200;
-/// The largest block size.
-pub const LARGEST_BLOCK: usize = 64;
-/// The most bytes of a book.
-pub const LONGEST_BOOK: usize = 65_535;
-/// The bytes of a trailer.
-pub const TRAILER: usize = 16;
-/// The bytes of a node.
-pub const NODE: usize = 10;
-/// The last four bytes of a book.
-const MARK: [u8; 4] = [0x4E, 0x42, 0x4B, 0x31];
+use crate::text::grouped;
+use format::{MARK, NODE, TRAILER};
+use mistrogu::LONGEST_BOOK;
 
 /// The numbers of a trailer but for n and k, which the check gives.
 #[derive(Clone, Copy, Debug, PartialEq, Eq)]
@@ -100,9 +89,10 @@ pub fn why_no_book(bytes: &[u8]) -> String {
     let length = bytes.len();
     let told = trailer(bytes).map_or(0, |trailer| trailer.total);
     if length < TRAILER {
-        format!("it has {length} bytes, and a book has 16 or more")
+        format!("it has {length} bytes, and a book has {TRAILER} or more")
     } else if length > LONGEST_BOOK {
-        "it has more than 65,535 bytes, the most of a book".to_string()
+        let most = grouped(LONGEST_BOOK);
+        format!("it has more than {most} bytes, the most of a book")
     } else if !bytes.ends_with(&MARK) {
         "it does not end with a book's mark; stopbook build makes a book of names".to_string()
     } else if told != length {

@@ -4,8 +4,8 @@
 //! name, and neither is a byte order mark at the start of the file. Empty
 //! lines are skipped. Lines are counted from 1, the empty ones too.
 
-use crate::layout::LONGEST_NAME;
 use crate::text::counted;
+use mistrogu::LONGEST_NAME;
 
 /// The byte order mark in UTF-8.
 const MARK: &[u8] = b"\xEF\xBB\xBF";
@@ -100,7 +100,7 @@ fn why_bad(name: &[u8]) -> Option<String> {
     if name.len() > LONGEST_NAME {
         let over = name.len() - LONGEST_NAME;
         return Some(format!(
-            "the name has {}, and 200 are the most; shorten it by {over}",
+            "the name has {}, and {LONGEST_NAME} are the most; shorten it by {over}",
             counted(name.len(), "byte")
         ));
     }

@@ -4,7 +4,8 @@
 //! much, and which block size would help. Document 01's layout decides:
 //! entries, two bytes for each block, ten for each node, and 16.
 
-use crate::layout::{LARGEST_BLOCK, LONGEST_BOOK, NODE, TRAILER};
+use format::{NODE, TRAILER};
+use mistrogu::{LARGEST_BLOCK, LONGEST_BOOK};
 
 /// The sizes of a book's parts.
 #[derive(Clone, Copy, Debug, PartialEq, Eq)]

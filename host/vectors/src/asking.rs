@@ -1,9 +1,7 @@
-//! The set of `book_exact`, `book_place`, `book_range` and `book_nearest`.
+//! The [sets](crate::sets) of `book_exact`, `book_place`, `book_range` and
+//! `book_nearest`.
 //!
-//! # The file
-//!
-//! The cases stand one after the other, without gaps, and the file ends behind
-//! the last one. Numbers are low byte first.
+//! # A case
 //!
 //! | Bytes | What |
 //! |---|---|
@@ -12,17 +10,11 @@
 //! | L | the book |
 //! | Q | the question |
 //!
-//! Before the first case the book is empty. The file has fewer than 600,000
-//! bytes.
-//!
 //! # What to do with a case
 //!
-//! Ask the question in all four kinds. Then print one line of thirteen numbers,
-//! with one space between and a newline behind:
-//!
-//! - the number of the case, from 0;
-//! - code, first and second of the answer of exact, then those of place, of
-//!   range and of nearest.
+//! Ask the question in all four kinds. Then print, behind the number of the
+//! case: code, first and second of the answer of exact, then those of place, of
+//! range and of nearest.
 
 use crate::damage::{changed_bytes, gaps, other_counts, other_nodes, spoil_book};
 use crate::hostile;
@@ -31,52 +23,65 @@ use crate::pieces::Pieces;
 use crate::questions::{all_short, any_question, around_all, extensions, misses};
 use crate::random::Random;
 use crate::rooms::printed_answer;
+use crate::sets::{length_bytes, Call, Case, Set};
 use crate::worst::{dearest_check, dearest_question};
-use crate::{Case, Set};
 use model::{book_exact, book_nearest, book_of, book_place, book_range};
-use std::rc::Rc;
 
-/// The set.
-pub const SET: Set = Set {
-    name: "ask",
-    cases: boxed_cases,
-};
-
-/// A second set, with a file of the same kind.
-pub const DEAREST: Set = Set {
-    name: "dearest",
-    cases: boxed_dearest,
-};
-
-/// A question to a book, asked in all four kinds.
+/// A question, asked in all four kinds.
 #[derive(Clone)]
-pub struct AskCase {
-    purpose: String,
-    book: Rc<Vec<u8>>,
-    /// Whether the book is that of the case before.
-    again: bool,
+pub struct Ask {
     question: Vec<u8>,
 }
 
-impl Case for AskCase {
-    fn purpose(&self) -> String {
-        let (book, question) = (self.book.len(), shown(&self.question));
-        format!("{}: book {book}, question {question}", self.purpose)
+/// Cases with such a call.
+type Cases = Vec<Case<Ask>>;
+
+/// The set.
+pub const SET: Set<Ask> = Set {
+    name: "ask",
+    groups: &[
+        empty_input,
+        worked_example,
+        no_names,
+        lengths_of_questions,
+        lengths_of_names,
+        small_books,
+        lowest_and_highest_bytes,
+        every_short_question,
+        seventy_stops,
+        block_sizes,
+        deep_trees,
+        wide_trees,
+        numbers_of_names,
+        longest_books,
+        spoilt_books,
+        random_books,
+        hostile_tables,
+    ],
+};
+
+/// A second set, with a file of the same kind.
+pub const DEAREST: Set<Ask> = Set {
+    name: "dearest",
+    groups: &[dearest],
+};
+
+impl Call for Ask {
+    fn front(&self) -> Vec<u8> {
+        length_bytes(self.question.len()).to_vec()
     }
 
-    fn record(&self) -> Vec<u8> {
-        let book = if self.again { &[][..] } else { &self.book };
-        let mut bytes = Vec::new();
-        bytes.extend((book.len() as u32).to_le_bytes());
-        bytes.extend((self.question.len() as u32).to_le_bytes());
-        bytes.extend_from_slice(book);
-        bytes.extend_from_slice(&self.question);
-        bytes
+    fn rest(&self) -> Vec<u8> {
+        self.question.clone()
     }
 
-    fn outcome(&self) -> String {
+    fn told(&self) -> Vec<String> {
+        vec![format!("question {}", shown(&self.question))]
+    }
+
+    fn outcome(&self, book: &[u8]) -> String {
         let kinds = [book_exact, book_place, book_range, book_nearest].iter();
-        let answers = kinds.map(|ask| printed_answer(ask(&self.book, &self.question)));
+        let answers = kinds.map(|ask| printed_answer(ask(book, &self.question)));
         answers.collect::<Vec<String>>().join(" ")
     }
 }
@@ -89,73 +94,26 @@ fn shown(question: &[u8]) -> String {
     }
 }
 
-/// All cases, in the order of the file.
-pub fn cases() -> Vec<AskCase> {
-    [
-        empty_input(),
-        worked_example(),
-        no_names(),
-        lengths_of_questions(),
-        lengths_of_names(),
-        small_books(),
-        lowest_and_highest_bytes(),
-        every_short_question(),
-        seventy_stops(),
-        block_sizes(),
-        deep_trees(),
-        wide_trees(),
-        numbers_of_names(),
-        longest_books(),
-        spoilt_books(),
-        random_books(),
-        hostile_tables(),
-    ]
-    .into_iter()
-    .flatten()
-    .collect()
-}
-
-fn boxed_cases() -> Vec<Box<dyn Case>> {
-    boxed(cases())
-}
-
-fn boxed_dearest() -> Vec<Box<dyn Case>> {
-    boxed(dearest())
-}
-
-fn boxed(cases: Vec<AskCase>) -> Vec<Box<dyn Case>> {
-    let cases = cases.into_iter();
-    cases.map(|case| Box::new(case) as Box<dyn Case>).collect()
-}
-
 /// Asks these questions of one run of bytes.
-fn of_bytes(purpose: &str, book: Vec<u8>, questions: Names) -> Vec<AskCase> {
-    let book = Rc::new(book);
-    let questions = questions.into_iter().enumerate();
-    questions
-        .map(|(number, question)| AskCase {
-            purpose: purpose.to_string(),
-            book: book.clone(),
-            again: number > 0 || book.is_empty(),
-            question,
-        })
-        .collect()
+fn of_bytes(why: &str, book: Vec<u8>, questions: Names) -> Cases {
+    let questions = questions.into_iter();
+    Case::of_same(why, book, questions.map(|question| Ask { question }))
 }
 
 /// Asks these questions of the book of these names.
-fn of_names(purpose: &str, names: &Names, block: usize, questions: Names) -> Vec<AskCase> {
-    of_bytes(purpose, book_of(block, names), questions)
+fn of_names(why: &str, names: &Names, block: usize, questions: Names) -> Cases {
+    of_bytes(why, book_of(block, names), questions)
 }
 
 /// Asks all that stands around each of the names.
-fn all_around(purpose: &str, names: &Names, block: usize) -> Vec<AskCase> {
-    of_names(purpose, names, block, around_all(names))
+fn all_around(why: &str, names: &Names, block: usize) -> Cases {
+    of_names(why, names, block, around_all(names))
 }
 
 /// Asks all that stands around the names at these positions.
-fn around_some(purpose: &str, names: &Names, block: usize, positions: &[usize]) -> Vec<AskCase> {
+fn around_some(why: &str, names: &Names, block: usize, positions: &[usize]) -> Cases {
     let some = positions.iter().map(|&position| &names[position]);
-    of_names(purpose, names, block, around_all(some))
+    of_names(why, names, block, around_all(some))
 }
 
 /// Questions of 0, 1, 200, 201 bytes and more, all of one byte.
@@ -165,14 +123,14 @@ fn of_all_lengths(byte: u8) -> Names {
 }
 
 /// No bytes: 2, before 1 and 10.
-fn empty_input() -> Vec<AskCase> {
+fn empty_input() -> Cases {
     let questions = vec![vec![], b"Mar".to_vec(), vec![b'M'; 201]];
     of_bytes("empty input", vec![], questions)
 }
 
 /// The book of 85 bytes and the one of 80: what document 01 asks, and all that
 /// stands around the names.
-fn worked_example() -> Vec<AskCase> {
+fn worked_example() -> Cases {
     let names = lists::example();
     let rows = [
         "Marina", "Marin", "", "Mark", "Maxim", "Mar", "Mas", "Mango", "Zoo", "M",
@@ -188,7 +146,7 @@ fn worked_example() -> Vec<AskCase> {
 }
 
 /// Books without names: only nearest is refused, with 10, and 1 comes before it.
-fn no_names() -> Vec<AskCase> {
+fn no_names() -> Cases {
     let blocks = [1, 64].into_iter();
     blocks
         .flat_map(|block| {
@@ -201,7 +159,7 @@ fn no_names() -> Vec<AskCase> {
 
 /// Questions of up to 200 bytes are answered and longer ones are not, also
 /// where the low bytes of the length alone would be fine.
-fn lengths_of_questions() -> Vec<AskCase> {
+fn lengths_of_questions() -> Cases {
     let names = lists::example();
     let mut cases = Vec::new();
     for start in names.iter().chain([&vec![0], &vec![255]]) {
@@ -221,7 +179,7 @@ fn lengths_of_questions() -> Vec<AskCase> {
 }
 
 /// Books of one name, and names of 1 and of 200 bytes.
-fn lengths_of_names() -> Vec<AskCase> {
+fn lengths_of_names() -> Cases {
     let name = |length: usize| vec![b'n'; length];
     let last_changed = |byte: u8| [vec![b'n'; 199], vec![byte]].concat();
     let mut cases = Vec::new();
@@ -247,7 +205,7 @@ fn lengths_of_names() -> Vec<AskCase> {
 
 /// All that stands around the names of small books, with blocks of 1, some and
 /// all names.
-fn small_books() -> Vec<AskCase> {
+fn small_books() -> Cases {
     let tree = lists::texts(&["a", "ab", "abba", "abbot", "b", "ba", "bad", "c"]);
     let edges = lists::texts(&["Lar", "Mar", "Marina", "Max", "Nar", "Nardo", "Nartex"]);
     let mut cases = Vec::new();
@@ -266,7 +224,7 @@ fn small_books() -> Vec<AskCase> {
 
 /// Names and questions of the bytes 0 and 255, and of those beside them: no
 /// byte is an end, and 255 has no next.
-fn lowest_and_highest_bytes() -> Vec<AskCase> {
+fn lowest_and_highest_bytes() -> Cases {
     let bytes = [0, 1, 254, 255];
     let short = all_short(&bytes, 3);
     let some = |step: usize| {
@@ -286,7 +244,7 @@ fn lowest_and_highest_bytes() -> Vec<AskCase> {
 }
 
 /// Every question of at most four letters a, b and c to books of such names.
-fn every_short_question() -> Vec<AskCase> {
+fn every_short_question() -> Cases {
     let mut random = Random::from_seed(11);
     let questions = all_short(b"abc", 4);
     let counts = [1, 2, 3, 5, 8, 13, 21, 40].into_iter();
@@ -300,13 +258,13 @@ fn every_short_question() -> Vec<AskCase> {
 }
 
 /// All that stands around each of seventy stops.
-fn seventy_stops() -> Vec<AskCase> {
+fn seventy_stops() -> Cases {
     all_around("seventy stops", &lists::stops(), 16)
 }
 
 /// The same questions whatever the block size: names at the ends of blocks.
 /// Blocks of 0 or 65 make no book.
-fn block_sizes() -> Vec<AskCase> {
+fn block_sizes() -> Cases {
     let names = lists::stops();
     let blocks = [0, 1, 2, 3, 16, 63, 64, 65].into_iter();
     blocks
@@ -325,7 +283,7 @@ fn block_sizes() -> Vec<AskCase> {
 
 /// The deepest trees there are: a chain of names that begin each other, its
 /// mirror, and the path of 201 nodes.
-fn deep_trees() -> Vec<AskCase> {
+fn deep_trees() -> Cases {
     let chain = lists::chain(b'a', 200);
     let mirror = lists::mirror(b'a', b'b', 200);
     let mut path = chain.clone();
@@ -352,7 +310,7 @@ fn deep_trees() -> Vec<AskCase> {
 }
 
 /// As many children as a node can have.
-fn wide_trees() -> Vec<AskCase> {
+fn wide_trees() -> Cases {
     let siblings = lists::single_bytes();
     let fan = lists::fan(b"xy");
     [
@@ -366,7 +324,7 @@ fn wide_trees() -> Vec<AskCase> {
 
 /// 2,000 names; and one more, which makes no book. Then names whose tree has
 /// two children at every node.
-fn numbers_of_names() -> Vec<AskCase> {
+fn numbers_of_names() -> Cases {
     let pairs = lists::pairs(2000);
     let some = [0, 249, 250, 1023, 1999].map(|position| &pairs[position]);
     let mut questions = around_all(some);
@@ -383,7 +341,7 @@ fn numbers_of_names() -> Vec<AskCase> {
 
 /// A book of 65,535 bytes with long names: some of them, a few of their
 /// beginnings, and what misses them.
-fn longest_books() -> Vec<AskCase> {
+fn longest_books() -> Cases {
     let names = lists::with_book_length(&lists::pairs(320), 16, 65_535);
     let last = names.len() - 1;
     let mut questions = Names::new();
@@ -397,7 +355,7 @@ fn longest_books() -> Vec<AskCase> {
 }
 
 /// Bytes that are no book: 2, before 1 and 10. Some changes make another book.
-fn spoilt_books() -> Vec<AskCase> {
+fn spoilt_books() -> Cases {
     let names = lists::example();
     let pieces = Pieces::of(2, &names);
     let bytes = book_of(2, &names);
@@ -419,7 +377,7 @@ fn spoilt_books() -> Vec<AskCase> {
 }
 
 /// Random books, some of them spoilt, and random questions.
-fn random_books() -> Vec<AskCase> {
+fn random_books() -> Cases {
     let mut random = Random::from_seed(7);
     let all = lists::all_bytes();
     let mut cases = Vec::new();
@@ -448,7 +406,7 @@ fn random_books() -> Vec<AskCase> {
 
 /// Node tables to lead a check astray, over few names, and nests that are
 /// deeper than any book: 2, before 1.
-fn hostile_tables() -> Vec<AskCase> {
+fn hostile_tables() -> Cases {
     let few = hostile::kinds().into_iter().map(|kind| (kind, 24));
     let nests = hostile::nests().into_iter();
     let deep = nests.map(|kind| (kind, hostile::DEEPER_THAN_ANY));
@@ -465,7 +423,7 @@ fn hostile_tables() -> Vec<AskCase> {
 
 /// The books that cost most, to check and to ask: the question of each, with a
 /// byte more, and what misses it by one byte.
-pub fn dearest() -> Vec<AskCase> {
+fn dearest() -> Cases {
     let worst = [("check", dearest_check()), ("question", dearest_question())];
     let cases = worst.into_iter().flat_map(|(call, worst)| {
         let asked = &worst.question;

@@ -3,7 +3,8 @@
 use crate::lists::Names;
 use crate::questions::any_question;
 use crate::random::Random;
-use model::calls::{LONGEST_QUESTION, MOST_ROWS};
+use crate::sets::word;
+use format::{LONGEST_QUESTION, MOST_ROWS};
 use model::Row;
 
 /// As many rows as a batch of ours has at most: one too many.
@@ -40,9 +41,6 @@ impl Batch {
 
     /// The rows as the second program takes them.
     pub fn rows(&self) -> Vec<Row> {
-        // Where a word is smaller than 64 bits, a number that does not fit it
-        // is as wrong as the largest one that does.
-        let word = |number: u64| usize::try_from(number).unwrap_or(usize::MAX);
         let rows = self.rows.iter();
         rows.map(|&[kind, start, length]| Row {
             kind: word(kind),

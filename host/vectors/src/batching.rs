@@ -1,9 +1,6 @@
-//! The set of `book_batch`.
+//! The [set](crate::sets) of `book_batch`.
 //!
-//! # The file
-//!
-//! The cases stand one after the other, without gaps, and the file ends behind
-//! the last one. Numbers are low byte first.
+//! # A case
 //!
 //! | Bytes | What |
 //! |---|---|
@@ -15,17 +12,12 @@
 //! | Q | the question buffer |
 //! | 24 R | the rows: kind, start and length, 8 bytes each |
 //!
-//! Before the first case the book is empty. The file has fewer than 600,000
-//! bytes.
-//!
 //! # What to do with a case
 //!
 //! Take 65 answer rows and fill them: row number i, from 0, gets 100 + i,
 //! 200 + i and 300 + i as code, first and second. Ask the batch, and lend it the
-//! first P of them. Then print one line of six numbers, with one space between
-//! and a newline behind:
+//! first P of them. Then print, behind the number of the case:
 //!
-//! - the number of the case, from 0;
 //! - code, first and second of the answer;
 //! - the two numbers of the [checksum](mod@crate::checksum) of all 65 answer
 //!   rows, of each its code, first and second, so that every answer shows, and
@@ -40,59 +32,73 @@ use crate::pieces::Pieces;
 use crate::questions::around_all;
 use crate::random::Random;
 use crate::rooms::printed_answer;
-use crate::{Case, Set};
-use model::calls::MOST_ROWS;
+use crate::sets::{length_bytes, Call, Case, Set};
+use format::MOST_ROWS;
 use model::{book_batch, book_of, Answer};
-use std::rc::Rc;
-
-/// The set.
-pub const SET: Set = Set {
-    name: "batch",
-    cases: boxed_cases,
-};
 
 /// A call of `book_batch`.
 #[derive(Clone)]
-pub struct BatchCase {
-    purpose: String,
-    book: Rc<Vec<u8>>,
-    /// Whether the book is that of the case before.
-    again: bool,
+pub struct AskBatch {
     batch: Batch,
     places: usize,
 }
 
-impl Case for BatchCase {
-    fn purpose(&self) -> String {
-        let (book, buffer) = (self.book.len(), self.batch.questions.len());
-        let (rows, places) = (self.batch.rows.len(), self.places);
-        format!(
-            "{}: book {book}, buffer {buffer}, rows {rows}, places {places}",
-            self.purpose
-        )
-    }
+/// Cases with such a call.
+type Cases = Vec<Case<AskBatch>>;
 
-    fn record(&self) -> Vec<u8> {
-        let book = if self.again { &[][..] } else { &self.book };
+/// The set.
+pub const SET: Set<AskBatch> = Set {
+    name: "batch",
+    groups: &[
+        empty_input,
+        worked_example,
+        numbers_of_rows,
+        unequal_numbers,
+        kinds,
+        spans,
+        sums_past_the_word,
+        lengths_of_questions,
+        no_names,
+        refused_between_good,
+        other_bytes_outside,
+        same_rows,
+        overlapping_spans,
+        book_as_buffer,
+        seventy_stops,
+        deep_and_wide_trees,
+        large_books,
+        spoilt_books,
+        random_batches,
+        hostile_tables,
+    ],
+};
+
+impl Call for AskBatch {
+    fn front(&self) -> Vec<u8> {
         let Batch { questions, rows } = &self.batch;
-        let mut bytes = Vec::new();
-        for length in [book.len(), questions.len(), rows.len(), self.places] {
-            bytes.extend((length as u32).to_le_bytes());
-        }
-        bytes.extend_from_slice(book);
-        bytes.extend_from_slice(questions);
-        bytes.extend(
-            rows.iter()
-                .flatten()
-                .flat_map(|number| number.to_le_bytes()),
-        );
-        bytes
+        let lengths = [questions.len(), rows.len(), self.places];
+        lengths.map(length_bytes).concat()
     }
 
-    fn outcome(&self) -> String {
+    fn rest(&self) -> Vec<u8> {
+        let Batch { questions, rows } = &self.batch;
+        let numbers = rows.iter().flatten();
+        let rows = numbers.flat_map(|number| number.to_le_bytes());
+        questions.iter().copied().chain(rows).collect()
+    }
+
+    fn told(&self) -> Vec<String> {
+        vec![
+            format!("buffer {}", self.batch.questions.len()),
+            format!("rows {}", self.batch.rows.len()),
+            format!("places {}", self.places),
+        ]
+    }
+
+    fn outcome(&self, book: &[u8]) -> String {
         let mut answers = unset_answers();
         let lent = &mut answers[..self.places];
-        let answer = book_batch(&self.book, &self.batch.questions, &self.batch.rows(), lent);
+        let answer = book_batch(book, &self.batch.questions, &self.batch.rows(), lent);
         let numbers = answers
             .iter()
             .flat_map(|row| [row.code, row.first, row.second])
@@ -113,68 +119,26 @@ fn unset_answers() -> Vec<Answer> {
         .collect()
 }
 
-/// All cases, in the order of the file.
-pub fn cases() -> Vec<BatchCase> {
-    [
-        empty_input(),
-        worked_example(),
-        numbers_of_rows(),
-        unequal_numbers(),
-        kinds(),
-        spans(),
-        sums_past_the_word(),
-        lengths_of_questions(),
-        no_names(),
-        refused_between_good(),
-        other_bytes_outside(),
-        same_rows(),
-        overlapping_spans(),
-        book_as_buffer(),
-        seventy_stops(),
-        deep_and_wide_trees(),
-        large_books(),
-        spoilt_books(),
-        random_batches(),
-        hostile_tables(),
-    ]
-    .into_iter()
-    .flatten()
-    .collect()
-}
-
-fn boxed_cases() -> Vec<Box<dyn Case>> {
-    let cases = cases().into_iter();
-    cases.map(|case| Box::new(case) as Box<dyn Case>).collect()
-}
-
 /// Asks these batches of one run of bytes, each with so many places.
-fn with_places(purpose: &str, book: Vec<u8>, batches: Vec<(Batch, usize)>) -> Vec<BatchCase> {
-    let book = Rc::new(book);
-    let batches = batches.into_iter().enumerate();
-    batches
-        .map(|(number, (batch, places))| BatchCase {
-            purpose: purpose.to_string(),
-            book: book.clone(),
-            again: number > 0 || book.is_empty(),
-            batch,
-            places,
-        })
-        .collect()
+fn with_places(why: &str, book: Vec<u8>, batches: Vec<(Batch, usize)>) -> Cases {
+    let batches = batches.into_iter();
+    let calls = batches.map(|(batch, places)| AskBatch { batch, places });
+    Case::of_same(why, book, calls)
 }
 
 /// Asks these batches of one run of bytes, with as many places as rows.
-fn of_bytes(purpose: &str, book: Vec<u8>, batches: Vec<Batch>) -> Vec<BatchCase> {
+fn of_bytes(why: &str, book: Vec<u8>, batches: Vec<Batch>) -> Cases {
     let batches = batches.into_iter();
     let fitting = batches.map(|batch| {
         let places = batch.rows.len();
         (batch, places)
     });
-    with_places(purpose, book, fitting.collect())
+    with_places(why, book, fitting.collect())
 }
 
 /// Asks these batches of the book of these names.
-fn of_names(purpose: &str, names: &Names, block: usize, batches: Vec<Batch>) -> Vec<BatchCase> {
-    of_bytes(purpose, book_of(block, names), batches)
+fn of_names(why: &str, names: &Names, block: usize, batches: Vec<Batch>) -> Cases {
+    of_bytes(why, book_of(block, names), batches)
 }
 
 /// The book of 85 bytes.
@@ -242,7 +206,7 @@ fn rows_of_the_example(count: usize) -> Batch {
 }
 
 /// No bytes: 2, before the refusals of rows, but 12 before 2.
-fn empty_input() -> Vec<BatchCase> {
+fn empty_input() -> Cases {
     let bad = Batch {
         questions: vec![],
         rows: vec![[0, 1, 1]],
@@ -256,7 +220,7 @@ fn empty_input() -> Vec<BatchCase> {
 
 /// Document 01's twelve rows as one batch, to the book of 85 bytes and to the one
 /// of 80: in their order, turned round, and each of them alone.
-fn worked_example() -> Vec<BatchCase> {
+fn worked_example() -> Cases {
     let twelve = twelve_rows();
     let mut turned = twelve.clone();
     turned.rows.reverse();
@@ -273,7 +237,7 @@ fn worked_example() -> Vec<BatchCase> {
 }
 
 /// Numbers of rows from 0 to 65: the last one is too many.
-fn numbers_of_rows() -> Vec<BatchCase> {
+fn numbers_of_rows() -> Cases {
     let numbers = (0..=16).chain([31, 32, 33, 62, 63, MOST_ROWS, ONE_TOO_MANY]);
     let batches = numbers.map(rows_of_the_example);
     of_bytes("number of rows", example_book(), batches.collect())
@@ -281,7 +245,7 @@ fn numbers_of_rows() -> Vec<BatchCase> {
 
 /// Other numbers of rows than of places: 12, also where the bytes are no book,
 /// and before the refusals of rows.
-fn unequal_numbers() -> Vec<BatchCase> {
+fn unequal_numbers() -> Cases {
     let numbers = [
         (0, 1),
         (1, 0),
@@ -314,7 +278,7 @@ fn unequal_numbers() -> Vec<BatchCase> {
 
 /// One row of each kind, and of numbers that are no kind: also those whose low
 /// bytes alone would be one.
-fn kinds() -> Vec<BatchCase> {
+fn kinds() -> Cases {
     let kinds = [
         1,
         2,
@@ -342,7 +306,7 @@ fn kinds() -> Vec<BatchCase> {
 
 /// Every start and length around a buffer: inside it, up to its end, at its end
 /// with length 0, one byte past it, and behind it with length 0.
-fn spans() -> Vec<BatchCase> {
+fn spans() -> Cases {
     let mut cases = Vec::new();
     for buffer in [&b""[..], b"M", b"Marina", b"Market Square"] {
         let past = buffer.len() as u64 + 2;
@@ -358,7 +322,7 @@ fn spans() -> Vec<BatchCase> {
 
 /// Starts and lengths whose sum, or they themselves, would be fine if high
 /// bytes were lost: 11.
-fn sums_past_the_word() -> Vec<BatchCase> {
+fn sums_past_the_word() -> Cases {
     let mut spans = Vec::new();
     for back in 0..=4 {
         // The sums wrap to 0 and more.
@@ -396,7 +360,7 @@ const LONG_BUFFER: usize = 460;
 
 /// Rows of up to 200 bytes are answered and longer ones are not; 11 comes before
 /// 1, for a kind or a span.
-fn lengths_of_questions() -> Vec<BatchCase> {
+fn lengths_of_questions() -> Cases {
     let mut rows = in_all_kinds(&long_spans());
     rows.extend([[0, 0, 201], [5, 0, 201], [u64::MAX, 200, 260]]);
     let batches = over_buffer(&[b'M'; LONG_BUFFER], &rows);
@@ -410,7 +374,7 @@ fn lengths_of_questions() -> Vec<BatchCase> {
 
 /// A book without names: only nearest is refused with 10, and 11 and 1 come
 /// before it.
-fn no_names() -> Vec<BatchCase> {
+fn no_names() -> Cases {
     let mut rows = in_all_kinds(&long_spans());
     rows.extend([[0, 0, 201], [5, 0, 0], [4, 460, 1]]);
     let mut batches = over_buffer(&[b'M'; LONG_BUFFER], &rows);
@@ -425,7 +389,7 @@ fn no_names() -> Vec<BatchCase> {
 }
 
 /// Refused rows before, between and behind good ones: the others go on.
-fn refused_between_good() -> Vec<BatchCase> {
+fn refused_between_good() -> Cases {
     let mut batch = twelve_rows();
     batch.questions.resize(300, b'e');
     let refused = [[0, 0, 6], [5, 0, 6], [1, 301, 0], [2, 0, 301], [3, 50, 201]];
@@ -458,7 +422,7 @@ fn refused_between_good() -> Vec<BatchCase> {
 /// Batches of the same rows that differ only in bytes outside the rows' spans: at
 /// first all zeros, then other bytes each time. The lines of a group are the
 /// same but for their numbers.
-fn other_bytes_outside() -> Vec<BatchCase> {
+fn other_bytes_outside() -> Cases {
     let twelve = twelve_rows();
     let mut random = Random::from_seed(3);
     let mut batches = Vec::new();
@@ -493,7 +457,7 @@ fn other_bytes_outside() -> Vec<BatchCase> {
 }
 
 /// Every row the same: 2 and 64 of them, of each kind and refused.
-fn same_rows() -> Vec<BatchCase> {
+fn same_rows() -> Cases {
     let rows = [
         [1, 0, 6],
         [2, 0, 4],
@@ -509,7 +473,7 @@ fn same_rows() -> Vec<BatchCase> {
 }
 
 /// Every span of a buffer, in each kind: they lie in one another.
-fn overlapping_spans() -> Vec<BatchCase> {
+fn overlapping_spans() -> Cases {
     let buffer = b"Market Marina";
     let length = buffer.len() as u64;
     let starts = 0..=length;
@@ -522,7 +486,7 @@ fn overlapping_spans() -> Vec<BatchCase> {
 
 /// The book itself as the buffer: the names that stand uncut in it, and all of
 /// it.
-fn book_as_buffer() -> Vec<BatchCase> {
+fn book_as_buffer() -> Cases {
     let book = example_book();
     let spans = [
         [2, 3],
@@ -538,7 +502,7 @@ fn book_as_buffer() -> Vec<BatchCase> {
 }
 
 /// All that stands around some of seventy stops, in each kind.
-fn seventy_stops() -> Vec<BatchCase> {
+fn seventy_stops() -> Cases {
     let names = lists::stops();
     let some = around_all(names.iter().step_by(5));
     let mut cases = of_names("seventy stops", &names, 16, in_batches(&some));
@@ -547,7 +511,7 @@ fn seventy_stops() -> Vec<BatchCase> {
 }
 
 /// Names and questions in trees as deep and as wide as there are.
-fn deep_and_wide_trees() -> Vec<BatchCase> {
+fn deep_and_wide_trees() -> Cases {
     let chain = lists::chain(b'a', 200);
     let mut path = chain.clone();
     path.push(b"b".to_vec());
@@ -567,7 +531,7 @@ fn deep_and_wide_trees() -> Vec<BatchCase> {
 }
 
 /// 2,000 names, one more, which makes no book, and a book of 65,535 bytes.
-fn large_books() -> Vec<BatchCase> {
+fn large_books() -> Cases {
     let pairs = lists::pairs(2000);
     let around = around_all([0, 249, 250, 1023, 1999].map(|position| &pairs[position]));
     let long = lists::with_book_length(&lists::pairs(320), 16, 65_535);
@@ -583,7 +547,7 @@ fn large_books() -> Vec<BatchCase> {
 
 /// Bytes that are no book: 2, before the refusals of rows. Some changes make
 /// another book.
-fn spoilt_books() -> Vec<BatchCase> {
+fn spoilt_books() -> Cases {
     let names = lists::example();
     let pieces = Pieces::of(2, &names);
     let spoilt = [
@@ -606,7 +570,7 @@ fn spoilt_books() -> Vec<BatchCase> {
 }
 
 /// Random books, some of them spoilt or without names, and random batches.
-fn random_batches() -> Vec<BatchCase> {
+fn random_batches() -> Cases {
     let mut random = Random::from_seed(13);
     let all = lists::all_bytes();
     let mut cases = Vec::new();
@@ -639,7 +603,7 @@ fn random_batches() -> Vec<BatchCase> {
 
 /// Node tables to lead a check astray, over very few names, and a nest that is
 /// deeper than any book: 2.
-fn hostile_tables() -> Vec<BatchCase> {
+fn hostile_tables() -> Cases {
     let deep = (hostile::falling_names(), hostile::DEEPER_THAN_ANY);
     let few = hostile::kinds().into_iter().map(|kind| (kind, 6));
     few.chain([deep])

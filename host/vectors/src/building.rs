@@ -1,9 +1,6 @@
-//! The set of `book_build`.
+//! The [set](crate::sets) of `book_build`.
 //!
-//! # The file
-//!
-//! The cases stand one after the other, without gaps, and the file ends behind
-//! the last one. Numbers are low byte first.
+//! # A case
 //!
 //! | Bytes | What |
 //! |---|---|
@@ -12,15 +9,11 @@
 //! | 4 | R, the length of the room, at most 70,000 |
 //! | L | the list |
 //!
-//! The file has fewer than 600,000 bytes.
-//!
 //! # What to do with a case
 //!
 //! Take a room of R bytes and fill it: byte number i, from 0, gets i modulo
-//! 251. Build. Then print one line of eight numbers, with one space between and
-//! a newline behind:
+//! 251. Build. Then print, behind the number of the case:
 //!
-//! - the number of the case, from 0;
 //! - code, first and second of the answer;
 //! - the two numbers of the [checksum](mod@crate::checksum) of the book: of the
 //!   first `first` bytes of the room where the code is 0, of no bytes (1 and 0)
@@ -32,99 +25,79 @@ use crate::damage::{spoil_bytes, spoil_names};
 use crate::lists::{self, Names};
 use crate::random::Random;
 use crate::rooms::{filled_room, printed_outcome};
-use crate::{Case, Set};
+use crate::sets::{length_bytes, word, Call, Case, Set};
 use model::{book_build, book_of, write_list};
-
-/// The set.
-pub const SET: Set = Set {
-    name: "build",
-    cases: boxed_cases,
-};
 
 /// The longest room of a case.
 pub const LONGEST_ROOM: usize = 70_000;
 
 /// A call of `book_build`.
-pub struct BuildCase {
-    purpose: &'static str,
-    list: Vec<u8>,
+#[derive(Clone)]
+pub struct Build {
     block: u64,
     room: usize,
 }
 
-impl Case for BuildCase {
-    fn purpose(&self) -> String {
-        let (list, block, room) = (self.list.len(), self.block, self.room);
-        format!("{}: list {list}, block {block}, room {room}", self.purpose)
+/// Cases with such a call.
+type Cases = Vec<Case<Build>>;
+
+/// The set.
+pub const SET: Set<Build> = Set {
+    name: "build",
+    groups: &[
+        worked_example,
+        block_sizes,
+        empty_lists,
+        lengths_of_names,
+        cut_records,
+        order_of_names,
+        lowest_and_highest_bytes,
+        deep_and_wide_trees,
+        numbers_of_names,
+        longest_books,
+        bad_records_in_long_lists,
+        every_block_size,
+        random_lists,
+        spoilt_lists,
+    ],
+};
+
+impl Call for Build {
+    const TAKES: &'static str = "list";
+
+    fn front(&self) -> Vec<u8> {
+        [&self.block.to_le_bytes()[..], &length_bytes(self.room)].concat()
     }
 
-    fn record(&self) -> Vec<u8> {
-        let mut bytes = Vec::new();
-        bytes.extend((self.list.len() as u32).to_le_bytes());
-        bytes.extend(self.block.to_le_bytes());
-        bytes.extend((self.room as u32).to_le_bytes());
-        bytes.extend_from_slice(&self.list);
-        bytes
+    fn told(&self) -> Vec<String> {
+        vec![
+            format!("block {}", self.block),
+            format!("room {}", self.room),
+        ]
     }
 
-    fn outcome(&self) -> String {
-        // Where a word is smaller than 64 bits, a block size that does not fit
-        // it is as wrong as the largest one that does.
-        let block = usize::try_from(self.block).unwrap_or(usize::MAX);
+    fn outcome(&self, list: &[u8]) -> String {
         let mut room = filled_room(self.room);
-        let answer = book_build(&self.list, block, &mut room);
+        let answer = book_build(list, word(self.block), &mut room);
         printed_outcome(answer, &room)
     }
 }
 
-/// All cases, in the order of the file.
-pub fn cases() -> Vec<BuildCase> {
-    [
-        worked_example(),
-        block_sizes(),
-        empty_lists(),
-        lengths_of_names(),
-        cut_records(),
-        order_of_names(),
-        lowest_and_highest_bytes(),
-        deep_and_wide_trees(),
-        numbers_of_names(),
-        longest_books(),
-        bad_records_in_long_lists(),
-        every_block_size(),
-        random_lists(),
-        spoilt_lists(),
-    ]
-    .into_iter()
-    .flatten()
-    .collect()
-}
-
-fn boxed_cases() -> Vec<Box<dyn Case>> {
-    let cases = cases().into_iter();
-    cases.map(|case| Box::new(case) as Box<dyn Case>).collect()
-}
-
 /// A case with this list, as bytes.
-fn of_bytes(purpose: &'static str, list: impl Into<Vec<u8>>, block: u64, room: usize) -> BuildCase {
-    BuildCase {
-        purpose,
-        list: list.into(),
-        block,
-        room,
-    }
+fn of_bytes(why: &str, list: impl Into<Vec<u8>>, block: u64, room: usize) -> Case<Build> {
+    Case::of(why, list, Build { block, room })
 }
 
 /// A case with these names.
-fn of_names(purpose: &'static str, names: &Names, block: u64, room: usize) -> BuildCase {
-    of_bytes(purpose, write_list(names), block, room)
+fn of_names(why: &str, names: &Names, block: u64, room: usize) -> Case<Build> {
+    of_bytes(why, write_list(names), block, room)
 }
 
 /// A case with these names and a room that has so many bytes more than the
 /// book.
-fn fitting(purpose: &'static str, names: &Names, block: u64, spare: usize) -> BuildCase {
+fn fitting(why: &str, names: &Names, block: u64, spare: usize) -> Case<Build> {
     let room = book_of(block as usize, names).len() + spare;
-    of_names(purpose, names, block, room)
+    of_names(why, names, block, room)
 }
 
 /// The records of these names, then these bytes.
@@ -133,7 +106,7 @@ fn followed(names: &Names, bytes: &[u8]) -> Vec<u8> {
 }
 
 /// The book of 85 bytes and the one of 80, with room on both sides of that.
-fn worked_example() -> Vec<BuildCase> {
+fn worked_example() -> Cases {
     let names = lists::example();
     let with_two = [85, 84, 86, 0].map(|room| (2, room));
     let with_four = [80, 79, 300].map(|room| (4, room));
@@ -145,11 +118,11 @@ fn worked_example() -> Vec<BuildCase> {
 
 /// Block sizes on both sides of 1 and 64; some whose low bytes alone would be
 /// fine; and refusal 8 before every other.
-fn block_sizes() -> Vec<BuildCase> {
+fn block_sizes() -> Cases {
     let names = lists::example();
     let sizes = [0, 1, 64, 65, 258, (1 << 32) + 2, u64::MAX];
     let sizes = sizes.into_iter();
-    let mut cases: Vec<BuildCase> = sizes
+    let mut cases: Cases = sizes
         .map(|block| of_names("block size", &names, block, 100))
         .collect();
     cases.push(of_bytes("8 before 5", [0], 0, 100));
@@ -160,7 +133,7 @@ fn block_sizes() -> Vec<BuildCase> {
 }
 
 /// The book of 16 bytes.
-fn empty_lists() -> Vec<BuildCase> {
+fn empty_lists() -> Cases {
     let calls = [(1, 15), (1, 16), (2, 15), (2, 16), (64, 15), (64, 16)];
     let calls = calls.into_iter().chain([(16, 40)]);
     calls
@@ -169,7 +142,7 @@ fn empty_lists() -> Vec<BuildCase> {
 }
 
 /// Names of 1, 200 and 201 bytes, and of lengths that no name has.
-fn lengths_of_names() -> Vec<BuildCase> {
+fn lengths_of_names() -> Cases {
     let name = |length: usize| vec![b'n'; length];
     let second = followed(&lists::texts(&["m"]), b"\0\x01n");
     vec![
@@ -185,7 +158,7 @@ fn lengths_of_names() -> Vec<BuildCase> {
 }
 
 /// Records that run past the end of the list: 5, before 6.
-fn cut_records() -> Vec<BuildCase> {
+fn cut_records() -> Cases {
     let names = lists::example();
     let cut = |bytes: &[u8]| followed(&names, bytes);
     vec![
@@ -199,12 +172,12 @@ fn cut_records() -> Vec<BuildCase> {
 }
 
 /// Names that do not rise: 6, with the number of the record.
-fn order_of_names() -> Vec<BuildCase> {
+fn order_of_names() -> Cases {
     let beginning = lists::texts(&["Marina", "Mar"]);
     let equal_late = lists::texts(&["a", "b", "c", "c", "d"]);
     let last_falls = [vec![b'n'; 200], [vec![b'n'; 199], vec![b'm']].concat()];
     let equal_long = [vec![b'n'; 200], vec![b'n'; 200]];
-    let refused = |purpose, names: &Names| of_names(purpose, names, 2, 400);
+    let refused = |why, names: &Names| of_names(why, names, 2, 400);
     vec![
         refused("equal neighbours", &lists::texts(&["Mar", "Mar"])),
         refused("equal neighbours, later", &equal_late),
@@ -218,7 +191,7 @@ fn order_of_names() -> Vec<BuildCase> {
 }
 
 /// Bytes 0 and 255 are ordinary.
-fn lowest_and_highest_bytes() -> Vec<BuildCase> {
+fn lowest_and_highest_bytes() -> Cases {
     let mixed = [
         &b"\0"[..],
         b"\0\0",
@@ -241,7 +214,7 @@ fn lowest_and_highest_bytes() -> Vec<BuildCase> {
 }
 
 /// The deepest trees and the widest.
-fn deep_and_wide_trees() -> Vec<BuildCase> {
+fn deep_and_wide_trees() -> Cases {
     let chain = lists::chain(b'a', 200);
     let longest_path = [chain.clone(), lists::texts(&["b"])].concat();
     let mirror = lists::mirror(b'a', b'b', 200);
@@ -258,7 +231,7 @@ fn deep_and_wide_trees() -> Vec<BuildCase> {
 }
 
 /// 2,000 names and one more: 5, 6 or 7 with the record's number 2,000.
-fn numbers_of_names() -> Vec<BuildCase> {
+fn numbers_of_names() -> Cases {
     let full = lists::pairs(2000);
     let more = lists::pairs(2001);
     let next = |bytes: &[u8]| followed(&full, bytes);
@@ -277,7 +250,7 @@ fn numbers_of_names() -> Vec<BuildCase> {
 
 /// Books of 65,535 and 65,536 bytes: the second are refused with 9, whatever
 /// the room.
-fn longest_books() -> Vec<BuildCase> {
+fn longest_books() -> Cases {
     let small = lists::binary(1860);
     let fits = lists::with_book_length(&small, 1, 65_535);
     let too_long = lists::with_book_length(&small, 1, 65_536);
@@ -294,7 +267,7 @@ fn longest_books() -> Vec<BuildCase> {
 }
 
 /// A list that is too long for a book, and then has a bad record: not 9.
-fn bad_records_in_long_lists() -> Vec<BuildCase> {
+fn bad_records_in_long_lists() -> Cases {
     let names = lists::with_book_length(&lists::binary(1860), 1, 65_600);
     let many = lists::with_book_length(&lists::binary(2000), 1, 70_100);
     let falling = write_list(&names[1858..1859]);
@@ -306,7 +279,7 @@ fn bad_records_in_long_lists() -> Vec<BuildCase> {
 }
 
 /// One list with each block size there is.
-fn every_block_size() -> Vec<BuildCase> {
+fn every_block_size() -> Cases {
     let names = lists::stops();
     (1..=64)
         .map(|block| fitting("seventy stops", &names, block, 1))
@@ -314,7 +287,7 @@ fn every_block_size() -> Vec<BuildCase> {
 }
 
 /// Random lists over few letters and over all bytes.
-fn random_lists() -> Vec<BuildCase> {
+fn random_lists() -> Cases {
     let mut random = Random::from_seed(1);
     let all = lists::all_bytes();
     let mut cases = Vec::new();
@@ -334,7 +307,7 @@ fn random_lists() -> Vec<BuildCase> {
 }
 
 /// Random lists, spoilt.
-fn spoilt_lists() -> Vec<BuildCase> {
+fn spoilt_lists() -> Cases {
     let mut random = Random::from_seed(2);
     let all = lists::all_bytes();
     let mut cases = Vec::new();

@@ -1,21 +1,15 @@
-//! The set of `book_check`.
+//! The [set](crate::sets) of `book_check`.
 //!
-//! # The file
-//!
-//! The cases stand one after the other, without gaps, and the file ends behind
-//! the last one. Numbers are low byte first.
+//! # A case
 //!
 //! | Bytes | What |
 //! |---|---|
 //! | 4 | L, the length of the book |
 //! | L | the book |
 //!
-//! The file has fewer than 600,000 bytes.
-//!
 //! # What to do with a case
 //!
-//! Check. Then print one line of four numbers, with one space between and a
-//! newline behind: the number of the case, from 0; code, first and second of
+//! Check. Then print, behind the number of the case: code, first and second of
 //! the answer.
 
 use crate::damage::{changed_bytes, cut_books, other_pieces, spoil_book, Spoilt};
@@ -24,89 +18,65 @@ use crate::lists::{self, Names};
 use crate::pieces::Pieces;
 use crate::random::Random;
 use crate::rooms::printed_answer;
-use crate::{Case, Set};
-use model::names::MOST_NAMES;
+use crate::sets::{Call, Case, Set};
+use format::MOST_NAMES;
 use model::{book_check, book_of};
 
+/// A call of `book_check`. Nothing goes into it but the book.
+#[derive(Clone)]
+pub struct Check;
+
+/// Cases with such a call.
+type Cases = Vec<Case<Check>>;
+
 /// The set.
-pub const SET: Set = Set {
+pub const SET: Set<Check> = Set {
     name: "check",
-    cases: boxed_cases,
+    groups: &[
+        worked_example,
+        no_names,
+        lengths_of_names,
+        shapes,
+        block_sizes,
+        numbers_of_names,
+        longest_books,
+        lists_that_are_none,
+        bytes_around_a_book,
+        no_books_at_all,
+        spoilt_example,
+        spoilt_tree,
+        spoilt_at_the_end,
+        spoilt_at_random,
+        hostile_tables,
+    ],
 };
 
-/// A call of `book_check`.
-pub struct CheckCase {
-    purpose: String,
-    book: Vec<u8>,
-}
-
-impl Case for CheckCase {
-    fn purpose(&self) -> String {
-        format!("{}: book {}", self.purpose, self.book.len())
+impl Call for Check {
+    fn outcome(&self, book: &[u8]) -> String {
+        printed_answer(book_check(book))
     }
-
-    fn record(&self) -> Vec<u8> {
-        let length = (self.book.len() as u32).to_le_bytes();
-        [&length[..], &self.book].concat()
-    }
-
-    fn outcome(&self) -> String {
-        printed_answer(book_check(&self.book))
-    }
-}
-
-/// All cases, in the order of the file.
-pub fn cases() -> Vec<CheckCase> {
-    [
-        worked_example(),
-        no_names(),
-        lengths_of_names(),
-        shapes(),
-        block_sizes(),
-        numbers_of_names(),
-        longest_books(),
-        lists_that_are_none(),
-        bytes_around_a_book(),
-        no_books_at_all(),
-        spoilt_example(),
-        spoilt_tree(),
-        spoilt_at_the_end(),
-        spoilt_at_random(),
-        hostile_tables(),
-    ]
-    .into_iter()
-    .flatten()
-    .collect()
-}
-
-fn boxed_cases() -> Vec<Box<dyn Case>> {
-    let cases = cases().into_iter();
-    cases.map(|case| Box::new(case) as Box<dyn Case>).collect()
 }
 
 /// A case with these bytes.
-fn of_bytes(purpose: impl Into<String>, book: impl Into<Vec<u8>>) -> CheckCase {
-    CheckCase {
-        purpose: purpose.into(),
-        book: book.into(),
-    }
+fn of_bytes(why: impl Into<String>, book: impl Into<Vec<u8>>) -> Case<Check> {
+    Case::of(why, book, Check)
 }
 
 /// A case with the layout of these names, whether a book allows them or not.
-fn of_names(purpose: &str, names: &Names, block: usize) -> CheckCase {
-    of_bytes(format!("{purpose}, k {block}"), book_of(block, names))
+fn of_names(why: &str, names: &Names, block: usize) -> Case<Check> {
+    of_bytes(format!("{why}, k {block}"), book_of(block, names))
 }
 
 /// A case for each spoilt book.
-fn of_spoilt(purpose: &str, spoilt: Spoilt) -> Vec<CheckCase> {
+fn of_spoilt(why: &str, spoilt: Spoilt) -> Cases {
     let spoilt = spoilt.into_iter();
     spoilt
-        .map(|(how, book)| of_bytes(format!("{purpose}, {how}"), book))
+        .map(|(how, book)| of_bytes(format!("{why}, {how}"), book))
         .collect()
 }
 
 /// The book of 85 bytes, the one of 80, and others of the same names.
-fn worked_example() -> Vec<CheckCase> {
+fn worked_example() -> Cases {
     let names = lists::example();
     [2, 4, 1, 3, 16, 64]
         .map(|block| of_names("worked example", &names, block))
@@ -114,9 +84,9 @@ fn worked_example() -> Vec<CheckCase> {
 }
 
 /// Books of 16 bytes.
-fn no_names() -> Vec<CheckCase> {
+fn no_names() -> Cases {
     let names = Names::new();
-    let mut cases: Vec<CheckCase> = [1, 2, 16, 64, 0, 65, 256, 258]
+    let mut cases: Cases = [1, 2, 16, 64, 0, 65, 256, 258]
         .map(|block| of_names("no names", &names, block))
         .into();
     let book = book_of(2, &names);
@@ -125,7 +95,7 @@ fn no_names() -> Vec<CheckCase> {
 }
 
 /// Names of 1, 200 and 201 bytes, and none.
-fn lengths_of_names() -> Vec<CheckCase> {
+fn lengths_of_names() -> Cases {
     let name = |length: usize| vec![b'n'; length];
     vec![
         of_names("one name of 1 byte", &vec![name(1)], 1),
@@ -142,7 +112,7 @@ fn lengths_of_names() -> Vec<CheckCase> {
 }
 
 /// Sound books of many shapes, with block sizes from 1 to 64.
-fn shapes() -> Vec<CheckCase> {
+fn shapes() -> Cases {
     let mut random = Random::from_seed(3);
     let all = lists::all_bytes();
     let chain = lists::chain(b'a', 200);
@@ -168,7 +138,7 @@ fn shapes() -> Vec<CheckCase> {
 }
 
 /// Block sizes on both sides of 1 and 64, laid out as they say.
-fn block_sizes() -> Vec<CheckCase> {
+fn block_sizes() -> Cases {
     let names = lists::chain(b'a', 70);
     [0, 1, 63, 64, 65, 66, 128, 256, 257, 65_535]
         .map(|block| of_names("block size", &names, block))
@@ -176,7 +146,7 @@ fn block_sizes() -> Vec<CheckCase> {
 }
 
 /// 2,000 names and one more.
-fn numbers_of_names() -> Vec<CheckCase> {
+fn numbers_of_names() -> Cases {
     vec![
         of_names("2,000 names", &lists::pairs(2000), 64),
         of_names("2,001 names", &lists::pairs(2001), 64),
@@ -184,7 +154,7 @@ fn numbers_of_names() -> Vec<CheckCase> {
 }
 
 /// Books of 65,535 and 65,536 bytes, and 65,536 bytes before a book.
-fn longest_books() -> Vec<CheckCase> {
+fn longest_books() -> Cases {
     let small = lists::binary(1860);
     let fits = lists::with_book_length(&small, 1, 65_535);
     let too_long = lists::with_book_length(&small, 1, 65_536);
@@ -198,7 +168,7 @@ fn longest_books() -> Vec<CheckCase> {
 }
 
 /// The layout of names that do not rise.
-fn lists_that_are_none() -> Vec<CheckCase> {
+fn lists_that_are_none() -> Cases {
     let wrong = [
         ("equal names", lists::texts(&["Mar", "Mar"])),
         (
@@ -217,7 +187,7 @@ fn lists_that_are_none() -> Vec<CheckCase> {
 }
 
 /// Books cut short, and with bytes before or behind them.
-fn bytes_around_a_book() -> Vec<CheckCase> {
+fn bytes_around_a_book() -> Cases {
     let book = book_of(2, &lists::example());
     let mut cases = of_spoilt("cut", cut_books(&book));
     cases.push(of_bytes("a byte behind", [&book[..], &[0]].concat()));
@@ -228,7 +198,7 @@ fn bytes_around_a_book() -> Vec<CheckCase> {
 }
 
 /// Nothing, and runs of one byte.
-fn no_books_at_all() -> Vec<CheckCase> {
+fn no_books_at_all() -> Cases {
     let mut cases = vec![of_bytes("empty input", [])];
     for (byte, length) in [
         (0, 1),
@@ -246,7 +216,7 @@ fn no_books_at_all() -> Vec<CheckCase> {
 }
 
 /// The 85 and the 80 bytes: every byte changed, every piece spoilt.
-fn spoilt_example() -> Vec<CheckCase> {
+fn spoilt_example() -> Cases {
     let names = lists::example();
     let mut cases = Vec::new();
     for (block, purpose) in [(2, "85"), (4, "80")] {
@@ -260,14 +230,14 @@ fn spoilt_example() -> Vec<CheckCase> {
 
 /// A small book with three blocks and inner nodes below the root: every piece
 /// spoilt.
-fn spoilt_tree() -> Vec<CheckCase> {
+fn spoilt_tree() -> Cases {
     let names = lists::texts(&["a", "ab", "abba", "abbot", "b", "ba", "bad", "c"]);
     let pieces = Pieces::of(3, &names);
     of_spoilt("small tree", other_pieces(&pieces))
 }
 
 /// Larger books that are wrong in one of their last numbers.
-fn spoilt_at_the_end() -> Vec<CheckCase> {
+fn spoilt_at_the_end() -> Cases {
     let mut cases = Vec::new();
     for (purpose, names) in [
         ("deepest mirror", lists::mirror(b'a', b'b', 200)),
@@ -286,7 +256,7 @@ fn spoilt_at_the_end() -> Vec<CheckCase> {
 }
 
 /// Small random books, spoilt at random.
-fn spoilt_at_random() -> Vec<CheckCase> {
+fn spoilt_at_random() -> Cases {
     let mut random = Random::from_seed(4);
     let all = lists::all_bytes();
     let mut cases = Vec::new();
@@ -303,7 +273,7 @@ fn spoilt_at_random() -> Vec<CheckCase> {
 
 /// Node tables to lead a check astray: of every kind over few names, nests that
 /// are deeper than any book, and the one with the most forks.
-fn hostile_tables() -> Vec<CheckCase> {
+fn hostile_tables() -> Cases {
     let few = hostile::kinds().into_iter().map(|kind| (kind, 24));
     let nests = hostile::nests().into_iter();
     let deep = nests.map(|kind| (kind, hostile::DEEPER_THAN_ANY));

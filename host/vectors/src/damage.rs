@@ -6,7 +6,7 @@
 use crate::lists::Names;
 use crate::pieces::{Pieces, Trailer, NODE_FIELDS};
 use crate::random::Random;
-use model::layout::TRAILER_LENGTH;
+use format::TRAILER;
 use model::names::leading_equal;
 
 /// Spoils one place in a list of names: a name twice, two neighbours swapped, a
@@ -254,7 +254,7 @@ pub fn other_nodes(book: &Pieces) -> Spoilt {
 /// move along so that the gap lies on either side of a part's start.
 pub fn gaps(book: &Pieces) -> Spoilt {
     let trailer = &book.trailer;
-    let end = trailer.length - TRAILER_LENGTH;
+    let end = trailer.length - TRAILER;
     let mut spoilt = Spoilt::new();
     for (part, at) in [0, trailer.block_table, trailer.node_table, end]
         .into_iter()

@@ -9,8 +9,7 @@
 use crate::lists::{self, Names};
 use crate::pieces::Pieces;
 use crate::random::Random;
-use model::layout::{LARGEST_BLOCK, LONGEST_BOOK};
-use model::names::{LONGEST_NAME, MOST_NAMES};
+use format::{LARGEST_BLOCK, LONGEST_BOOK, LONGEST_NAME, MOST_NAMES};
 
 /// So many names make a nest that is deeper than any book, and still small.
 pub const DEEPER_THAN_ANY: usize = 240;

@@ -5,8 +5,8 @@
 //! names, a name before its own extensions, so sorting is enough.
 
 use crate::random::Random;
+use format::LONGEST_NAME;
 use model::book_of;
-use model::names::LONGEST_NAME;
 
 /// Names in the order of the list.
 pub type Names = Vec<Vec<u8>>;

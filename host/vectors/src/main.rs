@@ -6,8 +6,9 @@ use std::process::ExitCode;
 use std::{env, fs, io};
 use vectors::hostile;
 use vectors::lists::{self, Names};
+use vectors::sets::Files;
 use vectors::worst;
-use vectors::{Set, SETS};
+use vectors::SETS;
 
 const USAGE: &str = "\
 vectors SET FOLDER       write FOLDER/SET.cases and FOLDER/SET.expected
@@ -44,26 +45,26 @@ fn main() -> ExitCode {
 
 /// What can be asked of this program.
 fn usage() -> String {
-    let names: Vec<&str> = SETS.iter().map(|set| set.name).collect();
+    let names: Vec<&str> = SETS.iter().map(|set| set.name()).collect();
     format!("{USAGE} {}", names.join(", "))
 }
 
 /// Does something with the set of this name.
-fn with_set(name: &str, act: impl Fn(&Set) -> io::Result<()>) -> Result<(), String> {
-    match SETS.iter().find(|set| set.name == name) {
+fn with_set(name: &str, act: impl Fn(&dyn Files) -> io::Result<()>) -> Result<(), String> {
+    match SETS.into_iter().find(|set| set.name() == name) {
         None => Err(usage()),
         Some(set) => act(set).map_err(|error| format!("{name}: {error}")),
     }
 }
 
 /// Writes the two files of a set and says how large they are.
-fn write_set(set: &Set, folder: &Path) -> io::Result<()> {
-    let (cases, expected) = (set.case_file(), set.expected());
+fn write_set(set: &dyn Files, folder: &Path) -> io::Result<()> {
+    let (name, cases, expected) = (set.name(), set.case_file(), set.expected());
     fs::create_dir_all(folder)?;
-    fs::write(folder.join(format!("{}.cases", set.name)), &cases)?;
-    fs::write(folder.join(format!("{}.expected", set.name)), &expected)?;
+    fs::write(folder.join(format!("{name}.cases")), &cases)?;
+    fs::write(folder.join(format!("{name}.expected")), &expected)?;
     let (lines, bytes) = (expected.lines().count(), cases.len());
-    println!("{}: {lines} cases, {bytes} bytes", set.name);
+    println!("{name}: {lines} cases, {bytes} bytes");
     Ok(())
 }
 

@@ -5,7 +5,8 @@
 //! the layout is broken and nothing else tells of it.
 
 use crate::lists::Names;
-use model::layout::{block_table, node_table, stored_count, MARK, TRAILER_LENGTH};
+use format::{MARK, NODE, TRAILER};
+use model::layout::{block_table, node_table, stored_count};
 
 /// What the five numbers of a node are, in their order.
 pub const NODE_FIELDS: [&str; 5] = ["symbol", "depth", "first name", "names", "nodes"];
@@ -105,7 +106,7 @@ impl Pieces {
         self.trailer.block_table = entries.map(|entry| 2 + entry.rest.len()).sum();
         self.trailer.node_table = self.trailer.block_table + 2 * self.starts.len();
         self.trailer.nodes = self.nodes.len();
-        self.trailer.length = self.trailer.node_table + 10 * self.nodes.len() + TRAILER_LENGTH;
+        self.trailer.length = self.trailer.node_table + NODE * self.nodes.len() + TRAILER;
     }
 
     /// The bytes, as the pieces say.

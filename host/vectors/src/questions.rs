@@ -2,7 +2,7 @@
 
 use crate::lists::{self, Names};
 use crate::random::Random;
-use model::calls::LONGEST_QUESTION;
+use format::LONGEST_QUESTION;
 
 /// The beginnings of a name, from the empty one to the name itself.
 pub fn beginnings(name: &[u8]) -> Names {

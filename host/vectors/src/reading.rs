@@ -1,9 +1,6 @@
-//! The set of `book_read`.
+//! The [set](crate::sets) of `book_read`.
 //!
-//! # The file
-//!
-//! The cases stand one after the other, without gaps, and the file ends behind
-//! the last one. Numbers are low byte first.
+//! # A case
 //!
 //! | Bytes | What |
 //! |---|---|
@@ -12,16 +9,11 @@
 //! | 4 | R, the length of the room, at most 1,000 |
 //! | L | the book |
 //!
-//! Before the first case the book is empty. The file has fewer than 600,000
-//! bytes.
-//!
 //! # What to do with a case
 //!
 //! Take a room of R bytes and fill it: byte number i, from 0, gets i modulo
-//! 251. Read. Then print one line of eight numbers, with one space between and
-//! a newline behind:
+//! 251. Read. Then print, behind the number of the case:
 //!
-//! - the number of the case, from 0;
 //! - code, first and second of the answer;
 //! - the two numbers of the [checksum](mod@crate::checksum) of the name: of the
 //!   first `first` bytes of the room where the code is 0, of no bytes (1 and 0)
@@ -35,98 +27,65 @@ use crate::lists::{self, Names};
 use crate::pieces::Pieces;
 use crate::random::Random;
 use crate::rooms::{filled_room, printed_outcome};
-use crate::{Case, Set};
-use model::names::MOST_NAMES;
+use crate::sets::{length_bytes, word, Call, Case, Set};
+use format::MOST_NAMES;
 use model::{book_of, book_read};
-use std::rc::Rc;
-
-/// The set.
-pub const SET: Set = Set {
-    name: "read",
-    cases: boxed_cases,
-};
 
 /// The longest room of a case.
 pub const LONGEST_ROOM: usize = 1000;
 
 /// A call of `book_read`.
 #[derive(Clone)]
-pub struct ReadCase {
-    purpose: String,
-    book: Rc<Vec<u8>>,
-    /// Whether the book is that of the case before.
-    again: bool,
+pub struct Read {
     position: u64,
     room: usize,
 }
 
-impl Case for ReadCase {
-    fn purpose(&self) -> String {
-        let (book, position, room) = (self.book.len(), self.position, self.room);
-        format!(
-            "{}: book {book}, position {position}, room {room}",
-            self.purpose
-        )
+/// Cases with such a call.
+type Cases = Vec<Case<Read>>;
+
+/// The set.
+pub const SET: Set<Read> = Set {
+    name: "read",
+    groups: &[
+        empty_input,
+        worked_example,
+        no_names,
+        lengths_of_names,
+        small_books,
+        deep_and_wide_trees,
+        numbers_of_names,
+        longest_books,
+        spoilt_books,
+        random_books,
+        hostile_tables,
+    ],
+};
+
+impl Call for Read {
+    fn front(&self) -> Vec<u8> {
+        [&self.position.to_le_bytes()[..], &length_bytes(self.room)].concat()
     }
 
-    fn record(&self) -> Vec<u8> {
-        let book = if self.again { &[][..] } else { &self.book };
-        let mut bytes = Vec::new();
-        bytes.extend((book.len() as u32).to_le_bytes());
-        bytes.extend(self.position.to_le_bytes());
-        bytes.extend((self.room as u32).to_le_bytes());
-        bytes.extend_from_slice(book);
-        bytes
+    fn told(&self) -> Vec<String> {
+        vec![
+            format!("position {}", self.position),
+            format!("room {}", self.room),
+        ]
     }
 
-    fn outcome(&self) -> String {
-        // Where a word is smaller than 64 bits, a position that does not fit
-        // it is as wrong as the largest one that does.
-        let position = usize::try_from(self.position).unwrap_or(usize::MAX);
+    fn outcome(&self, book: &[u8]) -> String {
         let mut room = filled_room(self.room);
-        let answer = book_read(&self.book, position, &mut room);
+        let answer = book_read(book, word(self.position), &mut room);
         printed_outcome(answer, &room)
     }
 }
 
-/// All cases, in the order of the file.
-pub fn cases() -> Vec<ReadCase> {
-    [
-        empty_input(),
-        worked_example(),
-        no_names(),
-        lengths_of_names(),
-        small_books(),
-        deep_and_wide_trees(),
-        numbers_of_names(),
-        longest_books(),
-        spoilt_books(),
-        random_books(),
-        hostile_tables(),
-    ]
-    .into_iter()
-    .flatten()
-    .collect()
-}
-
-fn boxed_cases() -> Vec<Box<dyn Case>> {
-    let cases = cases().into_iter();
-    cases.map(|case| Box::new(case) as Box<dyn Case>).collect()
-}
-
 /// Reads from one run of bytes: a case for each position and room.
-fn of_bytes(purpose: &str, book: Vec<u8>, calls: &[(u64, usize)]) -> Vec<ReadCase> {
-    let book = Rc::new(book);
-    let calls = calls.iter().enumerate();
-    calls
-        .map(|(number, &(position, room))| ReadCase {
-            purpose: purpose.to_string(),
-            book: book.clone(),
-            again: number > 0 || book.is_empty(),
-            position,
-            room,
-        })
-        .collect()
+fn of_bytes(why: &str, book: Vec<u8>, calls: &[(u64, usize)]) -> Cases {
+    let calls = calls.iter();
+    let calls = calls.map(|&(position, room)| Read { position, room });
+    Case::of_same(why, book, calls)
 }
 
 /// Each position with a room that fits, one that is a byte short, a longer one
@@ -142,26 +101,26 @@ fn with_rooms(names: &Names, positions: impl IntoIterator<Item = usize>) -> Vec<
 }
 
 /// Reads these positions of a book.
-fn at_positions(purpose: &str, names: &Names, block: usize, positions: &[usize]) -> Vec<ReadCase> {
+fn at_positions(why: &str, names: &Names, block: usize, positions: &[usize]) -> Cases {
     let calls = with_rooms(names, positions.iter().copied());
-    of_bytes(purpose, book_of(block, names), &calls)
+    of_bytes(why, book_of(block, names), &calls)
 }
 
 /// Reads every position of a book, then one past the last and the largest.
-fn all_positions(purpose: &str, names: &Names, block: usize) -> Vec<ReadCase> {
+fn all_positions(why: &str, names: &Names, block: usize) -> Cases {
     let mut calls = with_rooms(names, 0..names.len());
     calls.extend([(names.len() as u64, 300), (u64::MAX, 300)]);
-    of_bytes(purpose, book_of(block, names), &calls)
+    of_bytes(why, book_of(block, names), &calls)
 }
 
 /// No bytes: 2, before 3 and 4.
-fn empty_input() -> Vec<ReadCase> {
+fn empty_input() -> Cases {
     of_bytes("empty input", vec![], &[(0, 0), (0, 9), (u64::MAX, 0)])
 }
 
 /// The book of 85 bytes and the one of 80; positions whose low bytes alone
 /// would be fine; and 3 before 4.
-fn worked_example() -> Vec<ReadCase> {
+fn worked_example() -> Cases {
     let names = lists::example();
     let mut cases = Vec::new();
     for block in [2, 4] {
@@ -176,7 +135,7 @@ fn worked_example() -> Vec<ReadCase> {
 }
 
 /// Books without names have no position.
-fn no_names() -> Vec<ReadCase> {
+fn no_names() -> Cases {
     let blocks = [1, 64].into_iter();
     blocks
         .flat_map(|block| {
@@ -187,7 +146,7 @@ fn no_names() -> Vec<ReadCase> {
 }
 
 /// Names of 1 and of 200 bytes.
-fn lengths_of_names() -> Vec<ReadCase> {
+fn lengths_of_names() -> Cases {
     let name = |length: usize| vec![b'n'; length];
     [
         all_positions("one name of 1 byte", &vec![name(1)], 1),
@@ -199,7 +158,7 @@ fn lengths_of_names() -> Vec<ReadCase> {
 }
 
 /// Every position of small books, with blocks of 1, some and all names.
-fn small_books() -> Vec<ReadCase> {
+fn small_books() -> Cases {
     let tree = lists::texts(&["a", "ab", "abba", "abbot", "b", "ba", "bad", "c"]);
     let mut cases = Vec::new();
     for block in [1, 3, 8, 16] {
@@ -213,7 +172,7 @@ fn small_books() -> Vec<ReadCase> {
 }
 
 /// Names that are put together from many entries before them.
-fn deep_and_wide_trees() -> Vec<ReadCase> {
+fn deep_and_wide_trees() -> Cases {
     let chain = lists::chain(b'a', 200);
     let mirror = lists::mirror(b'a', b'b', 200);
     let fan = lists::fan(b"x");
@@ -228,7 +187,7 @@ fn deep_and_wide_trees() -> Vec<ReadCase> {
 }
 
 /// 2,000 names and one more: 2, whatever the position.
-fn numbers_of_names() -> Vec<ReadCase> {
+fn numbers_of_names() -> Cases {
     let full = lists::pairs(2000);
     let past = [(2000, 9), (1999, 2), (65_536, 9)];
     [
@@ -240,14 +199,14 @@ fn numbers_of_names() -> Vec<ReadCase> {
 }
 
 /// A book of 65,535 bytes with long names.
-fn longest_books() -> Vec<ReadCase> {
+fn longest_books() -> Cases {
     let names = lists::with_book_length(&lists::pairs(320), 16, 65_535);
     let last = names.len() - 1;
     at_positions("book of 65,535", &names, 16, &[0, 15, 16, 17, last])
 }
 
 /// Bytes that are no book: 2, before 3 and 4.
-fn spoilt_books() -> Vec<ReadCase> {
+fn spoilt_books() -> Cases {
     let names = lists::example();
     let pieces = Pieces::of(2, &names);
     let bytes = book_of(2, &names);
@@ -267,7 +226,7 @@ fn spoilt_books() -> Vec<ReadCase> {
 }
 
 /// Random books, some of them spoilt, at random positions.
-fn random_books() -> Vec<ReadCase> {
+fn random_books() -> Cases {
     let mut random = Random::from_seed(5);
     let all = lists::all_bytes();
     let mut cases = Vec::new();
@@ -288,7 +247,7 @@ fn random_books() -> Vec<ReadCase> {
 
 /// Node tables to lead a check astray, over few names, over as many as make a
 /// nest deeper than any book, and over the most there can be: 2.
-fn hostile_tables() -> Vec<ReadCase> {
+fn hostile_tables() -> Cases {
     let counts = [24, hostile::DEEPER_THAN_ANY].into_iter();
     let kinds =
         counts.flat_map(|count| hostile::kinds().into_iter().map(move |kind| (kind, count)));

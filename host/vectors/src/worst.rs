@@ -8,8 +8,8 @@
 
 use crate::lists::{sorted, Names};
 use crate::random::Random;
-use model::layout::{book_of, LONGEST_BOOK};
-use model::names::{LONGEST_NAME, MOST_NAMES};
+use format::{LONGEST_BOOK, LONGEST_NAME, MOST_NAMES};
+use model::book_of;
 
 /// A list, a block size and a question.
 #[derive(Clone)]

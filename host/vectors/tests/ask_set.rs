@@ -4,9 +4,9 @@
 use model::{book_exact, book_nearest, book_place, book_range};
 use std::collections::BTreeSet;
 use std::sync::LazyLock;
-use vectors::asking;
+use vectors::asking::{self, Ask};
 use vectors::lists;
-use vectors::Case;
+use vectors::sets::{Case, Files};
 
 /// The text to be printed. It takes some seconds, so the tests share it.
 static EXPECTED: LazyLock<String> = LazyLock::new(|| asking::SET.expected());
@@ -49,7 +49,7 @@ fn line(number: usize, case: &Asked) -> String {
 }
 
 /// The case with this purpose.
-fn find<'cases>(cases: &'cases [asking::AskCase], purpose: &str) -> &'cases asking::AskCase {
+fn find<'cases>(cases: &'cases [Case<Ask>], purpose: &str) -> &'cases Case<Ask> {
     let found = cases.iter().find(|case| case.purpose() == purpose);
     found.unwrap_or_else(|| panic!("no case for {purpose}"))
 }
@@ -64,11 +64,9 @@ fn a_program_that_follows_the_description_prints_the_text() {
 }
 
 #[test]
-fn the_file_is_small_enough() {
-    let file = asking::SET.case_file();
-    assert!(file.len() < 600_000, "{}", file.len());
-    let cases = read_file(&file);
-    assert!(cases.len() <= 7000, "{}", cases.len());
+fn the_cases_are_not_too_many() {
+    let cases = asking::SET.cases().len();
+    assert!(cases <= 7000, "{cases}");
 }
 
 #[test]
@@ -86,7 +84,7 @@ fn every_refusal_of_a_question_is_among_the_cases() {
 
 #[test]
 fn the_twelve_rows_of_document_01_are_among_the_cases() {
-    let cases = asking::cases();
+    let cases = asking::SET.cases();
     for (kind, question, pair) in [
         (0, "Marina", "1 1"),
         (0, "Marin", "0 0"),
@@ -113,7 +111,7 @@ fn the_twelve_rows_of_document_01_are_among_the_cases() {
 
 #[test]
 fn the_edges_of_document_01_are_among_the_cases() {
-    let cases = asking::cases();
+    let cases = asking::SET.cases();
     for (purpose, outcome) in [
         (
             "empty input: book 0, question of 201 bytes",
@@ -174,7 +172,7 @@ fn the_edges_of_document_01_are_among_the_cases() {
 
 #[test]
 fn every_name_of_the_small_lists_is_asked_for() {
-    let cases = asking::cases();
+    let cases = asking::SET.cases();
     for (purpose, names) in [
         ("worked example: book 85", lists::example()),
         ("seventy stops: book 1536", lists::stops()),
@@ -213,7 +211,7 @@ fn the_dearest_books_are_a_file_of_the_same_kind() {
         ("dearest check: ", "0 1999 1 0 1999 0 0 1999 1 0 1999 11"),
         ("dearest question: ", "0 0 0 0 2000 0 0 2000 0 0 1791 199"),
     ] {
-        let mut cases = asking::dearest().into_iter();
+        let mut cases = asking::DEAREST.cases().into_iter();
         let found = cases.find(|case| case.purpose().starts_with(purpose));
         assert_eq!(found.expect(purpose).outcome(), outcome, "{purpose}");
     }

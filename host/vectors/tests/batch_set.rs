@@ -5,7 +5,7 @@ use model::{book_batch, book_check, Answer, Row};
 use std::collections::{BTreeMap, BTreeSet};
 use vectors::batching;
 use vectors::checksum::checksum_of;
-use vectors::Case;
+use vectors::sets::Files;
 
 /// A case as it stands in the file.
 struct Asked<'file> {
@@ -91,7 +91,7 @@ fn outcome(answer: &Answer, rows: &[Answer]) -> String {
 
 /// The outcomes of the cases with this purpose.
 fn outcomes(purpose: &str) -> Vec<String> {
-    let cases = batching::cases().into_iter();
+    let cases = batching::SET.cases().into_iter();
     cases
         .filter(|case| case.purpose() == purpose)
         .map(|case| case.outcome())
@@ -135,9 +135,8 @@ fn a_program_that_follows_the_description_prints_the_text() {
 }
 
 #[test]
-fn the_file_and_the_batches_are_small_enough() {
+fn the_batches_are_small_enough() {
     let file = batching::SET.case_file();
-    assert!(file.len() < 600_000, "{}", file.len());
     let cases = read_file(&file);
     assert!(cases.len() <= 800, "{}", cases.len());
     assert!(cases

@@ -4,7 +4,7 @@
 use std::collections::BTreeMap;
 use vectors::building::{self, LONGEST_ROOM};
 use vectors::checksum::checksum;
-use vectors::Case;
+use vectors::sets::Files;
 
 /// A case as it stands in the file.
 struct Read<'file> {
@@ -52,7 +52,7 @@ fn line(number: usize, case: &Read) -> String {
 /// The code, first and second that are expected for each case, with what the
 /// case is there for.
 fn outcomes() -> Vec<(String, [usize; 3])> {
-    let cases = building::cases().into_iter();
+    let cases = building::SET.cases().into_iter();
     cases
         .map(|case| {
             let outcome = case.outcome();
@@ -81,9 +81,8 @@ fn a_program_that_follows_the_description_prints_the_text() {
 }
 
 #[test]
-fn the_file_and_the_rooms_are_small_enough() {
+fn the_rooms_are_small_enough() {
     let file = building::SET.case_file();
-    assert!(file.len() < 600_000, "{}", file.len());
     let cases = read_file(&file);
     assert!(cases.len() <= 160, "{}", cases.len());
     assert!(cases.iter().all(|case| case.room <= LONGEST_ROOM));
@@ -132,7 +131,7 @@ fn the_edges_of_document_01_are_among_the_cases() {
 
 #[test]
 fn the_list_with_every_block_size_gives_64_different_books() {
-    let cases = building::cases().into_iter();
+    let cases = building::SET.cases().into_iter();
     let stops = cases.filter(|case| case.purpose().starts_with("seventy stops"));
     let mut outcomes: Vec<String> = stops.map(|case| case.outcome()).collect();
     outcomes.sort();

@@ -2,7 +2,7 @@
 //! must be among its cases.
 
 use vectors::checking;
-use vectors::Case;
+use vectors::sets::Files;
 
 /// Reads the file as its description says, and asserts that it ends with a
 /// case.
@@ -30,16 +30,14 @@ fn a_program_that_follows_the_description_prints_the_text() {
 }
 
 #[test]
-fn the_file_is_small_enough() {
-    let file = checking::SET.case_file();
-    assert!(file.len() < 600_000, "{}", file.len());
-    let cases = checking::cases().len();
+fn the_cases_are_not_too_many() {
+    let cases = checking::SET.cases().len();
     assert!(cases <= 1500, "{cases}");
 }
 
 #[test]
 fn the_edges_of_document_01_are_among_the_cases() {
-    let cases = checking::cases();
+    let cases = checking::SET.cases();
     for (purpose, answer) in [
         ("worked example, k 2: book 85", "0 3 2"),
         ("worked example, k 4: book 80", "0 3 4"),
@@ -73,7 +71,7 @@ fn every_spoilt_piece_is_refused_but_for_letters_that_no_node_shows() {
     // the spoilt pieces only single letters, and k where it cuts no other
     // blocks, can make another sound book.
     let mut accepted = 0;
-    for case in checking::cases() {
+    for case in checking::SET.cases() {
         let purpose = case.purpose();
         let spoilt = ["85, ", "80, ", "small tree, "];
         if !spoilt.iter().any(|start| purpose.starts_with(start)) {

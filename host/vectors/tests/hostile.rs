@@ -1,11 +1,12 @@
 //! Hostile books are none, and by their nodes alone.
 
-use model::layout::LONGEST_BOOK;
+use format::LONGEST_BOOK;
 use model::{book_check, book_of};
 use vectors::hostile::{any, kinds, Kind, DEEPER_THAN_ANY};
 use vectors::lists;
 use vectors::pieces::Pieces;
 use vectors::random::Random;
+use vectors::sets::{Call, Set};
 use vectors::{asking, batching, checking, reading};
 
 /// All hostile books, small ones and the largest, with what is wrong.
@@ -130,21 +131,27 @@ fn books_of_any_kind_over_any_names_are_mostly_refused() {
     assert!(accepted < 100, "{accepted}");
 }
 
+/// Asserts that every kind is in the set, and that all of them are refused.
+fn assert_every_kind_in<C: Call>(set: &Set<C>) {
+    let mut hostile = set.cases();
+    hostile.retain(|case| case.purpose().starts_with("hostile, "));
+    for kind in kinds() {
+        let words = format!("hostile, {}: ", kind.how);
+        let found = hostile
+            .iter()
+            .any(|case| case.purpose().starts_with(&words));
+        assert!(found, "{} in {}", kind.how, set.name);
+    }
+    for case in hostile {
+        let is_refused = case.outcome().starts_with("2 0 0");
+        assert!(is_refused, "{} in {}", case.purpose(), set.name);
+    }
+}
+
 #[test]
 fn every_kind_is_in_every_set_of_a_call_that_takes_a_book() {
-    for set in [checking::SET, reading::SET, asking::SET, batching::SET] {
-        let mut hostile = (set.cases)();
-        hostile.retain(|case| case.purpose().starts_with("hostile, "));
-        for kind in kinds() {
-            let words = format!("hostile, {}: ", kind.how);
-            let found = hostile
-                .iter()
-                .any(|case| case.purpose().starts_with(&words));
-            assert!(found, "{} in {}", kind.how, set.name);
-        }
-        for case in hostile {
-            let is_refused = case.outcome().starts_with("2 0 0");
-            assert!(is_refused, "{} in {}", case.purpose(), set.name);
-        }
-    }
+    assert_every_kind_in(&checking::SET);
+    assert_every_kind_in(&reading::SET);
+    assert_every_kind_in(&asking::SET);
+    assert_every_kind_in(&batching::SET);
 }

@@ -3,8 +3,8 @@
 
 use std::collections::BTreeMap;
 use vectors::checksum::checksum;
-use vectors::reading::{self, LONGEST_ROOM};
-use vectors::Case;
+use vectors::reading::{self, Read as Call, LONGEST_ROOM};
+use vectors::sets::{Case, Files};
 
 /// A case as it stands in the file.
 struct Read<'file> {
@@ -50,7 +50,7 @@ fn line(number: usize, case: &Read) -> String {
 }
 
 /// The three numbers of a case's answer.
-fn answer(case: &impl Case) -> [usize; 3] {
+fn answer(case: &Case<Call>) -> [usize; 3] {
     let outcome = case.outcome();
     let mut numbers = outcome.split(' ').map(|word| word.parse().unwrap());
     std::array::from_fn(|_| numbers.next().unwrap())
@@ -66,9 +66,8 @@ fn a_program_that_follows_the_description_prints_the_text() {
 }
 
 #[test]
-fn the_file_and_the_rooms_are_small_enough() {
+fn the_rooms_are_small_enough() {
     let file = reading::SET.case_file();
-    assert!(file.len() < 600_000, "{}", file.len());
     let cases = read_file(&file);
     assert!(cases.len() <= 1200, "{}", cases.len());
     assert!(cases.iter().all(|case| case.room <= LONGEST_ROOM));
@@ -77,7 +76,7 @@ fn the_file_and_the_rooms_are_small_enough() {
 #[test]
 fn every_refusal_of_a_reading_is_among_the_cases() {
     let mut counts = BTreeMap::new();
-    for case in reading::cases() {
+    for case in reading::SET.cases() {
         *counts.entry(answer(&case)[0]).or_insert(0) += 1;
     }
     let codes: Vec<usize> = counts.keys().copied().collect();
@@ -86,7 +85,7 @@ fn every_refusal_of_a_reading_is_among_the_cases() {
 
 #[test]
 fn the_edges_of_document_01_are_among_the_cases() {
-    let cases = reading::cases();
+    let cases = reading::SET.cases();
     for (purpose, expected) in [
         ("empty input: book 0, position 0, room 0", [2, 0, 0]),
         ("worked example: book 85, position 2, room 13", [0, 13, 0]),

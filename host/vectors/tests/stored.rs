@@ -6,6 +6,7 @@
 use model::{book_of, listing};
 use std::fs;
 use std::path::{Path, PathBuf};
+use vectors::sets::LONGEST_FILE;
 use vectors::{expected_of_all, lists, SETS};
 
 /// The folder of a program.
@@ -30,11 +31,19 @@ fn assert_stored(path: &Path, today: &[u8]) {
 #[test]
 fn the_stored_vectors_are_what_the_second_program_writes_today() {
     let folder = program_folder("cases");
-    for set in &SETS {
-        let file = folder.join(format!("data/{}.cases", set.name));
+    for set in SETS {
+        let file = folder.join(format!("data/{}.cases", set.name()));
         assert_stored(&file, &set.case_file());
     }
     assert_stored(&folder.join("stdout"), expected_of_all().as_bytes());
+}
+
+#[test]
+fn every_file_is_small_enough() {
+    for set in SETS {
+        let length = set.case_file().len();
+        assert!(length < LONGEST_FILE, "{}: {length}", set.name());
+    }
 }
 
 #[test]

@@ -1,7 +1,6 @@
 //! Lists that cost most, and those of which one parameter doubles, are lists.
 
-use model::calls::LONGEST_QUESTION;
-use model::names::LONGEST_NAME;
+use format::{LONGEST_NAME, LONGEST_QUESTION};
 use vectors::growth;
 use vectors::random::Random;
 use vectors::worst::{any, chains, dearest_check, dearest_question, Comb, Worst};

@@ -1,15 +1,14 @@
 //! Questions from standard input, a kind and a question on each line, asked as
 //! batches.
 
-use super::question::{self, Kind, Question, KINDS};
+use super::question::{self, Question, KINDS};
 use super::sentence;
 use crate::book::Book;
 use crate::outcome::{Failure, Outcome, Status, Streams};
 use crate::text::named;
+use mistrogu::{Kind, MOST_ROWS};
 use std::io::{self, BufRead, IsTerminal, Read};
 
-/// The most questions of a batch.
-const MOST_ROWS: usize = 64;
 /// So much of a line is read; what is longer is refused as a question.
 const LONGEST_LINE: u64 = 65_536;
 
@@ -98,7 +97,7 @@ fn read_question(line: &[u8]) -> Result<Question, String> {
     let mut words = line.splitn(2, |&byte| byte == b' ');
     let word = words.next().unwrap_or_default();
     let text = words.next().unwrap_or_default().to_vec();
-    match Kind::named(word) {
+    match Kind::from_name(word) {
         Some(kind) => Ok(Question { kind, text }),
         None => Err(format!(
             "{} is no kind; begin the line with {KINDS}",
@@ -119,9 +118,9 @@ fn ask_waiting(book: &mut Book, waiting: &[Asked], limit: usize, streams: &mut S
                 let told = sentence::tell(book, &asked.question, &reply, limit)?;
                 streams.out.write_all(told.text.as_bytes())?;
             }
-            Err(code) => {
+            Err(refusal) => {
                 status = Status::No;
-                if let Failure::Refused(text) = sentence::refusal(book, &asked.question, code) {
+                if let Failure::Refused(text) = sentence::refusal(book, &asked.question, refusal) {
                     note_line(asked.number, &text, streams);
                 }
             }

@@ -10,7 +10,8 @@ use crate::book::Book;
 use crate::files;
 use crate::outcome::{Failure, Outcome, Streams};
 use crate::{help, Command};
-use question::{Kind, Question};
+use mistrogu::Kind;
+use question::Question;
 use std::ffi::OsStr;
 use std::os::unix::ffi::OsStrExt;
 
@@ -57,7 +58,7 @@ fn run(words: &Words, streams: &mut Streams) -> Outcome {
 
 /// The kind that a word names.
 fn read_kind(word: &OsStr) -> Result<Kind, Failure> {
-    Kind::named(word.as_bytes()).ok_or_else(|| {
+    Kind::from_name(word.as_bytes()).ok_or_else(|| {
         let word = crate::text::shown_os(word);
         Failure::usage(format!("{word} is no kind; give {}", question::KINDS))
     })
@@ -66,7 +67,7 @@ fn read_kind(word: &OsStr) -> Result<Kind, Failure> {
 /// Asks one question and prints the answer.
 fn ask_one(book: &mut Book, question: &Question, limit: usize, streams: &mut Streams) -> Outcome {
     let reply = question::ask(book.bytes(), question)
-        .map_err(|code| sentence::refusal(book, question, code))?;
+        .map_err(|refusal| sentence::refusal(book, question, refusal))?;
     let told = sentence::tell(book, question, &reply, limit)?;
     streams.out.write_all(told.text.as_bytes())?;
     Ok(told.status)

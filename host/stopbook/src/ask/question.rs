@@ -1,46 +1,10 @@
 //! Questions and what they get.
 
-use mistrogu::{Answer, Nearest, Refusal, Row};
-use std::ops::Range;
+use mistrogu::{batch, exact, nearest, place, range, reply, row};
+use mistrogu::{Answer, Kind, Refusal, Reply};
 
 /// The kinds, for messages.
 pub const KINDS: &str = "exact, place, range or nearest";
-
-/// The kinds of question.
-#[derive(Clone, Copy, Debug, PartialEq, Eq)]
-pub enum Kind {
-    /// Is this a stop?
-    Exact,
-    /// Where would it stand?
-    Place,
-    /// Which stops begin with it?
-    Range,
-    /// Which stop shares most with it?
-    Nearest,
-}
-
-impl Kind {
-    /// The kind with this name.
-    pub fn named(name: &[u8]) -> Option<Kind> {
-        match name {
-            b"exact" => Some(Kind::Exact),
-            b"place" => Some(Kind::Place),
-            b"range" => Some(Kind::Range),
-            b"nearest" => Some(Kind::Nearest),
-            _ => None,
-        }
-    }
-
-    /// Its number in a batch row.
-    fn number(self) -> usize {
-        match self {
-            Kind::Exact => 1,
-            Kind::Place => 2,
-            Kind::Range => 3,
-            Kind::Nearest => 4,
-        }
-    }
-}
 
 /// A question.
 #[derive(Clone, Debug, PartialEq, Eq)]
@@ -51,74 +15,47 @@ pub struct Question {
     pub text: Vec<u8>,
 }
 
-/// What a question gets.
-#[derive(Clone, Debug, PartialEq, Eq)]
-pub enum Reply {
-    /// The position of the stop, where it is one.
-    Exact(Option<usize>),
-    /// How many names are less.
-    Place(usize),
-    /// The positions of the names that begin with it.
-    Range(Range<usize>),
-    /// A position, and how many leading bytes are shared there.
-    Nearest(usize, usize),
-}
-
-/// Asks one question by its own call: the reply, or the number of the refusal.
-pub fn ask(book: &[u8], question: &Question) -> Result<Reply, usize> {
+/// Asks one question by its own call.
+pub fn ask(book: &[u8], question: &Question) -> Result<Reply, Refusal> {
     let text = &question.text;
-    let reply = match question.kind {
-        Kind::Exact => mistrogu::exact(book, text).map(Reply::Exact),
-        Kind::Place => mistrogu::place(book, text).map(Reply::Place),
-        Kind::Range => mistrogu::range(book, text).map(Reply::Range),
-        Kind::Nearest => mistrogu::nearest(book, text)
-            .map(|Nearest { position, shared }| Reply::Nearest(position, shared)),
-    };
-    reply.map_err(|refusal| refusal.number())
+    match question.kind {
+        Kind::Exact => exact(book, text).map(Reply::Exact),
+        Kind::Place => place(book, text).map(Reply::Place),
+        Kind::Range => range(book, text).map(Reply::Range),
+        Kind::Nearest => nearest(book, text).map(Reply::Nearest),
+    }
 }
 
-/// Asks up to 64 questions by one call: each one's reply, or the number of its
-/// refusal.
+/// Asks questions by one call, at most as many as a batch has rows.
 pub fn ask_batch(
     book: &[u8],
     questions: &[Question],
-) -> Result<Vec<Result<Reply, usize>>, Refusal> {
+) -> Result<Vec<Result<Reply, Refusal>>, Refusal> {
     let mut buffer = Vec::new();
     let mut rows = Vec::new();
     for question in questions {
-        rows.push(Row {
-            kind: question.kind.number(),
-            start: buffer.len(),
-            length: question.text.len(),
-        });
+        let start = buffer.len();
         buffer.extend_from_slice(&question.text);
+        rows.push(row(question.kind, start..buffer.len()));
     }
     let mut answers = vec![Answer::default(); rows.len()];
-    mistrogu::batch(book, &buffer, &rows, &mut answers)?;
-    let both = questions.iter().zip(&answers);
+    batch(book, &buffer, &rows, &mut answers)?;
+    let both = questions.iter().zip(answers);
     Ok(both
         .map(|(question, answer)| reply(question.kind, answer))
         .collect())
-}
-
-/// The reply in an answer row, or the number of the refusal.
-fn reply(kind: Kind, answer: &Answer) -> Result<Reply, usize> {
-    let (first, second) = (answer.first, answer.second);
-    if answer.code != 0 {
-        return Err(answer.code);
-    }
-    Ok(match kind {
-        Kind::Exact => Reply::Exact((second == 1).then_some(first)),
-        Kind::Place => Reply::Place(first),
-        Kind::Range => Reply::Range(first..first + second),
-        Kind::Nearest => Reply::Nearest(first, second),
-    })
 }
 
 #[cfg(test)]
 mod tests {
     use super::*;
     use crate::layout::tests::EXAMPLE;
+    use mistrogu::Nearest;
+
+    /// The reply of nearest.
+    fn near(position: usize, shared: usize) -> Reply {
+        Reply::Nearest(Nearest { position, shared })
+    }
 
     /// The twelve rows of document 01.
     fn rows() -> Vec<(Question, Reply)> {
@@ -131,10 +68,10 @@ mod tests {
             (Kind::Range, "Mar", Reply::Range(0..3)),
             (Kind::Range, "Mark", Reply::Range(2..3)),
             (Kind::Range, "Mas", Reply::Range(3..3)),
-            (Kind::Nearest, "Mango", Reply::Nearest(0, 2)),
-            (Kind::Nearest, "Maxim", Reply::Nearest(1, 2)),
-            (Kind::Nearest, "Zoo", Reply::Nearest(0, 0)),
-            (Kind::Nearest, "M", Reply::Nearest(0, 1)),
+            (Kind::Nearest, "Mango", near(0, 2)),
+            (Kind::Nearest, "Maxim", near(1, 2)),
+            (Kind::Nearest, "Zoo", near(0, 0)),
+            (Kind::Nearest, "M", near(0, 1)),
         ];
         let row = |(kind, text, reply): (Kind, &str, Reply)| {
             let text = text.as_bytes().to_vec();
@@ -154,7 +91,7 @@ mod tests {
     fn all_rows_of_document_01_are_answered_in_a_batch() {
         let (questions, replies): (Vec<Question>, Vec<Reply>) = rows().into_iter().unzip();
         let found = ask_batch(EXAMPLE, &questions).expect("twelve rows are a batch");
-        let expected: Vec<Result<Reply, usize>> = replies.into_iter().map(Ok).collect();
+        let expected: Vec<Result<Reply, Refusal>> = replies.into_iter().map(Ok).collect();
         assert_eq!(found, expected);
     }
 
@@ -168,8 +105,9 @@ mod tests {
             kind: Kind::Place,
             text: vec![b'a'; 200],
         };
-        assert_eq!(ask(EXAMPLE, &long), Err(1));
+        let refused = Err(Refusal::QuestionTooLong);
+        assert_eq!(ask(EXAMPLE, &long), refused);
         let found = ask_batch(EXAMPLE, &[long, fine]).expect("the batch goes on");
-        assert_eq!(found, [Err(1), Ok(Reply::Place(3))]);
+        assert_eq!(found, [refused, Ok(Reply::Place(3))]);
     }
 }

@@ -1,9 +1,10 @@
 //! Answers as sentences, with the names in them.
 
-use super::question::{Question, Reply};
+use super::question::Question;
 use crate::book::Book;
 use crate::outcome::{Failure, Status};
 use crate::text::{counted, marked, named, shown};
+use mistrogu::{Nearest, Refusal, Reply, LONGEST_NAME};
 use std::ops::Range;
 
 /// An answer as it is printed, and whether it says yes.
@@ -28,20 +29,20 @@ pub fn tell(
         Reply::Place(place) => tell_place(book, text, *place),
         Reply::Range(range) if range.is_empty() => no_range(book, text, range.start),
         Reply::Range(range) => tell_range(book, text, range.clone(), limit),
-        Reply::Nearest(position, shared) => tell_nearest(book, text, *position, *shared),
+        Reply::Nearest(nearest) => tell_nearest(book, text, *nearest),
     }
 }
 
 /// Why a question was refused.
-pub fn refusal(book: &Book, question: &Question, code: usize) -> Failure {
+pub fn refusal(book: &Book, question: &Question, refusal: Refusal) -> Failure {
     let source = book.source();
-    Failure::refused(match code {
-        1 => format!(
-            "the question has {}, and 200 are the most; shorten it",
+    Failure::refused(match refusal {
+        Refusal::QuestionTooLong => format!(
+            "the question has {}, and {LONGEST_NAME} are the most; shorten it",
             counted(question.text.len(), "byte")
         ),
-        10 => format!("{source} has no names, so none is nearest"),
-        _ => format!("{source}: the question is refused with number {code}"),
+        Refusal::NoNames => format!("{source} has no names, so none is nearest"),
+        other => format!("{source}: {other}"),
     })
 }
 
@@ -132,12 +133,8 @@ fn tell_range(
 }
 
 /// The name that shares most, with the shared part in brackets.
-fn tell_nearest(
-    book: &mut Book,
-    text: &[u8],
-    position: usize,
-    shared: usize,
-) -> Result<Told, Failure> {
+fn tell_nearest(book: &mut Book, text: &[u8], nearest: Nearest) -> Result<Told, Failure> {
+    let Nearest { position, shared } = nearest;
     let name = book.name(position)?;
     let (text, shown) = (named(text), shown(name));
     if shared == 0 {

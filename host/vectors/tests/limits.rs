@@ -1,0 +1,29 @@
+//! The cases are made at the shared limits and answered by the second program,
+//! which has its own: they have to be the same.
+
+use model::{calls, layout, names};
+
+#[test]
+fn the_second_program_has_the_same_limits() {
+    for (shared, own) in [
+        (format::LONGEST_NAME, names::LONGEST_NAME),
+        (format::LONGEST_QUESTION, calls::LONGEST_QUESTION),
+        (format::MOST_NAMES, names::MOST_NAMES),
+        (format::LARGEST_BLOCK, layout::LARGEST_BLOCK),
+        (format::LONGEST_BOOK, layout::LONGEST_BOOK),
+        (format::MOST_ROWS, calls::MOST_ROWS),
+        (format::TRAILER, layout::TRAILER_LENGTH),
+    ] {
+        assert_eq!(shared, own);
+    }
+    assert_eq!(format::MARK, layout::MARK);
+}
+
+#[test]
+fn the_second_program_has_the_same_kinds() {
+    for number in 0..=6 {
+        let shared = format::Kind::from_number(number).map(|kind| format!("{kind:?}"));
+        let own = model::questions::Kind::of_number(number).map(|kind| format!("{kind:?}"));
+        assert_eq!(shared, own);
+    }
+}
