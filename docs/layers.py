@@ -1,107 +1,109 @@
 #!/usr/bin/env python3
-"""Draws the crates and their layers from crates.txt, as an SVG picture on standard output.
+"""Draws the crates and what each stands on, from crates.txt. Needs graphviz; whoever looks at the picture does not.
 
-    docs/layers.py > docs/layers.svg
+    docs/layers.py | dot -Tsvg | docs/layers.py --dark > docs/layers.svg
 
-A crate stands one row above the highest crate that its line names. Heads and rows go by the comment lines of crates.txt. An arrow leads from a
-crate to each one that it names directly and that no other crate on its line names for it."""
+Without a word it writes the graph for dot: a box for each crate, and an arrow from it to each crate that its line of crates.txt names and
+no other crate of that line leads to. dot gives each crate its row and leads the arrows around the boxes. With --dark it copies a drawing
+from standard input and adds the colours of a dark page, which a browser takes where its pages are dark.
+
+A crate with a src/main.rt is a program. Any other is theory where its sources are comments alone, and else code."""
 import sys
+from pathlib import Path
 
-WIDTH, HEIGHT, GAP_X, GAP_Y, MARGIN = 108, 34, 18, 44, 24
-COLOURS = {"theory": "#3b7dd8", "code": "#2e9e6b", "program": "#b0762a"}
+ROOT = Path(__file__).resolve().parent.parent
+TITLE = "The crates and what each stands on"
 
-
-def read_crates(path):
-    """name -> (kind, names on its line), in the file's order; kits' libraries are left out."""
-    crates, kind = {}, "theory"
-    for line in open(path, encoding="utf-8"):
-        line = line.strip()
-        if line.startswith("#"):
-            for word in ("theory", "code", "program"):
-                if word in line:
-                    kind = word
-                    break
-            continue
-        if ":" in line:
-            name, rest = line.split(":", 1)
-            crates[name.strip()] = (kind, rest.split())
-    return {n: (k, [d for d in ds if d in crates]) for n, (k, ds) in crates.items()}
+# Of a light page, then of a dark one: the page, lines and text; for each kind the inside of a box and its edge.
+GROUND = ("#ffffff", "#0d1117")
+LINE = ("#6e7781", "#9198a1")
+TEXT = ("#1f2328", "#f0f6fc")
+KINDS = {
+    "theory": (("#ddf4ff", "#0969da"), ("#0c2d6b", "#4493f8")),
+    "code": (("#dafbe1", "#1a7f37"), ("#04260f", "#3fb950")),
+    "program": (("#fff8c5", "#9a6700"), ("#341a00", "#d29922")),
+}
 
 
-def depths(crates):
-    """name -> its row, counted from the lowest, in whatever order the lines stand."""
-    rows = {}
+def read_crates():
+    """name -> the crates on its line, in the file's order; libraries of the kit are left out."""
+    lines = (ROOT / "crates.txt").read_text(encoding="utf-8").splitlines()
+    pairs = [line.split(":", 1) for line in lines if ":" in line and not line.lstrip().startswith("#")]
+    named = {name.strip(): rest.split() for name, rest in pairs}
+    return {name: [other for other in others if other in named] for name, others in named.items()}
 
-    def row(name):
-        if name not in rows:
-            rows[name] = 1 + max((row(d) for d in crates[name][1]), default=-1)
-        return rows[name]
-    return {name: row(name) for name in crates}
+
+def kind_of(name):
+    """What a crate is, by its sources."""
+    sources = ROOT / "crates" / name / "src"
+    if (sources / "main.rt").exists():
+        return "program"
+    lines = [line.strip() for file in sources.glob("**/*.rt") for line in file.read_text(encoding="utf-8").splitlines()]
+    return "code" if any(line and not line.startswith("//") for line in lines) else "theory"
+
+
+def below(crates, name):
+    """All that a crate stands on, however far down."""
+    found, waiting = set(), list(crates[name])
+    while waiting:
+        other = waiting.pop()
+        if other not in found:
+            found.add(other)
+            waiting += crates[other]
+    return found
 
 
 def direct(crates, name):
     """The crates on a line that no other crate of the line leads to."""
-    def below(one):
-        seen, todo = set(), list(crates[one][1])
-        while todo:
-            d = todo.pop()
-            if d not in seen:
-                seen.add(d)
-                todo += crates[d][1]
-        return seen
-    names = crates[name][1]
-    return [d for d in names if not any(d in below(e) for e in names if e != d)]
+    others = crates[name]
+    return [other for other in others if not any(other in below(crates, one) for one in others)]
 
 
-def order(crates, by_row):
-    """Sorts each row, from the lowest on, by where what it names stands: fewer lines cross."""
-    place = {}
-    for row in sorted(by_row):
-        def middle(name):
-            below = [place[d] for d in direct(crates, name)]
-            return sum(below) / len(below) if below else 0.5
-        by_row[row].sort(key=middle)
-        count = len(by_row[row])
-        for i, name in enumerate(by_row[row]):
-            place[name] = (i + 0.5) / count
+def box(name, kind, label):
+    """A box of this kind, by the name that lines know it by."""
+    inside, edge = KINDS[kind][0]
+    return f'"{name}" [label="{label}" class="{kind}" fillcolor="{inside}" color="{edge}"]'
 
 
-def picture(crates):
-    rows = depths(crates)
-    by_row = {}
-    for name in crates:
-        by_row.setdefault(rows[name], []).append(name)
-    order(crates, by_row)
-    widest = max(len(names) for names in by_row.values())
-    width = 2 * MARGIN + widest * WIDTH + (widest - 1) * GAP_X
-    height = 2 * MARGIN + len(by_row) * HEIGHT + (len(by_row) - 1) * GAP_Y + 26
-    at = {}
-    for row, names in by_row.items():
-        used = len(names) * WIDTH + (len(names) - 1) * GAP_X
-        left = (width - used) / 2
-        for i, name in enumerate(names):
-            at[name] = (left + i * (WIDTH + GAP_X), MARGIN + (len(by_row) - 1 - row) * (HEIGHT + GAP_Y))
-    out = [f'<svg xmlns="http://www.w3.org/2000/svg" viewBox="0 0 {width:.0f} {height:.0f}" font-family="sans-serif" font-size="13">',
-           "<title>The crates and what each may name</title>",
-           f'<rect width="{width:.0f}" height="{height:.0f}" fill="#ffffff"/>']
-    for name in crates:
-        x, y = at[name]
-        for other in direct(crates, name):
-            u, v = at[other]
-            out.append(f'<path d="M{x + WIDTH / 2:.0f},{y + HEIGHT:.0f} C{x + WIDTH / 2:.0f},{y + HEIGHT + 24:.0f} '
-                       f'{u + WIDTH / 2:.0f},{v - 24:.0f} {u + WIDTH / 2:.0f},{v:.0f}" fill="none" stroke="#8a8a8a" stroke-width="1.1"/>')
-    for name, (kind, _) in crates.items():
-        x, y = at[name]
-        out.append(f'<rect x="{x:.0f}" y="{y:.0f}" width="{WIDTH}" height="{HEIGHT}" rx="5" fill="#f7f7f7" stroke="{COLOURS[kind]}" stroke-width="2"/>')
-        out.append(f'<text x="{x + WIDTH / 2:.0f}" y="{y + HEIGHT / 2 + 4.5:.0f}" text-anchor="middle" fill="#202020">{name}</text>')
-    x = MARGIN
-    for kind in ("theory", "code", "program"):
-        out.append(f'<rect x="{x}" y="{height - 30:.0f}" width="14" height="14" rx="3" fill="#f7f7f7" stroke="{COLOURS[kind]}" stroke-width="2"/>')
-        out.append(f'<text x="{x + 20}" y="{height - 18:.0f}" fill="#202020">{kind}</text>')
-        x += 90
-    out.append("</svg>")
-    return "\n".join(out)
+def graph(crates):
+    """The graph in dot's language. The boxes that say what the colours mean hang below the lowest row."""
+    lowest = [name for name, others in crates.items() if not others]
+    out = [
+        f'digraph "{TITLE}" {{',
+        f'graph [bgcolor="{GROUND[0]}" pad=0.2 nodesep=0.3 ranksep=0.5]',
+        'node [shape=box style="filled,rounded" penwidth=1.5 width=1.2 height=0.42]',
+        f'node [fontname="sans-serif" fontsize=13 fontcolor="{TEXT[0]}"]',
+        f'edge [color="{LINE[0]}" penwidth=1.2 arrowsize=0.6]',
+    ]
+    out += [box(name, kind_of(name), name) for name in crates]
+    out += [f'"{name}" -> "{other}"' for name in crates for other in direct(crates, name)]
+    out.append("{ rank=same " + " ".join(box(f"kind {kind}", kind, kind) for kind in KINDS) + " }")
+    out += [f'"{name}" -> "kind {kind}" [style=invis]' for name in lowest for kind in KINDS]
+    return "\n".join(out + ["}"])
+
+
+def dark_style():
+    """The colours of a dark page."""
+    rules = [
+        f".graph > polygon {{ fill: {GROUND[1]}; }}",
+        f"text {{ fill: {TEXT[1]}; }}",
+        f".edge path {{ stroke: {LINE[1]}; }}",
+        f".edge polygon {{ fill: {LINE[1]}; stroke: {LINE[1]}; }}",
+    ]
+    rules += [f".{kind} path {{ fill: {inside}; stroke: {edge}; }}" for kind, (_, (inside, edge)) in KINDS.items()]
+    return "\n".join(["<style>", "@media (prefers-color-scheme: dark) {", *rules, "}", "</style>"])
+
+
+def with_dark(drawing):
+    """The drawing with that style at its front."""
+    start = drawing.index(">", drawing.index("<svg")) + 1
+    return drawing[:start] + "\n" + dark_style() + drawing[start:]
 
 
 if __name__ == "__main__":
-    print(picture(read_crates(sys.argv[1] if len(sys.argv) > 1 else "crates.txt")))
+    if sys.argv[1:] == ["--dark"]:
+        sys.stdout.write(with_dark(sys.stdin.read()))
+    elif not sys.argv[1:]:
+        print(graph(read_crates()))
+    else:
+        sys.exit(__doc__)
