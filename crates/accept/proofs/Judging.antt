@@ -12,10 +12,10 @@ use mathlib.Core.List.{[]}
 use lib.ListN.{length}
 use Rattle.words.specs.Words.{Bytes, InBytes, plain}
 use Rattle.words.proofs.Words.{false≠true}
-use Rattle.format.specs.Book.{Book, NoBook, Opened, opened, trailerSize}
+use Rattle.format.specs.Book.{Book, NoBook, Opened, opened, trailerSize, namesOf}
 use Rattle.format.specs.Outcomes.{Answer, checkOf, given, refused}
 use Rattle.streams.specs.Runs.{Frame, Has}
-use Rattle.streams.specs.Streams.{InBlocks, namesOf}
+use Rattle.streams.specs.Streams.{InBlocks}
 use Rattle.streams.proofs.InBlocks.{has-blocks}
 use Rattle.streams.proofs.Walks.{has-known, has-names}
 use Rattle.entries.specs.Judging.{WalkSays}

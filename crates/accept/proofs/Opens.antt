@@ -10,14 +10,13 @@ use lib.ListN.{drop, getD, length, length-append, take, take-append-drop}
 use lib.Seq.{drop-append-le, drop-append-seam, drop-drop, drop-length, getD-drop, length-take-le, slice, take-at}
 use Rattle.words.specs.Words.{Bytes, InBytes, plain, same, word}
 use Rattle.words.proofs.Words.{same-refl, same-true}
-use Rattle.format.specs.Book.{Book, blockPart, book, entryPart, mark, nodePart, number, numbers, opened, trailerSize}
+use Rattle.format.specs.Book.{Book, blockPart, book, entryPart, mark, nodePart, number, numbers, opened, trailerSize, namesOf, wordsOf}
 use Rattle.format.specs.Nodes.{Node, table}
 use Rattle.format.proofs.Book.{Fits, blocksAt, book-length, book-opened, fits-parts, nodes-length, nodesAt, opened-book, parts-fits, read-field, records, trailerAt, trailerNumbers}
 use Rattle.format.proofs.Book as layout
 use Rattle.format.proofs.Records.{sound-few, sound-rising}
 use Rattle.format.proofs.Numbers.{high-byte, low-byte}
 use Rattle.streams.specs.Runs.{Has}
-use Rattle.streams.specs.Streams.{namesOf, wordsOf}
 use Rattle.streams.proofs.Fronts.{two}
 use Rattle.streams.proofs.Walks.{ends-at, has-length, has-names, has-sound}
 use Rattle.inspect.specs.Check.{isTable}
@@ -79,7 +78,7 @@ module _ (b : Bytes) (bytes : InBytes b) (p : Parts b) where
   unfolding isTable wordsOf
   nodes-are =
       ap (λ (ys : List Bytes). nodePart (table (map (word plain) ys))) (sym names-here)
-      ∙ same-true (nodePart (table (wordsOf b))) (slice (told b 6) (length b - trailerSize) b) (p .nodes)
+      ∙ same-true (nodePart (table (wordsOf plain b))) (slice (told b 6) (length b - trailerSize) b) (p .nodes)
 
   table-is : drop (told b 6) b ≡ nodePart rs ++ drop (length b - trailerSize) b
   table-is =

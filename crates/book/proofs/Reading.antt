@@ -13,13 +13,12 @@ use lib.ListN.{getD, length}
 use borrow.Author.Tests.{le-ltb, lt-ltb}
 use Rattle.words.specs.Words.{Bytes, plain}
 use Rattle.words.proofs.Lists.{all-at}
-use Rattle.format.specs.Book.{Book, opened}
+use Rattle.format.specs.Book.{Book, opened, namesOf}
 use Rattle.format.proofs.Book.{book-opened, fits-parts}
 use Rattle.format.proofs.Records.{rising-sizes, sound-rising}
 use Rattle.format.specs.Outcomes.{Answer as Numbers, Written, checkOf, given, over, refused, write}
 use Rattle.answers.specs.Calls.{check, readBack, readBackOf}
 use Rattle.numbers.proofs.Parts.{Held}
-use Rattle.streams.specs.Streams.{namesOf}
 use Rattle.accept.specs.Parts.{checkedNumbers}
 use Rattle.accept.specs.declared.Checked.{Checked}
 use Rattle.accept.specs.declared.Checked.the-variants.{Sound, Unsound}

@@ -9,15 +9,15 @@ use mathlib.Core.List.{List, [], _∷_, _++_, map, append-assoc}
 use lib.ListN.{length, getD, length-append, length-map}
 use Rattle.words.specs.Words.{All, Bytes, InBytes, Lawful, Rises, Rule, Words, cons, nil, nth, word}
 use Rattle.words.proofs.Lists.{all-at}
-use Rattle.format.specs.Book.{Book, Opened, allFields, blockPart, book, entryPart, fits, mark, nodePart, nodeSize, number, numbers, opened}
+use Rattle.format.specs.Book.{Book, allFields, blockPart, book, entryPart, fits, mark, nodePart, nodeSize, number, numbers, opened, wordsOf}
 use Rattle.format.specs.Nodes.{Node, table}
 use Rattle.format.specs.Records.{longest, mostNames, sound}
-use Rattle.format.proofs.Book.{Fits, book-length, book-opened, book-parts, fields-length, fits-parts, nodesAt, opened-book, read-field, trailerNumbers}
+use Rattle.format.proofs.Book.{Fits, book-length, book-opened, book-parts, fields-length, fits-parts, nodesAt, read-field, read-names, trailerNumbers}
 use Rattle.format.proofs.Numbers.{number-past, numbers-at, numbers-length, word-high}
 use Rattle.format.proofs.Records.{rising-sizes, sound-few, sound-rises, sound-rising, word-short}
 use Rattle.format.proofs.Small.{Modest, fields-at, names-bytes, table-small}
 use Rattle.format.proofs.Spans.{table-few}
-use Rattle.descent.specs.Vocabulary.{NodesAt, Searchable, openedNames, noNode, node, startIn, wordsIn}
+use Rattle.descent.specs.Vocabulary.{NodesAt, Searchable, noNode, node, startIn}
 
 -- names of bytes give words of small symbols
 modest : (ρ : Rule) → Lawful ρ → (xs : List Bytes) → All (λ x. (1 ≤ length x) × (length x ≤ longest)) xs → All (λ x. All (λ b. b < 256) x) xs
@@ -59,10 +59,10 @@ module _ (ρ : Rule) (ok : Lawful ρ) (k : ℕ) (xs : List Bytes) (fit : fits ρ
       }
 
   pub book-searchable : Searchable ρ (book ρ k xs) (startIn (book ρ k xs))
-  unfolding wordsIn startIn
+  unfolding wordsOf startIn
   book-searchable =
-      let names : wordsIn ρ (book ρ k xs) ≡ map (word ρ) xs = ap (λ (o : Opened). map (word ρ) (openedNames o)) (opened-book ρ k xs fit) in
-      let size : length (wordsIn ρ (book ρ k xs)) ≡ length xs = ap length names ∙ count in
+      let names : wordsOf ρ (book ρ k xs) ≡ map (word ρ) xs = ap (map (word ρ)) (read-names ρ k xs f) in
+      let size : length (wordsOf ρ (book ρ k xs)) ≡ length xs = ap length names ∙ count in
       let few : length xs ≤ mostNames = sound-few ρ xs (f .sound) in
       record {
         rises = subst Rises (sym names) up;

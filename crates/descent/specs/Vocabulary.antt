@@ -8,16 +8,16 @@
 --     Passed, Descended      the nodes passed so far, the last one v; the whole descent
 --     Highest, Found       the highest node of a path that is deep enough; it holds the names that share reached-most with q
 --     Group                the names from lo up to hi are those that share the reached-most, n symbols, with q
---     wordsIn, asked       the words of a book's names, the word of a question; shut, so that they can be inferred
+--     asked                the word of a question; shut, so that it can be inferred
 --     NodesAt, Searchable  bytes hold the fields of a table; what every step of a search asks of its book
 -- Laws: Cuts, Reach, Rows, Paths, Bytes. Assumes nothing: these are definitions.
 use Prim.Native.Nat.{ℕ, _+_, _-_, _*_, _≤_, _<_, suc, pred}
 use mathlib.Core.Path.{_≡_}
 use mathlib.Core.Logic.{_⊎_}
-use mathlib.Core.List.{List, [], _++_, map}
+use mathlib.Core.List.{List, _++_}
 use lib.ListN.{length, getD, drop}
 use Rattle.words.specs.Words.{Bytes, Rises, Rule, Words, at, nth, shared, span, word}
-use Rattle.format.specs.Book.{Book, NoBook, Opened, fields, nodeSize, number, opened, trailerSize}
+use Rattle.format.specs.Book.{fields, nodeSize, number, trailerSize, wordsOf}
 use Rattle.format.specs.Nodes.{Node, nodeTable, rowTable, table}
 use Rattle.format.specs.Records.{longest, mostNames}
 use Rattle.format.proofs.Groups.{Ranked}
@@ -164,13 +164,6 @@ pub record Located (ws : Words) (q : List ℕ) (n v : ℕ) : Type 0 where
 
 -- ---- the bytes
 
-abbrev pub openedNames : Opened → List Bytes
-openedNames (Book k xs) = xs
-openedNames NoBook = []
-
-unfoldable pub wordsIn : Rule → Bytes → Words
-wordsIn ρ s = map (word ρ) (openedNames (opened ρ s))
-
 unfoldable pub asked : Rule → Bytes → List ℕ
 asked ρ q = word ρ q
 
@@ -181,12 +174,12 @@ pub record NodesAt (s : Bytes) (start : ℕ) (ws : Words) : Type 0 where
 
 -- a book with names, its node table at `start`
 pub record Searchable (ρ : Rule) (s : Bytes) (start : ℕ) : Type 0 where
-  pub rises : Rises (wordsIn ρ s)
-  pub some : 0 < length (wordsIn ρ s)
-  pub few : length (wordsIn ρ s) ≤ mostNames
-  pub small : length (table (wordsIn ρ s)) < 2 * mostNames
-  pub short : (i : ℕ) → length (nth (wordsIn ρ s) i) ≤ longest
-  pub table : NodesAt s start (wordsIn ρ s)
+  pub rises : Rises (wordsOf ρ s)
+  pub some : 0 < length (wordsOf ρ s)
+  pub few : length (wordsOf ρ s) ≤ mostNames
+  pub small : length (table (wordsOf ρ s)) < 2 * mostNames
+  pub short : (i : ℕ) → length (nth (wordsOf ρ s) i) ≤ longest
+  pub table : NodesAt s start (wordsOf ρ s)
 
 -- where a book's trailer says that its node table starts
 unfoldable pub startIn : Bytes → ℕ

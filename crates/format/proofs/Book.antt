@@ -16,7 +16,7 @@ use borrow.Author.Tests.{leb-true, le-leb}
 use Rattle.words.specs.Words.{All, Bytes, Rule, both, cons, nil, pick, same, word}
 use Rattle.words.proofs.Lists.{all-at}
 use Rattle.words.proofs.Words.{both-true, same-refl, same-true}
-use Rattle.format.specs.Book.{Book, NoBook, allFields, blockPart, book, entryPart, fits, goodBlock, longestBook, mark, nodePart, nodeSize, number, numbers, opened, trailer, trailerSize}
+use Rattle.format.specs.Book.{Book, NoBook, allFields, blockPart, book, entryPart, fits, goodBlock, longestBook, mark, namesOf, nodePart, nodeSize, number, numbers, opened, trailer, trailerSize}
 use Rattle.format.specs.Entries.{decode}
 use Rattle.format.specs.Nodes.{Node, table}
 use Rattle.format.specs.Records.{sound}
@@ -106,8 +106,8 @@ module _ (ρ : Rule) (k : ℕ) (xs : List Bytes) where
         ∙ numbers-at trailerNumbers mark j h (all-at 0 trailerNumbers numbers-few j h)
 
     -- the names, out of the bytes before the block table
-    pub read-names : decode (take (number (book ρ k xs) (length (book ρ k xs) - trailerSize + 4)) (book ρ k xs)) ≡ xs
-    unfolding book
+    pub read-names : namesOf (book ρ k xs) ≡ xs
+    unfolding namesOf book
     read-names =
         ap (λ (n : ℕ). decode (take n (book ρ k xs))) (read-field 2 (omega arith))
         ∙ ap decode (take-append-seam (entryPart k xs) _) ∙ decode-entries k xs (f .low)
@@ -130,7 +130,7 @@ book-opened ρ s k xs e = go (both (fits ρ j ys) (same (book ρ j ys) s)) refl 
     j = number s (length s - trailerSize + 2)
 
     ys : List Bytes
-    ys = decode (take (number s (length s - trailerSize + 4)) s)
+    ys = namesOf s
 
     go : (t : Bool) → both (fits ρ j ys) (same (book ρ j ys) s) ≡ t → pick t (Book j ys) NoBook ≡ Book k xs → (fits ρ k xs ≡ true) × (book ρ k xs ≡ s)
     go true p q =

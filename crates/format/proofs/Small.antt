@@ -15,7 +15,7 @@ use Rattle.words.specs.Words.{All, Bytes, InBytes, Rises, Rule, Words, at, cons
 use Rattle.words.proofs.Lists.{all-append, all-head, all-left, all-right}
 use Rattle.words.proofs.Rising.{rises-left, rises-right}
 use Rattle.words.proofs.Words.{shared-comm, shared-le}
-use Rattle.format.specs.Book.{allFields, blockPart, book, entryPart, fields, joined, nodePart, number, trailer, trailerSize}
+use Rattle.format.specs.Book.{allFields, blockPart, book, entryPart, fields, joined, namesOf, nodePart, number, trailer, trailerSize}
 use Rattle.format.specs.Entries.{blocks, blocksFrom, decode, decodeFrom, entry, front}
 use Rattle.format.specs.Nodes.{Node, depth, groups, nodeTable, rowOf, table, tableWithin}
 use Rattle.format.specs.Records.{longest}
@@ -110,7 +110,7 @@ decode-bytes prev (suc n) (b ∷ rest) p (cons h a) = decode-bytes prev n rest p
 
 -- the names of a book of bytes
 pub names-bytes : (ρ : Rule) (k : ℕ) (xs : List Bytes) → Fits ρ k xs → InBytes (book ρ k xs) → All Small xs
-unfolding decode
+unfolding decode namesOf
 names-bytes ρ k xs f h =
     let n : ℕ = number (book ρ k xs) (length (book ρ k xs) - trailerSize + 4) in
     subst (All Small) (read-names ρ k xs f) (decode-bytes [] 0 (take n (book ρ k xs)) nil (take-bytes n (book ρ k xs) (bytes-all (book ρ k xs) h)))

@@ -4,6 +4,7 @@
 --     entryPart, blockPart, nodePart, trailer    the four parts
 --     book              the whole, for a block size and names
 --     fits              a book can be built from these
+--     namesOf, wordsOf  the names that bytes would be the book of, and their words
 --     opened            the block size and the names of a book, or none
 -- The laws are in proofs/Book.antt. Assumes nothing: these are definitions.
 use Prim.Native.Nat.{ℕ, _+_, _-_, _*_, _/_, _%_}
@@ -11,7 +12,7 @@ use mathlib.Core.Bool.{Bool}
 use mathlib.Core.List.{List, [], _∷_, _++_, map}
 use lib.Dec.{leb}
 use lib.ListN.{length, getD, take}
-use Rattle.words.specs.Words.{Bytes, Rule, pick, both, word, same}
+use Rattle.words.specs.Words.{Bytes, Rule, Words, pick, both, word, same}
 use Rattle.format.specs.Records.{sound}
 use Rattle.format.specs.Entries.{blocks, offsets, decode}
 use Rattle.format.specs.Nodes.{Node, table}
@@ -84,9 +85,14 @@ pub data Opened : Type 0 where
 
 -- The trailer points back: it tells the block size and where the entries end. Their names are those that the bytes would have to be
 -- the book of; whether they are is seen by building it.
+unfoldable pub namesOf : Bytes → List Bytes
+namesOf s = decode (take (number s (length s - trailerSize + 4)) s)
+
+unfoldable pub wordsOf : Rule → Bytes → Words
+wordsOf ρ s = map (word ρ) (namesOf s)
+
 unfoldable pub opened : Rule → Bytes → Opened
 opened ρ s =
-    let end = length s - trailerSize in
-    let k = number s (end + 2) in
-    let xs = decode (take (number s (end + 4)) s) in
+    let k = number s (length s - trailerSize + 2) in
+    let xs = namesOf s in
     pick (both (fits ρ k xs) (same (book ρ k xs) s)) (Book k xs) NoBook

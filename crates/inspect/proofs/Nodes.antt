@@ -7,10 +7,10 @@ use Prim.Native.Nat.{ℕ, suc, _+_, _*_, _≤_, _<_}
 use native.Mathlib.Omega.{arith}
 use mathlib.Core.Path.{_≡_, refl, sym, ap, _∙_, subst}
 use lib.ListN.{length}
-use Rattle.words.specs.Words.{Bytes, nth}
-use Rattle.format.specs.Book.{number}
+use Rattle.words.specs.Words.{Bytes, nth, plain}
+use Rattle.format.specs.Book.{number, namesOf, wordsOf}
 use Rattle.format.specs.Nodes.{Node, leaf}
-use Rattle.streams.specs.Streams.{Here, lengthAt, namesOf, wordsOf}
+use Rattle.streams.specs.Streams.{Here, lengthAt}
 use Rattle.streams.proofs.Here.{here-length, words-count}
 use Rattle.standing.specs.Stands.{NodeAt, recordAt}
 use Rattle.standing.proofs.Children as child
@@ -30,24 +30,24 @@ module _ (b : Bytes) (lo s o a : ℕ) (q : Ask b lo 1 a) where
   some : lo < length (namesOf b)
   some = omega (arith, q .within)
 
-  lone : lo < length (wordsOf b)
+  lone : lo < length (wordsOf plain b)
   lone = omega (arith, some, words-count b)
 
-  size : lengthAt b a ≡ length (nth (wordsOf b) lo)
+  size : lengthAt b a ≡ length (nth (wordsOf plain b) lo)
   size = here-length b lo a (q .known) (q .here) some
 
   next : suc lo ≡ lo + 1
   next = omega arith
 
-  pub leaf-stands : o + 10 ≤ length b → number b o ≡ s → number b (o + 4) ≡ lo → number b (o + 6) ≡ 1 → LeafAt b o (lengthAt b a) → NodeAt b (wordsOf b) lo (lo + 1) s o (o + 10)
+  pub leaf-stands : o + 10 ≤ length b → number b o ≡ s → number b (o + 4) ≡ lo → number b (o + 6) ≡ 1 → LeafAt b o (lengthAt b a) → NodeAt b (wordsOf plain b) lo (lo + 1) s o (o + 10)
   leaf-stands room symbol first names k =
-      let depth : number b (o + 2) ≡ suc (length (nth (wordsOf b) lo)) = k .0 ∙ ap suc size in
-      let told : recordAt b o ≡ leaf lo s (nth (wordsOf b) lo) = rw (symbol, depth, first, names, k .1) refl in
-      subst (λ (m : ℕ). NodeAt b (wordsOf b) lo m s o (o + 10)) next (child.leaf-node (wordsOf b) (q .known .rises) b s lo o lone room told)
+      let depth : number b (o + 2) ≡ suc (length (nth (wordsOf plain b) lo)) = k .0 ∙ ap suc size in
+      let told : recordAt b o ≡ leaf lo s (nth (wordsOf plain b) lo) = rw (symbol, depth, first, names, k .1) refl in
+      subst (λ (m : ℕ). NodeAt b (wordsOf plain b) lo m s o (o + 10)) next (child.leaf-node (wordsOf plain b) (q .known .rises) b s lo o lone room told)
 
-  pub leaf-not : (LeafAt b o (lengthAt b a) → ⊥) → (e : ℕ) → NodeAt b (wordsOf b) lo (lo + 1) s o e → ⊥
+  pub leaf-not : (LeafAt b o (lengthAt b a) → ⊥) → (e : ℕ) → NodeAt b (wordsOf plain b) lo (lo + 1) s o e → ⊥
   leaf-not n e g =
-      let f = child.node-leaf (wordsOf b) (q .known .rises) b s lo o e lone (subst (λ (m : ℕ). NodeAt b (wordsOf b) lo m s o e) (sym next) g) in
+      let f = child.node-leaf (wordsOf plain b) (q .known .rises) b s lo o e lone (subst (λ (m : ℕ). NodeAt b (wordsOf plain b) lo m s o e) (sym next) g) in
       n (ap (λ (r : Node). r .depth) (f .told) ∙ ap suc (sym size), ap (λ (r : Node). r .nodes) (f .told))
 
 -- ---- several names
@@ -65,10 +65,10 @@ module _ (b : Bytes) (o a : ℕ) (q : NodeAsk b o a) where
 
     pub node-says : (r : ℕ) → RowSays b (o + 10) (o + 10 * m) lo n d r → NodeSays b o r
     node-says r says = record {
-      no-way = λ z g. row .no-way z ((child.node-split (wordsOf b) (q .ask .known .rises) b (number b o) first (first + names) o end two few g) .group);
+      no-way = λ z g. row .no-way z ((child.node-split (wordsOf plain b) (q .ask .known .rises) b (number b o) first (first + names) o end two few g) .group);
       it-does = λ z.
           let s = row .it-does z in (
-            child.node-join (wordsOf b) (q .ask .known .rises) b (number b o) first (first + names) o end two few (record {
+            child.node-join (wordsOf plain b) (q .ask .known .rises) b (number b o) first (first + names) o end two few (record {
               room = q .room;
               symbol = refl;
               first = refl;
@@ -92,7 +92,7 @@ module _ (b : Bytes) (o a : ℕ) (q : NodeAsk b o a) where
         two : suc first < first + names
         two = omega (arith, q .several)
 
-        few : first + names ≤ length (wordsOf b)
+        few : first + names ≤ length (wordsOf plain b)
         few = omega (arith, q .ask .within, words-count b)
 
         row : RowSays b (o + 10) end first names (number b (o + 2)) r

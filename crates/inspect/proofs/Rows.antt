@@ -12,10 +12,10 @@ use mathlib.Core.Bool.{Bool, false, not, true}
 use lib.ListN.{length, getD}
 use Rattle.words.specs.Words.{Bytes, at, nth, plain, shared, word}
 use Rattle.words.proofs.Words.{false≠true}
-use Rattle.format.specs.Book.{nodeSize, number, trailerSize}
+use Rattle.format.specs.Book.{nodeSize, number, trailerSize, namesOf, wordsOf}
 use Rattle.format.specs.Nodes.{deep}
 use Rattle.format.specs.Records.{longest}
-use Rattle.streams.specs.Streams.{Here, InBlocks, Known, entryEnd, lengthAt, namesOf, offsetFrom, restAt, wordsOf}
+use Rattle.streams.specs.Streams.{Here, InBlocks, Known, entryEnd, lengthAt, offsetFrom, restAt}
 use Rattle.streams.proofs.Here.{here-fits, here-next, here-rises, here-symbol, name-short, words-count}
 use Rattle.standing.specs.Stands.{Child, GroupAt, NodeAt}
 use Rattle.standing.proofs.Walk.{Ahead, Walk, deep-short, group-end, node-head, walk-done, walk-more, walk-next, walk-start}
@@ -31,7 +31,7 @@ pub record Rows (b : Bytes) (lo₀ n d o₀ e o lo a : ℕ) : Type 0 where
   pub several : 2 ≤ n
   pub within : lo₀ + n ≤ length (namesOf b)
   pub upto : lo < lo₀ + n
-  pub walk : Walk b (wordsOf b) lo₀ (lo₀ + n) d o₀ lo o
+  pub walk : Walk b (wordsOf plain b) lo₀ (lo₀ + n) d o₀ lo o
   pub here : Here b lo a
   pub low : getD b a 0 ≤ d
   pub some : lo < length (namesOf b)
@@ -43,7 +43,7 @@ pub record Turn (b : Bytes) (lo₀ n d o₀ e o lo a x m c : ℕ) : Type 0 where
   pub some : 1 ≤ x
   pub proper : x < n
   pub upto : lo + x ≤ lo₀ + n
-  pub child : Child b (wordsOf b) d lo (lo + x) o m
+  pub child : Child b (wordsOf plain b) d lo (lo + x) o m
   pub here : Here b (pred (lo + x)) c
   pub fits : entryEnd b c ≤ length b
 
@@ -65,7 +65,7 @@ module _ (b : Bytes) (lo₀ n d o₀ e : ℕ) where
     several = q .several;
     within = q .ask .within;
     upto = omega (arith, q .several);
-    walk = walk-start b (wordsOf b) (q .ask .known .rises) lo₀ (lo₀ + n) d o₀ (omega (arith, q .several)) (omega (arith, q .ask .within, words-count b));
+    walk = walk-start b (wordsOf plain b) (q .ask .known .rises) lo₀ (lo₀ + n) d o₀ (omega (arith, q .several)) (omega (arith, q .ask .within, words-count b));
     here = q .ask .here;
     low = q .low;
     some = omega (arith, q .ask .some, q .ask .within);
@@ -80,11 +80,11 @@ module _ (b : Bytes) (lo₀ n d o₀ e : ℕ) where
     two : Rows b lo₀ n d o₀ e o lo a → suc lo₀ < lo₀ + n
     two r = omega (arith, r .several)
 
-    fit : Rows b lo₀ n d o₀ e o lo a → lo₀ + n ≤ length (wordsOf b)
+    fit : Rows b lo₀ n d o₀ e o lo a → lo₀ + n ≤ length (wordsOf plain b)
     fit r = omega (arith, r .within, words-count b)
 
-    ahead : Rows b lo₀ n d o₀ e o lo a → GroupAt b (wordsOf b) lo₀ (lo₀ + n) d o₀ e → Ahead b (wordsOf b) lo₀ (lo₀ + n) d lo o e
-    ahead r g = walk-next b (wordsOf b) (r .known .rises) lo₀ (lo₀ + n) d o₀ (two r) (fit r) lo o (r .walk) e g
+    ahead : Rows b lo₀ n d o₀ e o lo a → GroupAt b (wordsOf plain b) lo₀ (lo₀ + n) d o₀ e → Ahead b (wordsOf plain b) lo₀ (lo₀ + n) d lo o e
+    ahead r g = walk-next b (wordsOf plain b) (r .known .rises) lo₀ (lo₀ + n) d o₀ (two r) (fit r) lo o (r .walk) e g
 
     -- ---- up to the child
 
@@ -95,7 +95,7 @@ module _ (b : Bytes) (lo₀ n d o₀ e : ℕ) where
       pub rows-room : o < e → o + nodeSize ≤ length b
       rows-room h = omega (arith, r .long)
 
-      symbol-is : (s : ℕ) → s ≡ at (word plain (restAt b a)) (d - getD b a 0) → s ≡ at (nth (wordsOf b) lo) d
+      symbol-is : (s : ℕ) → s ≡ at (word plain (restAt b a)) (d - getD b a 0) → s ≡ at (nth (wordsOf plain b) lo) d
       symbol-is s se = here-symbol b lo a (r .known) (r .here) (r .some) d s (r .low) se
 
       pub rows-other : (v : Bool) → LedSays b o lo d a v → not v ≡ true → Refused
@@ -118,8 +118,8 @@ module _ (b : Bytes) (lo₀ n d o₀ e : ℕ) where
           rows-no-leaf false never h = says-no (λ g.
               let k = ahead r g in
               let z : lo + number b (o + 6) ≡ lo + 1 = omega arith in
-              leaf-not b lo (at (nth (wordsOf b) lo) d) o a lone never (o + 10 * number b (o + 8))
-              (subst (λ (m : ℕ). NodeAt b (wordsOf b) lo m (at (nth (wordsOf b) lo) d) o (o + 10 * number b (o + 8))) z (k .node)))
+              leaf-not b lo (at (nth (wordsOf plain b) lo) d) o a lone never (o + 10 * number b (o + 8))
+              (subst (λ (m : ℕ). NodeAt b (wordsOf plain b) lo m (at (nth (wordsOf plain b) lo) d) o (o + 10 * number b (o + 8))) z (k .node)))
 
           pub rows-leaf : o < e → (v : Bool) → LeafSays b o (lengthAt b a) v → not v ≡ false → Turn b lo₀ n d o₀ e o lo a x (o + 10) a
           rows-leaf room false never h = absurd (false≠true (sym h))
@@ -134,8 +134,8 @@ module _ (b : Bytes) (lo₀ n d o₀ e : ℕ) where
                 upto = omega (arith, r .upto);
                 child = record {
                   some = omega arith;
-                  node = subst (λ (m : ℕ). NodeAt b (wordsOf b) lo m (at (nth (wordsOf b) lo) d) o (o + 10)) z
-                      (leaf-stands b lo (at (nth (wordsOf b) lo) d) o a lone (rows-room room) (symbol-is (number b o) (led .0)) (led .1) (omega arith) sure);
+                  node = subst (λ (m : ℕ). NodeAt b (wordsOf plain b) lo m (at (nth (wordsOf plain b) lo) d) o (o + 10)) z
+                      (leaf-stands b lo (at (nth (wordsOf plain b) lo) d) o a lone (rows-room room) (symbol-is (number b o) (led .0)) (led .1) (omega arith) sure);
                   below = λ q. absurd (lt-irrefl lo (omega arith));
                 };
                 here = subst (λ (i : ℕ). Here b i a) p (r .here);
@@ -145,12 +145,12 @@ module _ (b : Bytes) (lo₀ n d o₀ e : ℕ) where
         -- ---- several names
 
         -- several words share less than any name can have
-        shallow : Ahead b (wordsOf b) lo₀ (lo₀ + n) d lo o e → 1 < number b (o + 6) → number b (o + 2) < longest
+        shallow : Ahead b (wordsOf plain b) lo₀ (lo₀ + n) d lo o e → 1 < number b (o + 6) → number b (o + 2) < longest
         shallow k many =
-            let end : lo + number b (o + 6) ≤ length (wordsOf b) = omega (arith, fit r, k .upto, r .upto) in
-            let hd = node-head b (wordsOf b) (r .known .rises) _ lo (lo + number b (o + 6)) o (o + 10 * number b (o + 8)) (omega (arith, k .some)) end (k .node) in
-            let short : length (nth (wordsOf b) (pred (lo + number b (o + 6)))) ≤ longest = name-short b (pred (lo + number b (o + 6))) (r .known) (omega (arith, end, words-count b)) in
-            omega (arith, hd .depth (omega arith), deep-short (wordsOf b) (r .known .rises) lo (lo + number b (o + 6)) longest (omega arith) end short)
+            let end : lo + number b (o + 6) ≤ length (wordsOf plain b) = omega (arith, fit r, k .upto, r .upto) in
+            let hd = node-head b (wordsOf plain b) (r .known .rises) _ lo (lo + number b (o + 6)) o (o + 10 * number b (o + 8)) (omega (arith, k .some)) end (k .node) in
+            let short : length (nth (wordsOf plain b) (pred (lo + number b (o + 6)))) ≤ longest = name-short b (pred (lo + number b (o + 6))) (r .known) (omega (arith, end, words-count b)) in
+            omega (arith, hd .depth (omega arith), deep-short (wordsOf plain b) (r .known .rises) lo (lo + number b (o + 6)) longest (omega arith) end short)
 
         pub rows-no-fork : (x ≡ 1 → ⊥) → (v : Bool) → ForkSays b o e n d (lo₀ + n - lo) v → not v ≡ true → Refused
         rows-no-fork more true k h = absurd (false≠true h)
@@ -187,9 +187,9 @@ module _ (b : Bytes) (lo₀ n d o₀ e : ℕ) where
             rows-fork room nz m me =
                 let s = says .it-does nz in
                 let up : lo + x ≤ lo₀ + n = omega (arith, f .upto, r .upto) in
-                let node : NodeAt b (wordsOf b) lo (lo + number b (o + 6)) (number b o) o (o + 10 * number b (o + 8)) =
-                subst (λ (i : ℕ). NodeAt b (wordsOf b) i (i + number b (o + 6)) (number b o) o (o + 10 * number b (o + 8))) (led .1) (s .0) in
-                let hd = node-head b (wordsOf b) (r .known .rises) (number b o) lo (lo + number b (o + 6)) o (o + 10 * number b (o + 8)) (omega (arith, f .several)) (omega (arith, fit r)) node in
+                let node : NodeAt b (wordsOf plain b) lo (lo + number b (o + 6)) (number b o) o (o + 10 * number b (o + 8)) =
+                subst (λ (i : ℕ). NodeAt b (wordsOf plain b) i (i + number b (o + 6)) (number b o) o (o + 10 * number b (o + 8))) (led .1) (s .0) in
+                let hd = node-head b (wordsOf plain b) (r .known .rises) (number b o) lo (lo + number b (o + 6)) o (o + 10 * number b (o + 8)) (omega (arith, f .several)) (omega (arith, fit r)) node in
                 let last : Here b (pred (lo + x)) c = subst (λ (i : ℕ). Here b (pred (i + x)) c) (led .1) (rw xe (s .1)) in
                 record {
                   rows = r;
@@ -199,8 +199,8 @@ module _ (b : Bytes) (lo₀ n d o₀ e : ℕ) where
                   upto = up;
                   child = record {
                     some = omega (arith, f .several);
-                    node = rw (xe, me) (subst (λ (t : ℕ). NodeAt b (wordsOf b) lo (lo + number b (o + 6)) t o (o + 10 * number b (o + 8))) (symbol-is (number b o) (led .0)) node);
-                    below = λ q. subst (λ (y : ℕ). d < deep (wordsOf b) lo (lo + y)) (sym xe) (omega (arith, hd .depth (omega arith), f .below));
+                    node = rw (xe, me) (subst (λ (t : ℕ). NodeAt b (wordsOf plain b) lo (lo + number b (o + 6)) t o (o + 10 * number b (o + 8))) (symbol-is (number b o) (led .0)) node);
+                    below = λ q. subst (λ (y : ℕ). d < deep (wordsOf plain b) lo (lo + y)) (sym xe) (omega (arith, hd .depth (omega arith), f .below));
                   };
                   here = last;
                   fits = here-fits b (pred (lo + x)) c (r .known) last (omega (arith, f .several, r .within));
@@ -212,20 +212,20 @@ module _ (b : Bytes) (lo₀ n d o₀ e : ℕ) where
       r : Rows b lo₀ n d o₀ e o lo a
       r = p .rows
 
-      stood : lo + x ≡ lo₀ + n → GroupAt b (wordsOf b) lo₀ (lo₀ + n) d o₀ m
+      stood : lo + x ≡ lo₀ + n → GroupAt b (wordsOf plain b) lo₀ (lo₀ + n) d o₀ m
       stood q =
-          walk-done b (wordsOf b) (r .known .rises) lo₀ (lo₀ + n) d o₀ (two r) (fit r) lo o (r .walk) m (subst (λ (y : ℕ). Child b (wordsOf b) d lo y o m) q (p .child))
+          walk-done b (wordsOf plain b) (r .known .rises) lo₀ (lo₀ + n) d o₀ (two r) (fit r) lo o (r .walk) m (subst (λ (y : ℕ). Child b (wordsOf plain b) d lo y o m) q (p .child))
           (omega (arith, p .proper, r .upto))
 
       pub rows-apart : lo + x ≡ lo₀ + n → (m ≡ e → ⊥) → Refused
-      rows-apart q h = says-no (λ g. h (group-end b (wordsOf b) lo₀ (lo₀ + n) d o₀ m e (stood q) g))
+      rows-apart q h = says-no (λ g. h (group-end b (wordsOf plain b) lo₀ (lo₀ + n) d o₀ m e (stood q) g))
 
       -- the last one of several names stands behind the first entry
       pub rows-done : lo + x ≡ lo₀ + n → m ≡ e → RowSays b o₀ e lo₀ n d c
       unfolding offsetFrom
       rows-done q h =
           let here : Here b (pred (lo₀ + n)) c = subst (λ (y : ℕ). Here b (pred y) c) q (p .here) in
-          says-yes (subst (GroupAt b (wordsOf b) lo₀ (lo₀ + n) d o₀) h (stood q)) here
+          says-yes (subst (GroupAt b (wordsOf plain b) lo₀ (lo₀ + n) d o₀) h (stood q)) here
           (λ z. lt-irrefl 0 (omega (arith, here-rises b 0 (pred (lo₀ + n)) (omega (arith, r .several)), here)))
 
       module _ (more : lo + x ≡ lo₀ + n → ⊥) where
@@ -247,10 +247,10 @@ module _ (b : Bytes) (lo₀ n d o₀ e : ℕ) where
           rows-meets = record { known = r .known; long = omega (arith, r .long); blocks = r .blocks; some = omega (arith, p .some); within = inside; here = moved }
 
           -- u is what the next name shares with the one before
-          module _ (u : ℕ) (ue : u ≡ shared (nth (wordsOf b) (pred (lo + x))) (nth (wordsOf b) (lo + x))) where
+          module _ (u : ℕ) (ue : u ≡ shared (nth (wordsOf plain b) (pred (lo + x))) (nth (wordsOf plain b) (lo + x))) where
             pub rows-parted : (u ≡ d → ⊥) → Refused
             rows-parted h = says-no (λ g.
-                h (ue ∙ subst (λ (y : ℕ). shared (nth (wordsOf b) (pred (lo + y))) (nth (wordsOf b) (lo + y)) ≡ d) (sym (p .told)) ((ahead r g) .edge (omega (arith, p .told, fewer)))))
+                h (ue ∙ subst (λ (y : ℕ). shared (nth (wordsOf plain b) (pred (lo + y))) (nth (wordsOf plain b) (lo + y)) ≡ d) (sym (p .told)) ((ahead r g) .edge (omega (arith, p .told, fewer)))))
 
             pub rows-more : u ≡ d → Rows b lo₀ n d o₀ e m (lo + x) l
             rows-more h = record {
@@ -260,7 +260,7 @@ module _ (b : Bytes) (lo₀ n d o₀ e : ℕ) where
               several = r .several;
               within = r .within;
               upto = fewer;
-              walk = walk-more b (wordsOf b) (r .known .rises) lo₀ (lo₀ + n) d o₀ (two r) (fit r) lo o (r .walk) (lo + x) m (p .child) fewer (sym ue ∙ h);
+              walk = walk-more b (wordsOf plain b) (r .known .rises) lo₀ (lo₀ + n) d o₀ (two r) (fit r) lo o (r .walk) (lo + x) m (p .child) fewer (sym ue ∙ h);
               here = moved;
               low = low;
               some = inside;

@@ -17,14 +17,14 @@ use borrow.Author.Tests.{eqb-true, eqb-false, eq-eqb}
 use Rattle.words.specs.Words.{All, Bytes, InBytes, Words, cons, nil, plain, same, span, word}
 use Rattle.words.proofs.Lists.{all-append, all-right}
 use Rattle.words.proofs.Words.{false≠true, plain-lawful, same-refl, same-true}
-use Rattle.format.specs.Book.{allFields, nodePart, number, numbers}
+use Rattle.format.specs.Book.{allFields, nodePart, number, numbers, namesOf, wordsOf}
 use Rattle.format.specs.Nodes.{Node, nodeTable, table, tableWithin}
 use Rattle.format.specs.Records.{longest}
 use Rattle.format.proofs.Groups.{table-root}
 use Rattle.format.proofs.Numbers.{bytes-all, take-bytes, word-high}
 use Rattle.format.proofs.Small.{Modest, table-small}
 use Rattle.numbers.proofs.Parts.{Held, held-bytes}
-use Rattle.streams.specs.Streams.{Here, Stream, done, entry, lengthAt, namesOf, offsetFrom, wordsOf}
+use Rattle.streams.specs.Streams.{Here, Stream, done, entry, lengthAt, offsetFrom}
 use Rattle.streams.proofs.Here.{first-low, words-count}
 use Rattle.standing.specs.Stands.{NodeAt, Stands}
 use Rattle.standing.proofs.Bytes.{bytes-stand, stands-bytes}
@@ -102,25 +102,25 @@ module _ (b : Bytes) (start end n : ℕ) (held : Held b) (a : TableAsk b start e
   within : end ≤ length b
   within = omega (arith, a .long)
 
-  small : All (λ n. n < 65536) (allFields (table (wordsOf b)))
+  small : All (λ n. n < 65536) (allFields (table (wordsOf plain b)))
   unfolding wordsOf
-  small = table-small (wordsOf b) (a .known .rises) (stream-modest (bytes-all b bytes) nil (a .known .stream)) (omega (arith, words-count b, a .known .few))
+  small = table-small (wordsOf plain b) (a .known .rises) (stream-modest (bytes-all b bytes) nil (a .known .stream)) (omega (arith, words-count b, a .known .few))
 
-  root-is : nodeTable 0 0 (span (wordsOf b) 0 (0 + n)) ≡ table (wordsOf b)
+  root-is : nodeTable 0 0 (span (wordsOf plain b) 0 (0 + n)) ≡ table (wordsOf plain b)
   root-is =
-      ap (nodeTable 0 0) (let k : 0 + n ≡ length (wordsOf b) = omega (arith, a .count, words-count b) in ap (λ (j : ℕ). take j (wordsOf b)) k ∙ take-length (wordsOf b)) ∙ sym (table-root (wordsOf b))
+      ap (nodeTable 0 0) (let k : 0 + n ≡ length (wordsOf plain b) = omega (arith, a .count, words-count b) in ap (λ (j : ℕ). take j (wordsOf plain b)) k ∙ take-length (wordsOf plain b)) ∙ sym (table-root (wordsOf plain b))
 
-  node-of : nodePart (table (wordsOf b)) ≡ slice start end b → NodeAt b (wordsOf b) 0 (0 + n) 0 start end
-  node-of q = record { stands = subst (λ (rs : List Node). Stands b start rs end) (sym root-is) (bytes-stand b bytes (table (wordsOf b)) start end (a .order) within small (sym q)) }
+  node-of : nodePart (table (wordsOf plain b)) ≡ slice start end b → NodeAt b (wordsOf plain b) 0 (0 + n) 0 start end
+  node-of q = record { stands = subst (λ (rs : List Node). Stands b start rs end) (sym root-is) (bytes-stand b bytes (table (wordsOf plain b)) start end (a .order) within small (sym q)) }
 
-  pub table-not : (NodeAt b (wordsOf b) 0 (0 + n) 0 start end → ⊥) → false ≡ isTable b start end
+  pub table-not : (NodeAt b (wordsOf plain b) 0 (0 + n) 0 start end → ⊥) → false ≡ isTable b start end
   unfolding isTable
   table-not h = said _ _ false (λ e. absurd (false≠true e)) (λ e. absurd (h (node-of e)))
 
-  table-is : NodeAt b (wordsOf b) 0 (0 + n) 0 start end → true ≡ isTable b start end
+  table-is : NodeAt b (wordsOf plain b) 0 (0 + n) 0 start end → true ≡ isTable b start end
   unfolding isTable
   table-is g =
-      said _ _ true (λ t. sym (stands-bytes b bytes (table (wordsOf b)) start end (omega (arith, a .order, within))
+      said _ _ true (λ t. sym (stands-bytes b bytes (table (wordsOf plain b)) start end (omega (arith, a .order, within))
       (subst (λ (rs : List Node). Stands b start rs end) root-is (g .stands)))) (λ q. refl)
 
   pub table-nothing : n ≡ 0 → eqb start end ≡ isTable b start end
@@ -129,8 +129,8 @@ module _ (b : Bytes) (start end n : ℕ) (held : Held b) (a : TableAsk b start e
       (λ t. none ∙ sym (subst (λ (x : ℕ). slice x end b ≡ []) (sym (eqb-true start end t)) (slice-empty end b)))
       (λ q. eq-eqb start end (omega (arith, ap length (sym none ∙ q), length-slice start end b within, a .order)))
     where
-      none : nodePart (table (wordsOf b)) ≡ []
-      none = ap (λ (vs : Words). nodePart (table vs)) (nil-of (wordsOf b) (omega (arith, words-count b, a .count))) ∙ no-nodes
+      none : nodePart (table (wordsOf plain b)) ≡ []
+      none = ap (λ (vs : Words). nodePart (table vs)) (nil-of (wordsOf plain b) (omega (arith, words-count b, a .count))) ∙ no-nodes
 
   -- ---- some names
 
@@ -138,8 +138,8 @@ module _ (b : Bytes) (start end n : ℕ) (held : Held b) (a : TableAsk b start e
     some : 0 < length (namesOf b)
     some = table-some b start end n a z
 
-    head : NodeAt b (wordsOf b) 0 (0 + n) 0 start end → Head b (wordsOf b) 0 0 (0 + n) start end
-    head g = node-head b (wordsOf b) (a .known .rises) 0 0 (0 + n) start end (omega (arith, some, a .count)) (omega (arith, words-count b, a .count)) g
+    head : NodeAt b (wordsOf plain b) 0 (0 + n) 0 start end → Head b (wordsOf plain b) 0 0 (0 + n) start end
+    head g = node-head b (wordsOf plain b) (a .known .rises) 0 0 (0 + n) start end (omega (arith, some, a .count)) (omega (arith, words-count b, a .count)) g
 
     pub table-short : end - start < 10 → false ≡ isTable b start end
     table-short h = table-not (λ g. lt-irrefl end (omega (arith, (head g) .past, a .order)))
@@ -165,20 +165,20 @@ module _ (b : Bytes) (start end n : ℕ) (held : Held b) (a : TableAsk b start e
       pub table-leaf : n ≡ 1 → 10 ≤ end - start → (v : Bool) → LeafSays b start (lengthAt b 0) v → v ≡ isTable b start end
       table-leaf one room v says = go v says
         where
-          one-name : (e : ℕ) → NodeAt b (wordsOf b) 0 (0 + n) 0 start e → NodeAt b (wordsOf b) 0 (0 + 1) 0 start e
-          one-name e g = subst (λ (k : ℕ). NodeAt b (wordsOf b) 0 (0 + k) 0 start e) one g
+          one-name : (e : ℕ) → NodeAt b (wordsOf plain b) 0 (0 + n) 0 start e → NodeAt b (wordsOf plain b) 0 (0 + 1) 0 start e
+          one-name e g = subst (λ (k : ℕ). NodeAt b (wordsOf plain b) 0 (0 + k) 0 start e) one g
 
           go : (t : Bool) → LeafSays b start (lengthAt b 0) t → t ≡ isTable b start end
           go false never = table-not (λ g. leaf-not b 0 0 start 0 (asked b start end n a z 0 1 refl (sym one)) never end (one-name end g))
           go true sure =
               let e : start + 10 ≡ end = omega (arith, sure .1) in
-              table-is (subst (λ (k : ℕ). NodeAt b (wordsOf b) 0 (0 + k) 0 start end) (sym one)
-              (subst (NodeAt b (wordsOf b) 0 (0 + 1) 0 start) e
+              table-is (subst (λ (k : ℕ). NodeAt b (wordsOf plain b) 0 (0 + k) 0 start end) (sym one)
+              (subst (NodeAt b (wordsOf plain b) 0 (0 + 1) 0 start) e
               (leaf-stands b 0 0 start 0 (asked b start end n a z 0 1 refl (sym one)) (omega (arith, a .long, a .order)) (sym se ∙ sz) (sym fe ∙ fz) (sym xe ∙ xn ∙ one) sure)))
 
       -- several names
-      root : NodeAt b (wordsOf b) 0 (0 + n) 0 start end
-          ≡ NodeAt b (wordsOf b) (number b (start + 4)) (number b (start + 4) + number b (start + 6)) (number b start) start (start + 10 * number b (start + 8))
+      root : NodeAt b (wordsOf plain b) 0 (0 + n) 0 start end
+          ≡ NodeAt b (wordsOf plain b) (number b (start + 4)) (number b (start + 4) + number b (start + 6)) (number b start) start (start + 10 * number b (start + 8))
       root = rw (sym fe ∙ fz, sym xe ∙ xn, sym se ∙ sz, ← me, ends) refl
 
       pub table-said : (r : ℕ) → NodeSays b start r → not (eqb r 0) ≡ isTable b start end

@@ -14,10 +14,10 @@ use mathlib.Core.Bool.{Bool, false, true}
 use lib.ListN.{getD, length}
 use lib.Seq.{slice}
 use Rattle.words.specs.Words.{Bytes, at, plain, same, word}
-use Rattle.format.specs.Book.{nodePart, nodeSize, number, trailerSize}
+use Rattle.format.specs.Book.{nodePart, nodeSize, number, trailerSize, namesOf, wordsOf}
 use Rattle.format.specs.Nodes.{table}
 use Rattle.format.specs.Records.{longest}
-use Rattle.streams.specs.Streams.{Here, InBlocks, Known, namesOf, restAt, wordsOf}
+use Rattle.streams.specs.Streams.{Here, InBlocks, Known, restAt}
 use Rattle.standing.specs.Stands.{GroupAt, NodeAt}
 
 -- ---- a record
@@ -85,12 +85,12 @@ pub record Says (Stands : Type 0) (b : Bytes) (i r : ℕ) : Type 0 where
 -- as far as the record says: its first name, its number of names, its symbol, its number of nodes
 abbrev pub NodeSays : Bytes → ℕ → ℕ → Type 0
 NodeSays b o r =
-    Says (NodeAt b (wordsOf b) (number b (o + 4)) (number b (o + 4) + number b (o + 6)) (number b o) o (o + nodeSize * number b (o + 8)))
+    Says (NodeAt b (wordsOf plain b) (number b (o + 4)) (number b (o + 4) + number b (o + 6)) (number b o) o (o + nodeSize * number b (o + 8)))
     b (pred (number b (o + 4) + number b (o + 6))) r
 
 -- from o to e, of a node of depth d
 abbrev pub RowSays : Bytes → ℕ → ℕ → ℕ → ℕ → ℕ → ℕ → Type 0
-RowSays b o e lo n d r = Says (GroupAt b (wordsOf b) lo (lo + n) d o e) b (pred (lo + n)) r
+RowSays b o e lo n d r = Says (GroupAt b (wordsOf plain b) lo (lo + n) d o e) b (pred (lo + n)) r
 
 -- ---- the whole table
 
@@ -103,4 +103,4 @@ pub record TableAsk (b : Bytes) (start end n : ℕ) : Type 0 where
 
 -- the names are those that the entries are read as
 unfoldable pub isTable : Bytes → ℕ → ℕ → Bool
-isTable b start end = same (nodePart (table (wordsOf b))) (slice start end b)
+isTable b start end = same (nodePart (table (wordsOf plain b))) (slice start end b)

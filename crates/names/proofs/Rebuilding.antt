@@ -15,11 +15,10 @@ use lib.ListN.{drop, getD, length, length-drop, length-set, set, take}
 use lib.Seq.{getD-drop, length-take-le, paste, paste-suc, paste-zero, take-all}
 use borrow.Author.Tests.{le-leb, lt-leb}
 use Rattle.words.specs.Words.{Bytes, plain}
-use Rattle.format.specs.Book.{number, opened}
+use Rattle.format.specs.Book.{number, opened, namesOf}
 use Rattle.format.specs.Outcomes.{checkOf, over}
 use Rattle.numbers.proofs.Parts.{Held}
 use Rattle.streams.specs.Runs.{Rest}
-use Rattle.streams.specs.Streams.{namesOf}
 use Rattle.streams.proofs.Rereading.{block-from}
 use Rattle.streams.proofs.Walks.{has-names}
 use Rattle.entries.specs.Judging.{NameIs, ReadAsk}

@@ -10,7 +10,7 @@ use lib.ListN.{length, take}
 use Rattle.words.specs.Words.{Bytes, pick}
 use Rattle.format.specs.Records.{longest}
 use Rattle.format.specs.Outcomes.{over}
-use Rattle.streams.specs.Streams.{namesOf}
+use Rattle.format.specs.Book.{namesOf}
 use Rattle.accept.specs.Parts.{Parts, told}
 
 pub record PositionAsk (b : Bytes) (k position : ℕ) : Type 0 where

@@ -4,7 +4,7 @@ ghost use mathlib.Core.List.{[]};
 ghost use Prim.Native.Nat.{_/_, _≤_};
 ghost use lib.ListN.{getD, length};
 ghost use Rattle.format.specs.Outcomes.{over};
-ghost use Rattle.streams.specs.Streams.{namesOf};
+ghost use Rattle.format.specs.Book.{namesOf};
 ghost use Rattle.names.specs.Names.{Named, PositionAsk, Put};
 
 // The block of a position. k is never 0; that it is asked leaves no trap in the compiled code, in front of which every array that is used

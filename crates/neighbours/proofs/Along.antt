@@ -15,7 +15,8 @@ use borrow.Author.Tests.{le-ltb, lt-ltb}
 use Rattle.words.specs.Words.{Bytes, less, nth, plain, shared}
 use Rattle.words.proofs.Rising.{nth-less}
 use Rattle.words.proofs.Words.{Sides, apart, before, behind, less-short, level, plain-injective, shared-append, shared-comm, shared-front, shared-trans, shared-two, shared-word, sides}
-use Rattle.streams.specs.Streams.{Here, Known, entryEnd, namesOf, offsetAt, prevOf, restAt, wordsOf}
+use Rattle.format.specs.Book.{namesOf, wordsOf}
+use Rattle.streams.specs.Streams.{Here, Known, entryEnd, offsetAt, prevOf, restAt}
 use Rattle.streams.proofs.Here.{comes, here-fits, here-next, here-only, here-rises, words-count, words-nth}
 use Rattle.neighbours.specs.Neighbours.{AlongAsk, AlongSays, NextAsk, RestAsk, sharedNext}
 
@@ -110,11 +111,11 @@ module _ (b : Bytes) (a at x : ℕ) (w : Along b a at x) where
     -- it is below the name behind the block, so it parts from it before that ends
     parts : shared mine name < length name
     parts =
-        let l : less (nth (wordsOf b) (w .j)) (nth (wordsOf b) (w .i)) ≡ true =
-        nth-less (wordsOf b) (w .j) (w .i) (w .known .rises) (short h) (omega (arith, words-count b, w .within)) in
+        let l : less (nth (wordsOf plain b) (w .j)) (nth (wordsOf plain b) (w .i)) ≡ true =
+        nth-less (wordsOf plain b) (w .j) (w .i) (w .known .rises) (short h) (omega (arith, words-count b, w .within)) in
         omega (
           arith,
-          less-short (nth (wordsOf b) (w .j)) (nth (wordsOf b) (w .i)) l,
+          less-short (nth (wordsOf plain b) (w .j)) (nth (wordsOf plain b) (w .i)) l,
           ap₂ (λ (u v : List ℕ). shared u v) (words-nth b (w .j)) (words-nth b (w .i)),
           shared-word plain plain-injective mine name,
           ap length (words-nth b (w .i)),

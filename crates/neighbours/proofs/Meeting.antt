@@ -14,14 +14,14 @@ use mir.Val.{Fits}
 use mir.Syntax.{w64}
 use Rattle.words.specs.Words.{Bytes, nth, plain, shared}
 use Rattle.words.proofs.Words.{apart, plain-injective, shared-word}
-use Rattle.format.specs.Book.{number}
-use Rattle.streams.specs.Streams.{namesOf, offsetAt, wordsOf}
+use Rattle.format.specs.Book.{number, namesOf, wordsOf}
+use Rattle.streams.specs.Streams.{offsetAt}
 use Rattle.streams.proofs.Here.{here-fits, words-nth}
 use Rattle.neighbours.specs.Neighbours.{AlongAsk, AlongSays, MeetAsk, trailerAt}
 
 module _ (b : Bytes) (a i : ℕ) (m : MeetAsk b a i) where
   abbrev Met : ℕ → Type 0
-  Met r = r ≡ shared (nth (wordsOf b) (pred i)) (nth (wordsOf b) i)
+  Met r = r ≡ shared (nth (wordsOf plain b) (pred i)) (nth (wordsOf plain b) i)
 
   -- in bytes
   met : (r : ℕ) → r ≡ shared (getD (namesOf b) (pred i) []) (getD (namesOf b) i []) → Met r
@@ -74,10 +74,10 @@ module _ (b : Bytes) (a i : ℕ) (m : MeetAsk b a i) where
     meet-stored h = count-first (number b (trailerAt b + 2)) refl (i % number b (trailerAt b + 2)) refl h
 
   -- a stored count is never more
-  pub meet-low : getD b a 0 ≤ shared (nth (wordsOf b) (pred i)) (nth (wordsOf b) i)
+  pub meet-low : getD b a 0 ≤ shared (nth (wordsOf plain b) (pred i)) (nth (wordsOf plain b) i)
   meet-low = go (apart 0 (getD b a 0))
     where
-      go : (0 < getD b a 0) ⊎ (getD b a 0 ≤ 0) → getD b a 0 ≤ shared (nth (wordsOf b) (pred i)) (nth (wordsOf b) i)
+      go : (0 < getD b a 0) ⊎ (getD b a 0 ≤ 0) → getD b a 0 ≤ shared (nth (wordsOf plain b) (pred i)) (nth (wordsOf plain b) i)
       go (inl h) = omega (arith, meet-stored (getD b a 0) refl h)
       go (inr z) = omega arith
 

@@ -10,8 +10,8 @@ use mathlib.Core.List.{[]}
 use lib.Dec.{ltb}
 use lib.ListN.{drop, getD, length}
 use Rattle.words.specs.Words.{Bytes, pick, shared}
-use Rattle.format.specs.Book.{number, trailerSize}
-use Rattle.streams.specs.Streams.{Here, InBlocks, Known, entryEnd, namesOf, restAt}
+use Rattle.format.specs.Book.{number, trailerSize, namesOf}
+use Rattle.streams.specs.Streams.{Here, InBlocks, Known, entryEnd, restAt}
 
 pub record RestAsk (b : Bytes) (at a c : ℕ) : Type 0 where
   pub here : entryEnd b at ≤ length b

@@ -3,8 +3,9 @@
 ghost use mathlib.Core.Path.{_≡_};
 ghost use Prim.Native.Nat.{pred, _≤_};
 ghost use lib.ListN.{drop, length};
-ghost use Rattle.words.specs.Words.{nth, shared};
-ghost use Rattle.streams.specs.Streams.{entryEnd, restAt, wordsOf};
+ghost use Rattle.words.specs.Words.{nth, plain, shared};
+ghost use Rattle.format.specs.Book.{wordsOf};
+ghost use Rattle.streams.specs.Streams.{entryEnd, restAt};
 ghost use Rattle.neighbours.specs.Neighbours.{AlongAsk, AlongSays, MeetAsk, NextAsk, RestAsk, sharedNext};
 
 // Where the entry after the one at an offset stands.
@@ -65,7 +66,7 @@ fn count_along(book: &[u8], start: usize, a: usize) -> usize
 // is a block's first.
 pub fn meet(book: &[u8], a: usize, i: usize) -> usize
     requires { ⌜ MeetAsk (now book) a i ⌝ }
-    ensures { λ r. ⌜ r ≡ shared (nth (wordsOf (now (book .entry))) (pred i)) (nth (wordsOf (now (book .entry))) i) ⌝ }
+    ensures { λ r. ⌜ r ≡ shared (nth (wordsOf plain (now (book .entry))) (pred i)) (nth (wordsOf plain (now (book .entry))) i) ⌝ }
 {
     let c = numbers::wide(book[a]);
     if 0 < c {

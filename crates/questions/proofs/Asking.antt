@@ -8,19 +8,18 @@ use Prim.Native.Nat.{ℕ, zero, suc, _<_, _≤_}
 use native.Mathlib.Nat.{lt-irrefl}
 use native.Mathlib.Omega.{arith}
 use mathlib.Core.Path.{_≡_, _∙_, ap, refl, sym}
-use mathlib.Core.List.{List, [], _∷_, map}
+use mathlib.Core.List.{List, [], _∷_}
 use lib.ListN.{length}
 use Rattle.words.specs.Words.{Bytes, InBytes, plain, word}
 use Rattle.words.proofs.Words.{plain-lawful}
-use Rattle.format.specs.Book.{Book, Opened, opened}
+use Rattle.format.specs.Book.{Book, namesOf, opened, wordsOf}
 use Rattle.format.specs.Records.{longest}
 use Rattle.format.specs.Outcomes.{checkOf, given, refused}
 use Rattle.answers.specs.Calls.{check, question, questionOf}
 use Rattle.answers.proofs.Calls.{question-given, question-long, question-none}
 use Rattle.answers.specs.Questions.{Pair, answer, ask, count, exact, exactFrom, place, range}
-use Rattle.descent.specs.Vocabulary.{asked, openedNames, startIn, wordsIn}
+use Rattle.descent.specs.Vocabulary.{asked, startIn}
 use Rattle.descent.proofs.Bytes.{opened-searchable}
-use Rattle.streams.specs.Streams.{namesOf, wordsOf}
 use Rattle.numbers.proofs.Parts.{Held, held-bytes}
 use Rattle.accept.specs.Parts.{checkedNumbers}
 use Rattle.accept.specs.declared.Checked.{Checked}
@@ -83,10 +82,6 @@ module _ (b q : Bytes) (n k kind : ℕ) (held : Held b) (s : Asking b n k kind) 
         none (x ∷ xs) l = absurd (lt-irrefl 0 (omega arith))
 
     module _ (some : n ≡ 0 → ⊥) where
-      opens : wordsIn plain b ≡ wordsOf b
-      unfolding wordsIn wordsOf
-      opens = ap (λ (o : Opened). map (word plain) (openedNames o)) (shown .book)
-
       pub askable : KindAsk b k kind
       unfolding startIn
       askable =
@@ -95,12 +90,11 @@ module _ (b q : Bytes) (n k kind : ℕ) (held : Held b) (s : Asking b n k kind) 
             askable = record {
               parts = f .parts;
               block = f .block;
-              names = opens;
               searchable = opened-searchable plain plain-lawful b k (namesOf b) (f .book) bytes (omega (arith, names));
             };
             some = s .number .low;
           }
 
-      pub ask-some : (x y : ℕ) → (x, y) ≡ ask kind (asked plain q) (wordsIn plain b) → given x y ≡ question plain kind b q
+      pub ask-some : (x y : ℕ) → (x, y) ≡ ask kind (asked plain q) (wordsOf plain b) → given x y ≡ question plain kind b q
       unfolding answer asked wordsOf
-      ask-some x y e = gives (λ _ z. some z) (x, y) (e ∙ ap (ask kind (word plain q)) opens)
+      ask-some x y e = gives (λ _ z. some z) (x, y) e

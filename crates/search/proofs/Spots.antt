@@ -19,13 +19,13 @@ use Rattle.words.proofs.Words.{apart, at-past, plain-lawful, shared-le, shared-
 use Rattle.format.specs.Nodes.{table}
 use Rattle.answers.specs.Questions.{Pair as Numbers, ask, count, exact, nearest, place, range, reached}
 use Rattle.answers.proofs.Nearest.{reached-most}
-use Rattle.descent.specs.Vocabulary.{Descended, Highest, Reached, Searchable, Sits, Sought, asked, from, node, upto, wordsIn}
+use Rattle.descent.specs.Vocabulary.{Descended, Highest, Reached, Searchable, Sits, Sought, asked, from, node, upto}
 use Rattle.descent.proofs.Cuts.{exact-here, exact-nowhere, range-none, whole-range}
 use Rattle.descent.proofs.Paths.{edge-after, edge-before, fork-child, fork-end, fork-wide, found, only-reached, passed-deepens, passed-sits, reached-is}
-use Rattle.streams.specs.Streams.{namesOf, wordsOf}
+use Rattle.format.specs.Book.{namesOf, wordsOf}
 use Rattle.accept.specs.Parts.{told}
-use Rattle.names.specs.Names.{Named}
-use Rattle.search.specs.Asks.{Askable, AtFork, AtSpot, MetSays, NameAsk, Numbered, OnPath, SpotSays}
+use Rattle.names.specs.Names.{Named, PositionAsk}
+use Rattle.search.specs.Asks.{Askable, AtFork, AtSpot, MetSays, Numbered, OnPath, SpotSays}
 use Rattle.search.proofs.Ways.{asked-length}
 
 -- ---- `highest`
@@ -34,23 +34,23 @@ use Rattle.search.proofs.Ways.{asked-length}
 pub record Climbing (b : Bytes) (start : ℕ) (p : List ℕ) (n m j : ℕ) : Type 0 where
   pub nodes : OnPath b start p n
   pub within : j < n
-  pub deep : (m ≤ node (wordsIn plain b) (getD p j 0) .depth) ⊎ (suc j ≡ n)
+  pub deep : (m ≤ node (wordsOf plain b) (getD p j 0) .depth) ⊎ (suc j ≡ n)
 
 pub climb-start : {b : Bytes} {start : ℕ} {p : List ℕ} {n m : ℕ} → OnPath b start p n → Climbing b start p n m (n - 1)
 climb-start t = record { nodes = t; within = omega (arith, t .some); deep = inr (omega (arith, t .some)) }
 
 module _ {b : Bytes} {start : ℕ} {p : List ℕ} {n m j : ℕ} (k : Climbing b start p n m j) where
   -- node r of the path is the highest, if those above it are less deep
-  climbed : {r : ℕ} → r ≡ getD p j 0 → ((i : ℕ) → i < j → node (wordsIn plain b) (getD p i 0) .depth < m) → Highest (wordsIn plain b) p n m r
+  climbed : {r : ℕ} → r ≡ getD p j 0 → ((i : ℕ) → i < j → node (wordsOf plain b) (getD p i 0) .depth < m) → Highest (wordsOf plain b) p n m r
   climbed {r} e a = record {
     index = j;
     within = k .within;
     is = e;
     above = a;
-    deep = subst (λ (u : ℕ). (m ≤ node (wordsIn plain b) u .depth) ⊎ (suc j ≡ n)) (sym e) (k .deep);
+    deep = subst (λ (u : ℕ). (m ≤ node (wordsOf plain b) u .depth) ⊎ (suc j ≡ n)) (sym e) (k .deep);
   }
 
-  pub climb-end : j ≤ 0 → {r : ℕ} → r ≡ getD p 0 0 → Highest (wordsIn plain b) p n m r
+  pub climb-end : j ≤ 0 → {r : ℕ} → r ≡ getD p 0 0 → Highest (wordsOf plain b) p n m r
   climb-end h e =
       let z : 0 ≡ j = omega arith in
       climbed (e ∙ ap (λ (i : ℕ). getD p i 0) z) (λ i x. absurd (lt-irrefl i (omega arith)))
@@ -60,38 +60,37 @@ module _ {b : Bytes} {start : ℕ} {p : List ℕ} {n m j : ℕ} (k : Climbing b 
     pub climb-numbered : Numbered b start v
     climb-numbered = record {
       searchable = k .nodes .searchable;
-      inside = subst (λ (u : ℕ). u < length (table (wordsIn plain b))) (sym e) (k .nodes .sits (j - 1) (omega (arith, k .within)) .inside);
+      inside = subst (λ (u : ℕ). u < length (table (wordsOf plain b))) (sym e) (k .nodes .sits (j - 1) (omega (arith, k .within)) .inside);
     }
 
-    module _ {d : ℕ} (de : d ≡ node (wordsIn plain b) v .depth) where
-      depth-is : d ≡ node (wordsIn plain b) (getD p (j - 1) 0) .depth
-      depth-is = de ∙ ap (λ (u : ℕ). node (wordsIn plain b) u .depth) e
+    module _ {d : ℕ} (de : d ≡ node (wordsOf plain b) v .depth) where
+      depth-is : d ≡ node (wordsOf plain b) (getD p (j - 1) 0) .depth
+      depth-is = de ∙ ap (λ (u : ℕ). node (wordsOf plain b) u .depth) e
 
       pub climb-more : m ≤ d → Climbing b start p n m (j - 1)
       climb-more l = record { nodes = k .nodes; within = omega (arith, k .within); deep = inl (omega (arith, depth-is)) }
 
-      pub climb-found : d < m → {r : ℕ} → r ≡ getD p j 0 → Highest (wordsIn plain b) p n m r
+      pub climb-found : d < m → {r : ℕ} → r ≡ getD p j 0 → Highest (wordsOf plain b) p n m r
       climb-found l f = climbed f (λ i x. go i x (apart i (j - 1)))
         where
-          go : (i : ℕ) → i < j → (i < j - 1) ⊎ (j - 1 ≤ i) → node (wordsIn plain b) (getD p i 0) .depth < m
+          go : (i : ℕ) → i < j → (i < j - 1) ⊎ (j - 1 ≤ i) → node (wordsOf plain b) (getD p i 0) .depth < m
           go i x (inl y) = omega (arith, depth-is, k .nodes .deepens i (j - 1) y (omega (arith, k .within)))
           go i x (inr y) =
               let g : j - 1 ≡ i = omega arith in
-              subst (λ (a : ℕ). node (wordsIn plain b) (getD p a 0) .depth < m) g (omega (arith, depth-is))
+              subst (λ (a : ℕ). node (wordsOf plain b) (getD p a 0) .depth < m) g (omega (arith, depth-is))
 
 -- ---- `meet`
 
 -- the front of the array is the name at the position
-module _ {b : Bytes} {k position len : ℕ} (q name : Bytes) (a : NameAsk b k position) (n : Named (getD (namesOf b) position []) len name) where
-  name-is : word plain (take (len - 0) name) ≡ nth (wordsIn plain b) position
+module _ (b : Bytes) (position : ℕ) {len : ℕ} (q name : Bytes) (n : Named (getD (namesOf b) position []) len name) where
+  name-is : word plain (take (len - 0) name) ≡ nth (wordsOf plain b) position
   unfolding wordsOf
   name-is =
       let z : len - 0 ≡ len = omega arith in
-      ap (λ (i : ℕ). word plain (take i name)) z ∙ ap (word plain) (n .name-is)
-      ∙ sym (nth-word plain (namesOf b) position) ∙ ap (λ (ws : Words). nth ws position) (sym (a .names))
+      ap (λ (i : ℕ). word plain (take i name)) z ∙ ap (word plain) (n .name-is) ∙ sym (nth-word plain (namesOf b) position)
 
   pub met : {m s : ℕ} → m ≡ shared (word plain q) (word plain (take (len - 0) name)) → s ≡ at (asked plain (take (len - 0) name)) m
-      → MetSays (wordsIn plain b) (asked plain q) position m s
+      → MetSays (wordsOf plain b) (asked plain q) position m s
   unfolding asked
   met {m} {s} e f = record {
     shares = e ∙ ap (shared (asked plain q)) name-is;
@@ -100,86 +99,83 @@ module _ {b : Bytes} {k position len : ℕ} (q name : Bytes) (a : NameAsk b k po
 
 -- ---- `reach` and `locate`
 
-module _ (b q : Bytes) {start : ℕ} (o : Searchable plain b start) {p : List ℕ} {n last : ℕ} (t : Descended (wordsIn plain b) (asked plain q) p n last) where
-  ends : Sits (wordsIn plain b) last
-  ends = passed-sits (wordsIn plain b) (o .rises) (t .path) (o .short)
+module _ (b q : Bytes) {start : ℕ} (o : Searchable plain b start) {p : List ℕ} {n last : ℕ} (t : Descended (wordsOf plain b) (asked plain q) p n last) where
+  ends : Sits (wordsOf plain b) last
+  ends = passed-sits (wordsOf plain b) (o .rises) (t .path) (o .short)
 
   pub end-numbered : Numbered b start last
   end-numbered = record { searchable = o; inside = ends .inside }
 
   pub end-path : OnPath b start p n
-  end-path = record { searchable = o; long = t .path .long; some = t .path .some; few = t .few; sits = t .path .sits; deepens = passed-deepens (wordsIn plain b) (o .rises) (t .path) (o .short) }
+  end-path = record { searchable = o; long = t .path .long; some = t .path .some; few = t .few; sits = t .path .sits; deepens = passed-deepens (wordsOf plain b) (o .rises) (t .path) (o .short) }
 
-  module _ {r : ℕ} (f : r ≡ node (wordsIn plain b) last .first) where
-    is : r ≡ reached (asked plain q) (wordsIn plain b)
-    is = f ∙ sym (reached-is (wordsIn plain b) (o .rises) t)
+  module _ {r : ℕ} (f : r ≡ node (wordsOf plain b) last .first) where
+    is : r ≡ reached (asked plain q) (wordsOf plain b)
+    is = f ∙ sym (reached-is (wordsOf plain b) (o .rises) t)
 
-    pub end-reached : Reached (wordsIn plain b) (asked plain q) r
+    pub end-reached : Reached (wordsOf plain b) (asked plain q) r
     end-reached = record {
       is = is;
       within = omega (arith, ends .some, ends .within);
-      only = λ i h k. only-reached (wordsIn plain b) (o .rises) t i h k ∙ sym is;
+      only = λ i h k. only-reached (wordsOf plain b) (o .rises) t i h k ∙ sym is;
     }
 
-    pub spot : {m s v : ℕ} → MetSays (wordsIn plain b) (asked plain q) r m s → Highest (wordsIn plain b) p n m v → SpotSays (wordsIn plain b) (asked plain q) v m s
+    pub spot : {m s v : ℕ} → MetSays (wordsOf plain b) (asked plain q) r m s → Highest (wordsOf plain b) p n m v → SpotSays (wordsOf plain b) (asked plain q) v m s
     spot {m} e h =
-        let g : m ≡ shared (asked plain q) (nth (wordsIn plain b) (reached (asked plain q) (wordsIn plain b))) =
-        e .shares ∙ ap (λ (i : ℕ). shared (asked plain q) (nth (wordsIn plain b) i)) is in
+        let g : m ≡ shared (asked plain q) (nth (wordsOf plain b) (reached (asked plain q) (wordsOf plain b))) =
+        e .shares ∙ ap (λ (i : ℕ). shared (asked plain q) (nth (wordsOf plain b) i)) is in
         record {
-          located = record { shares = g; found = found (wordsIn plain b) (o .rises) t g h };
-          next = e .next ∙ ap (λ (i : ℕ). at (nth (wordsIn plain b) i) m) is;
+          located = record { shares = g; found = found (wordsOf plain b) (o .rises) t g h };
+          next = e .next ∙ ap (λ (i : ℕ). at (nth (wordsOf plain b) i) m) is;
         }
 
 -- the name that is reached can be read
-pub name-ask : {b : Bytes} {k start r : ℕ} (q : List ℕ) → Askable b k start → Reached (wordsIn plain b) q r → NameAsk b k r
+pub name-ask : {b : Bytes} {k start r : ℕ} (q : List ℕ) → Askable b k start → Reached (wordsOf plain b) q r → PositionAsk b k r
 unfolding wordsOf
 name-ask {b} {k} {start} {r} q a o = record {
-  found = record {
-    parts = a .parts;
-    block = a .block;
-    within = omega (arith, o .within, ap length (a .names), length-map (namesOf b) (word plain));
-  };
-  names = a .names;
+  parts = a .parts;
+  block = a .block;
+  within = omega (arith, o .within, length-map (namesOf b) (word plain));
 }
 
 -- at the end of a path
-pub end-ask : {b : Bytes} (q : Bytes) {k start r : ℕ} {p : List ℕ} {n last : ℕ} → Askable b k start → Descended (wordsIn plain b) (asked plain q) p n last
-    → r ≡ node (wordsIn plain b) last .first → NameAsk b k r
+pub end-ask : {b : Bytes} (q : Bytes) {k start r : ℕ} {p : List ℕ} {n last : ℕ} → Askable b k start → Descended (wordsOf plain b) (asked plain q) p n last
+    → r ≡ node (wordsOf plain b) last .first → PositionAsk b k r
 end-ask {b} q a t f = name-ask (asked plain q) a (end-reached b q (a .searchable) t f)
 
 -- ---- `seat`
 
 -- d is the node's depth, f its first name, n how many it has, y its number of nodes, t the question's symbol, c the child that was sought
-module _ {b q : Bytes} {start v m s : ℕ} (a : AtSpot b start q v m s) {d : ℕ} (de : d ≡ node (wordsIn plain b) v .depth) where
-  pub seat-before : {f n t : ℕ} → f ≡ node (wordsIn plain b) v .first → n ≡ node (wordsIn plain b) v .names → m < d → t ≡ at (asked plain q) m → s < t
-      → f + n ≡ place (asked plain q) (wordsIn plain b)
+module _ {b q : Bytes} {start v m s : ℕ} (a : AtSpot b start q v m s) {d : ℕ} (de : d ≡ node (wordsOf plain b) v .depth) where
+  pub seat-before : {f n t : ℕ} → f ≡ node (wordsOf plain b) v .first → n ≡ node (wordsOf plain b) v .names → m < d → t ≡ at (asked plain q) m → s < t
+      → f + n ≡ place (asked plain q) (wordsOf plain b)
   seat-before fe ne h e l =
-      omega (arith, edge-before (wordsIn plain b) (a .searchable .rises) (a .spot .located .found) (omega arith) (omega (arith, a .spot .next)))
+      omega (arith, edge-before (wordsOf plain b) (a .searchable .rises) (a .spot .located .found) (omega arith) (omega (arith, a .spot .next)))
 
-  pub seat-after : {f t : ℕ} → f ≡ node (wordsIn plain b) v .first → m < d → t ≡ at (asked plain q) m → t ≤ s → f ≡ place (asked plain q) (wordsIn plain b)
+  pub seat-after : {f t : ℕ} → f ≡ node (wordsOf plain b) v .first → m < d → t ≡ at (asked plain q) m → t ≤ s → f ≡ place (asked plain q) (wordsOf plain b)
   seat-after fe h e l =
-      omega (arith, edge-after (wordsIn plain b) (a .searchable .rises) (a .spot .located .found) (omega arith) (omega (arith, a .spot .next)))
+      omega (arith, edge-after (wordsOf plain b) (a .searchable .rises) (a .spot .located .found) (omega arith) (omega (arith, a .spot .next)))
 
   module _ (h : d ≤ m) where
-    deep : node (wordsIn plain b) v .depth ≤ m
+    deep : node (wordsOf plain b) v .depth ≤ m
     deep = omega arith
 
     pub seat-fork : AtFork b start v
     seat-fork = record {
       searchable = a .searchable;
       sits = a .spot .located .found .sits;
-      several = fork-wide (wordsIn plain b) (a .searchable .rises) (a .spot .located .found) deep;
+      several = fork-wide (wordsOf plain b) (a .searchable .rises) (a .spot .located .found) deep;
     }
 
-    module _ {t c y : ℕ} (e : t ≡ at (asked plain q) m) (k : Sought (wordsIn plain b) v t c) (ye : y ≡ node (wordsIn plain b) v .nodes) where
-      sought : Sought (wordsIn plain b) v (at (asked plain q) m) c
-      sought = subst (λ (i : ℕ). Sought (wordsIn plain b) v i c) e k
+    module _ {t c y : ℕ} (e : t ≡ at (asked plain q) m) (k : Sought (wordsOf plain b) v t c) (ye : y ≡ node (wordsOf plain b) v .nodes) where
+      sought : Sought (wordsOf plain b) v (at (asked plain q) m) c
+      sought = subst (λ (i : ℕ). Sought (wordsOf plain b) v i c) e k
 
-      pub seat-child : {f : ℕ} → f ≡ node (wordsIn plain b) c .first → c < v + y → f ≡ place (asked plain q) (wordsIn plain b)
-      seat-child fe g = fe ∙ fork-child (wordsIn plain b) (a .searchable .rises) (a .spot .located .found) deep sought (omega arith)
+      pub seat-child : {f : ℕ} → f ≡ node (wordsOf plain b) c .first → c < v + y → f ≡ place (asked plain q) (wordsOf plain b)
+      seat-child fe g = fe ∙ fork-child (wordsOf plain b) (a .searchable .rises) (a .spot .located .found) deep sought (omega arith)
 
-      pub seat-end : {f n : ℕ} → f ≡ node (wordsIn plain b) v .first → n ≡ node (wordsIn plain b) v .names → v + y ≤ c → f + n ≡ place (asked plain q) (wordsIn plain b)
-      seat-end fe ne g = omega (arith, fork-end (wordsIn plain b) (a .searchable .rises) (a .spot .located .found) deep sought (omega arith))
+      pub seat-end : {f n : ℕ} → f ≡ node (wordsOf plain b) v .first → n ≡ node (wordsOf plain b) v .names → v + y ≤ c → f + n ≡ place (asked plain q) (wordsOf plain b)
+      seat-end fe ne g = omega (arith, fork-end (wordsOf plain b) (a .searchable .rises) (a .spot .located .found) deep sought (omega arith))
 
 -- ---- the answers
 
@@ -187,32 +183,32 @@ abbrev pair : ℕ → ℕ → Numbers
 pair y z = (y, z)
 
 module _ {b : Bytes} {start : ℕ} (q : Bytes) (o : Searchable plain b start) where
-  module _ {v m s : ℕ} (a : SpotSays (wordsIn plain b) (asked plain q) v m s) where
-    pub range-short : m < length q → {r : ℕ} → r ≡ place (asked plain q) (wordsIn plain b) → (r, 0) ≡ range (asked plain q) (wordsIn plain b)
+  module _ {v m s : ℕ} (a : SpotSays (wordsOf plain b) (asked plain q) v m s) where
+    pub range-short : m < length q → {r : ℕ} → r ≡ place (asked plain q) (wordsOf plain b) → (r, 0) ≡ range (asked plain q) (wordsOf plain b)
     unfolding range
     range-short h e =
         ap₂ pair e
-        (range-none (wordsIn plain b) (asked plain q) (o .rises) m
-        (λ i k. omega (arith, reached-most (asked plain q) (wordsIn plain b) (o .rises) i k, a .located .shares)) (omega (arith, asked-length q)))
+        (range-none (wordsOf plain b) (asked plain q) (o .rises) m
+        (λ i k. omega (arith, reached-most (asked plain q) (wordsOf plain b) (o .rises) i k, a .located .shares)) (omega (arith, asked-length q)))
 
-    pub range-all : length q ≤ m → {r n : ℕ} → r ≡ place (asked plain q) (wordsIn plain b) → n ≡ node (wordsIn plain b) v .names
-        → (r, n) ≡ range (asked plain q) (wordsIn plain b)
+    pub range-all : length q ≤ m → {r n : ℕ} → r ≡ place (asked plain q) (wordsOf plain b) → n ≡ node (wordsOf plain b) v .names
+        → (r, n) ≡ range (asked plain q) (wordsOf plain b)
     unfolding range
     range-all h {r} {n} e f =
         let w : m ≡ length (asked plain q) = omega (
           arith,
           a .located .shares,
           asked-length q,
-          shared-le (asked plain q) (nth (wordsIn plain b) (reached (asked plain q) (wordsIn plain b))),
+          shared-le (asked plain q) (nth (wordsOf plain b) (reached (asked plain q) (wordsOf plain b))),
         ) in
-        let k : n ≡ count (begins (asked plain q)) (wordsIn plain b) =
-        omega (arith, whole-range (wordsIn plain b) (asked plain q) (o .rises) m (from (wordsIn plain b) v) (upto (wordsIn plain b) v) (a .located .found .group) w) in
+        let k : n ≡ count (begins (asked plain q)) (wordsOf plain b) =
+        omega (arith, whole-range (wordsOf plain b) (asked plain q) (o .rises) m (from (wordsOf plain b) v) (upto (wordsOf plain b) v) (a .located .found .group) w) in
         ap₂ pair e k
 
-  module _ {r m s : ℕ} (t : Reached (wordsIn plain b) (asked plain q) r) (e : MetSays (wordsIn plain b) (asked plain q) r m s) where
-    pub nearest-is : (r, m) ≡ nearest (asked plain q) (wordsIn plain b)
+  module _ {r m s : ℕ} (t : Reached (wordsOf plain b) (asked plain q) r) (e : MetSays (wordsOf plain b) (asked plain q) r m s) where
+    pub nearest-is : (r, m) ≡ nearest (asked plain q) (wordsOf plain b)
     unfolding nearest
-    nearest-is = ap₂ pair (t .is) (e .shares ∙ ap (λ (i : ℕ). shared (asked plain q) (nth (wordsIn plain b) i)) (t .is))
+    nearest-is = ap₂ pair (t .is) (e .shares ∙ ap (λ (i : ℕ). shared (asked plain q) (nth (wordsOf plain b) i)) (t .is))
 
     positive : Positive (asked plain q)
     unfolding asked
@@ -222,22 +218,22 @@ module _ {b : Bytes} {start : ℕ} (q : Bytes) (o : Searchable plain b start) wh
     past h = at-past (asked plain q) m (omega (arith, asked-length q))
 
     -- a name that is q is the one that is reached
-    not-there : (nth (wordsIn plain b) r ≡ asked plain q → ⊥) → (0, 0) ≡ exact (asked plain q) (wordsIn plain b)
-    not-there n = sym (exact-nowhere (wordsIn plain b) (asked plain q) (o .rises) positive (λ i h f. n (ap (nth (wordsIn plain b)) (sym (t .only i h f)) ∙ f)))
+    not-there : (nth (wordsOf plain b) r ≡ asked plain q → ⊥) → (0, 0) ≡ exact (asked plain q) (wordsOf plain b)
+    not-there n = sym (exact-nowhere (wordsOf plain b) (asked plain q) (o .rises) positive (λ i h f. n (ap (nth (wordsOf plain b)) (sym (t .only i h f)) ∙ f)))
 
-    pub exact-short : m < length q → (0, 0) ≡ exact (asked plain q) (wordsIn plain b)
+    pub exact-short : m < length q → (0, 0) ≡ exact (asked plain q) (wordsOf plain b)
     exact-short h = not-there (λ f. lt-irrefl m (omega (arith, e .shares, ap (shared (asked plain q)) f ∙ shared-self (asked plain q), asked-length q)))
 
-    pub exact-longer : length q ≤ m → (s ≡ 0 → ⊥) → (0, 0) ≡ exact (asked plain q) (wordsIn plain b)
+    pub exact-longer : length q ≤ m → (s ≡ 0 → ⊥) → (0, 0) ≡ exact (asked plain q) (wordsOf plain b)
     exact-longer h n = not-there (λ f. n (e .next ∙ ap (λ (w : List ℕ). at w m) f ∙ past h))
 
-    pub exact-found : length q ≤ m → s ≡ 0 → (r, 1) ≡ exact (asked plain q) (wordsIn plain b)
+    pub exact-found : length q ≤ m → s ≡ 0 → (r, 1) ≡ exact (asked plain q) (wordsOf plain b)
     exact-found h z =
-        let x : List ℕ = nth (wordsIn plain b) r in
+        let x : List ℕ = nth (wordsOf plain b) r in
         let ends : at (asked plain q) m ≡ at x m = past h ∙ sym z ∙ e .next in
-        let same : asked plain q ≡ x = shared-parts (asked plain q) x positive (nth-positive (wordsIn plain b) r (o .rises))
+        let same : asked plain q ≡ x = shared-parts (asked plain q) x positive (nth-positive (wordsOf plain b) r (o .rises))
         (subst (λ (i : ℕ). at (asked plain q) i ≡ at x i) (e .shares) ends) in
-        sym (exact-here (wordsIn plain b) (asked plain q) (o .rises) positive r (t .within) (sym same))
+        sym (exact-here (wordsOf plain b) (asked plain q) (o .rises) positive r (t .within) (sym same))
 
 -- ---- by the number of the kind
 

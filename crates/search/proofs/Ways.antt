@@ -15,7 +15,8 @@ use mir.Val.{Fits}
 use mir.Syntax.{w16, w64}
 use Rattle.words.specs.Words.{Bytes, Rises, Words, at, plain}
 use Rattle.words.proofs.Words.{at-past, word-at}
-use Rattle.descent.specs.Vocabulary.{Descended, Halts, Passed, Searchable, Seeking, Sits, Sought, Taken, asked, node, wordsIn}
+use Rattle.format.specs.Book.{wordsOf}
+use Rattle.descent.specs.Vocabulary.{Descended, Halts, Passed, Searchable, Seeking, Sits, Sought, Taken, asked, node}
 use Rattle.descent.proofs.Paths.{halt-end, halt-leaf, halt-other, halt-short, passed-few, passed-on, passed-room, passed-sits, passed-start, taken}
 use Rattle.descent.proofs.Rows.{seek-some, seek-stop}
 use Rattle.search.specs.Asks.{AtNode, WayOf}
@@ -38,48 +39,48 @@ symbol-past s d h = sym (at-past (asked plain s) d (omega (arith, asked-length s
 -- ---- `seek`
 
 -- the next child lies within the row, and further on
-module _ {b : Bytes} {start v s c : ℕ} (o : Searchable plain b start) (k : Seeking (wordsIn plain b) v s c) (x y : ℕ)
-    (xe : x ≡ node (wordsIn plain b) v .nodes) (h : c < v + x) (ye : y ≡ node (wordsIn plain b) c .nodes) where
+module _ {b : Bytes} {start v s c : ℕ} (o : Searchable plain b start) (k : Seeking (wordsOf plain b) v s c) (x y : ℕ)
+    (xe : x ≡ node (wordsOf plain b) v .nodes) (h : c < v + x) (ye : y ≡ node (wordsOf plain b) c .nodes) where
   pub seek-next : Fits w64 (c + y)
-  seek-next = omega (arith, seek-stop (wordsIn plain b) (o .rises) k (omega arith), k .row .limit, o .small)
+  seek-next = omega (arith, seek-stop (wordsOf plain b) (o .rises) k (omega arith), k .row .limit, o .small)
 
   pub seek-less : v + x - (c + y) < v + x - c
-  seek-less = omega (arith, seek-some (wordsIn plain b) (o .rises) k (omega arith))
+  seek-less = omega (arith, seek-some (wordsOf plain b) (o .rises) k (omega arith))
 
 -- ---- `child`
 
 -- x is the node's number of names, d its depth, y its number of nodes, t the question's symbol there, c the child that was sought, u that one's symbol
-module _ (b q : Bytes) {v : ℕ} (r : Rises (wordsIn plain b)) (z : Sits (wordsIn plain b) v) {x : ℕ} (xe : x ≡ node (wordsIn plain b) v .names) where
-  pub stay-leaf : x ≡ 1 → Halts (wordsIn plain b) (asked plain q) v
-  stay-leaf e = halt-leaf (wordsIn plain b) r (asked plain q) z (omega arith)
+module _ (b q : Bytes) {v : ℕ} (r : Rises (wordsOf plain b)) (z : Sits (wordsOf plain b) v) {x : ℕ} (xe : x ≡ node (wordsOf plain b) v .names) where
+  pub stay-leaf : x ≡ 1 → Halts (wordsOf plain b) (asked plain q) v
+  stay-leaf e = halt-leaf (wordsOf plain b) r (asked plain q) z (omega arith)
 
-  module _ (n : x ≡ 1 → ⊥) {d : ℕ} (de : d ≡ node (wordsIn plain b) v .depth) where
-    pub stay-short : length q < d → Halts (wordsIn plain b) (asked plain q) v
-    stay-short h = halt-short (wordsIn plain b) r (asked plain q) z (λ i. n (xe ∙ i)) (omega (arith, asked-length q))
+  module _ (n : x ≡ 1 → ⊥) {d : ℕ} (de : d ≡ node (wordsOf plain b) v .depth) where
+    pub stay-short : length q < d → Halts (wordsOf plain b) (asked plain q) v
+    stay-short h = halt-short (wordsOf plain b) r (asked plain q) z (λ i. n (xe ∙ i)) (omega (arith, asked-length q))
 
-    module _ (h : d ≤ length q) {t c y : ℕ} (e : t ≡ at (asked plain q) d) (k : Sought (wordsIn plain b) v t c) (ye : y ≡ node (wordsIn plain b) v .nodes) where
-      symbol : t ≡ at (asked plain q) (node (wordsIn plain b) v .depth)
+    module _ (h : d ≤ length q) {t c y : ℕ} (e : t ≡ at (asked plain q) d) (k : Sought (wordsOf plain b) v t c) (ye : y ≡ node (wordsOf plain b) v .nodes) where
+      symbol : t ≡ at (asked plain q) (node (wordsOf plain b) v .depth)
       symbol = e ∙ ap (at (asked plain q)) de
 
-      long : node (wordsIn plain b) v .depth ≤ length (asked plain q)
+      long : node (wordsOf plain b) v .depth ≤ length (asked plain q)
       long = omega (arith, asked-length q)
 
-      sought : Sought (wordsIn plain b) v (at (asked plain q) (node (wordsIn plain b) v .depth)) c
-      sought = subst (λ (i : ℕ). Sought (wordsIn plain b) v i c) symbol k
+      sought : Sought (wordsOf plain b) v (at (asked plain q) (node (wordsOf plain b) v .depth)) c
+      sought = subst (λ (i : ℕ). Sought (wordsOf plain b) v i c) symbol k
 
-      pub stay-end : v + y ≤ c → Halts (wordsIn plain b) (asked plain q) v
-      stay-end g = halt-end (wordsIn plain b) r (asked plain q) z (λ i. n (xe ∙ i)) long sought (omega arith)
+      pub stay-end : v + y ≤ c → Halts (wordsOf plain b) (asked plain q) v
+      stay-end g = halt-end (wordsOf plain b) r (asked plain q) z (λ i. n (xe ∙ i)) long sought (omega arith)
 
-      module _ (g : c < v + y) {u : ℕ} (ue : u ≡ node (wordsIn plain b) c .symbol) where
-        pub stay-other : (u ≡ t → ⊥) → Halts (wordsIn plain b) (asked plain q) v
-        stay-other o = halt-other (wordsIn plain b) r (asked plain q) z (λ i. n (xe ∙ i)) long sought (omega arith) (λ j. o (ue ∙ j ∙ sym symbol))
+      module _ (g : c < v + y) {u : ℕ} (ue : u ≡ node (wordsOf plain b) c .symbol) where
+        pub stay-other : (u ≡ t → ⊥) → Halts (wordsOf plain b) (asked plain q) v
+        stay-other o = halt-other (wordsOf plain b) r (asked plain q) z (λ i. n (xe ∙ i)) long sought (omega arith) (λ j. o (ue ∙ j ∙ sym symbol))
 
 -- its premises stand in the order in which a search finds them, not in the section's
-pub go-down : (b q : Bytes) {v x d t c y u : ℕ} → Sought (wordsIn plain b) v t c → u ≡ t → (x ≡ 1 → ⊥) → d ≤ length q → c < v + y → t ≡ at (asked plain q) d
-    → u ≡ node (wordsIn plain b) c .symbol → d ≡ node (wordsIn plain b) v .depth → x ≡ node (wordsIn plain b) v .names → y ≡ node (wordsIn plain b) v .nodes
-    → Rises (wordsIn plain b) → Sits (wordsIn plain b) v → Taken (wordsIn plain b) (asked plain q) v c
+pub go-down : (b q : Bytes) {v x d t c y u : ℕ} → Sought (wordsOf plain b) v t c → u ≡ t → (x ≡ 1 → ⊥) → d ≤ length q → c < v + y → t ≡ at (asked plain q) d
+    → u ≡ node (wordsOf plain b) c .symbol → d ≡ node (wordsOf plain b) v .depth → x ≡ node (wordsOf plain b) v .names → y ≡ node (wordsOf plain b) v .nodes
+    → Rises (wordsOf plain b) → Sits (wordsOf plain b) v → Taken (wordsOf plain b) (asked plain q) v c
 go-down b q k j n h g e ue de xe ye r z =
-    taken (wordsIn plain b) r (asked plain q) z (λ i. n (xe ∙ i)) (long b q r z xe n de h e k ye) (sought b q r z xe n de h e k ye) (omega arith)
+    taken (wordsOf plain b) r (asked plain q) z (λ i. n (xe ∙ i)) (long b q r z xe n de h e k ye) (sought b q r z xe n de h e k ye) (omega arith)
     (sym ue ∙ j ∙ symbol b q r z xe n de h e k ye)
 
 -- ---- `descend`
@@ -87,10 +88,10 @@ go-down b q k j n h g e ue de xe ye r z =
 -- the path so far, from the root to the node at hand
 pub record Going (b : Bytes) (start : ℕ) (q : Bytes) (p : List ℕ) (n v : ℕ) : Type 0 where
   pub searchable : Searchable plain b start
-  pub path : Passed (wordsIn plain b) (asked plain q) p n v
+  pub path : Passed (wordsOf plain b) (asked plain q) p n v
 
 pub go-start : {b : Bytes} {start : ℕ} {q p : Bytes} → Searchable plain b start → length p ≡ 202 → getD p 0 0 ≡ 0 → Going b start q p 1 0
-go-start {b} {start} {q} {p} o l e = record { searchable = o; path = passed-start (wordsIn plain b) (o .rises) (asked plain q) p (o .some) l e }
+go-start {b} {start} {q} {p} o l e = record { searchable = o; path = passed-start (wordsOf plain b) (o .rises) (asked plain q) p (o .some) l e }
 
 pub way-down : {ws : Words} {q : List ℕ} {v c : ℕ} {r : Way} → r ≡ Down c → WayOf ws q v r → Taken ws q v c
 way-down {ws} {q} {v} e w = rw e at w
@@ -100,21 +101,21 @@ way-stay {ws} {q} {v} e w = rw e at w
 
 module _ {b q : Bytes} {start : ℕ} {p : List ℕ} {n v : ℕ} (g : Going b start q p n v) where
   pub go-at : AtNode b start v
-  go-at = record { searchable = g .searchable; sits = passed-sits (wordsIn plain b) (g .searchable .rises) (g .path) (g .searchable .short) }
+  go-at = record { searchable = g .searchable; sits = passed-sits (wordsOf plain b) (g .searchable .rises) (g .path) (g .searchable .short) }
 
-  pub go-halt : Halts (wordsIn plain b) (asked plain q) v → Descended (wordsIn plain b) (asked plain q) p n v
-  go-halt h = record { few = passed-few (wordsIn plain b) (g .searchable .rises) (g .path) (g .searchable .short); path = g .path; halts = h }
+  pub go-halt : Halts (wordsOf plain b) (asked plain q) v → Descended (wordsOf plain b) (asked plain q) p n v
+  go-halt h = record { few = passed-few (wordsOf plain b) (g .searchable .rises) (g .path) (g .searchable .short); path = g .path; halts = h }
 
-  module _ {c : ℕ} (k : Taken (wordsIn plain b) (asked plain q) v c) where
+  module _ {c : ℕ} (k : Taken (wordsOf plain b) (asked plain q) v c) where
     go-room : n < 202
-    go-room = passed-room (wordsIn plain b) (g .searchable .rises) (g .path) (g .searchable .short) k
+    go-room = passed-room (wordsOf plain b) (g .searchable .rises) (g .path) (g .searchable .short) k
 
     pub go-small : Fits w16 c
     go-small = omega (arith, k .sits .inside, g .searchable .small)
 
     pub go-on : Going b start q (set p n c) (n + 1) c
-    go-on = record { searchable = g .searchable; path = passed-on (wordsIn plain b) (g .searchable .rises) (g .path) (g .searchable .short) k }
+    go-on = record { searchable = g .searchable; path = passed-on (wordsOf plain b) (g .searchable .rises) (g .path) (g .searchable .short) k }
 
   -- there is room for the child
-  pub go-further : {c : ℕ} {r : Way} → r ≡ Down c → WayOf (wordsIn plain b) (asked plain q) v r → n < 202
+  pub go-further : {c : ℕ} {r : Way} → r ≡ Down c → WayOf (wordsOf plain b) (asked plain q) v r → n < 202
   go-further e w = go-room (way-down e w)

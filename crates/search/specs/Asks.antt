@@ -3,7 +3,7 @@
 --     AtNode, AtFork        a node; a node of several names
 --     WayOf                 where a question goes from a node
 --     OnPath                the front of an array holds nodes, each deeper than the one before
---     NameAsk, MetSays      a name can be read; how it stands to a question
+--     MetSays               how a name stands to a question
 --     SpotSays, AtSpot      the node whose names share most with a question
 --     Askable, KindAsk      what an accepted book with names is to a search; the kind has a number from 1 on
 --     pairOf                an answer's two numbers
@@ -15,10 +15,9 @@ use lib.ListN.{getD, length}
 use Rattle.words.specs.Words.{Bytes, Words, at, nth, plain, shared}
 use Rattle.format.specs.Nodes.{table}
 use Rattle.answers.specs.Questions.{Pair as Numbers, reached}
-use Rattle.descent.specs.Vocabulary.{Halts, Located, Searchable, Sits, Taken, asked, node, wordsIn}
-use Rattle.streams.specs.Streams.{wordsOf}
+use Rattle.descent.specs.Vocabulary.{Halts, Located, Searchable, Sits, Taken, asked, node}
+use Rattle.format.specs.Book.{wordsOf}
 use Rattle.accept.specs.Parts.{Parts, told}
-use Rattle.names.specs.Names.{PositionAsk}
 use Rattle.search.specs.declared.Pair.{Pair}
 use Rattle.search.specs.declared.Way.{Way}
 use Rattle.search.specs.declared.Way.the-variants.{Down, Stay}
@@ -27,7 +26,7 @@ use Rattle.search.specs.declared.Way.the-variants.{Down, Stay}
 
 pub record Numbered (b : Bytes) (start v : ℕ) : Type 0 where
   pub searchable : Searchable plain b start
-  pub inside : v < length (table (wordsIn plain b))
+  pub inside : v < length (table (wordsOf plain b))
 
 pub record FieldAsk (b : Bytes) (start v j : ℕ) : Type 0 where
   pub numbered : Numbered b start v
@@ -35,12 +34,12 @@ pub record FieldAsk (b : Bytes) (start v j : ℕ) : Type 0 where
 
 pub record AtNode (b : Bytes) (start v : ℕ) : Type 0 where
   pub searchable : Searchable plain b start
-  pub sits : Sits (wordsIn plain b) v
+  pub sits : Sits (wordsOf plain b) v
 
 pub record AtFork (b : Bytes) (start v : ℕ) : Type 0 where
   pub searchable : Searchable plain b start
-  pub sits : Sits (wordsIn plain b) v
-  pub several : node (wordsIn plain b) v .names ≡ 1 → ⊥
+  pub sits : Sits (wordsOf plain b) v
+  pub several : node (wordsOf plain b) v .names ≡ 1 → ⊥
 
 -- ---- the descent
 
@@ -54,15 +53,10 @@ pub record OnPath (b : Bytes) (start : ℕ) (p : List ℕ) (n : ℕ) : Type 0 wh
   pub long : length p ≡ 202
   pub some : 0 < n
   pub few : n ≤ 202
-  pub sits : (j : ℕ) → j < n → Sits (wordsIn plain b) (getD p j 0)
-  pub deepens : (i j : ℕ) → i < j → j < n → node (wordsIn plain b) (getD p i 0) .depth < node (wordsIn plain b) (getD p j 0) .depth
+  pub sits : (j : ℕ) → j < n → Sits (wordsOf plain b) (getD p j 0)
+  pub deepens : (i j : ℕ) → i < j → j < n → node (wordsOf plain b) (getD p i 0) .depth < node (wordsOf plain b) (getD p j 0) .depth
 
 -- ---- the name that is reached
-
--- the names as they are read one by one are those that the book opens to
-pub record NameAsk (b : Bytes) (k position : ℕ) : Type 0 where
-  pub found : PositionAsk b k position
-  pub names : wordsIn plain b ≡ wordsOf b
 
 -- the name at a position shares m symbols with q, and then comes its symbol s
 pub record MetSays (ws : Words) (q : List ℕ) (position m s : ℕ) : Type 0 where
@@ -76,14 +70,13 @@ pub record SpotSays (ws : Words) (q : List ℕ) (v m s : ℕ) : Type 0 where
 
 pub record AtSpot (b : Bytes) (start : ℕ) (q : Bytes) (v m s : ℕ) : Type 0 where
   pub searchable : Searchable plain b start
-  pub spot : SpotSays (wordsIn plain b) (asked plain q) v m s
+  pub spot : SpotSays (wordsOf plain b) (asked plain q) v m s
 
 -- ---- the questions
 
 pub record Askable (b : Bytes) (k start : ℕ) : Type 0 where
   pub parts : Parts b
   pub block : k ≡ told b 2
-  pub names : wordsIn plain b ≡ wordsOf b
   pub searchable : Searchable plain b start
 
 pub record KindAsk (b : Bytes) (k kind : ℕ) : Type 0 where

@@ -4,10 +4,11 @@ ghost use mathlib.Core.Path.{_≡_};
 ghost use Prim.Native.Nat.{_≤_};
 ghost use lib.ListN.{getD};
 ghost use Rattle.words.specs.Words.{at, plain};
-ghost use Rattle.format.specs.Book.{fields};
+ghost use Rattle.format.specs.Book.{fields, wordsOf};
 ghost use Rattle.answers.specs.Questions.{ask, exact, nearest, place, range};
-ghost use Rattle.descent.specs.Vocabulary.{Descended, Highest, Located, Reached, Searchable, Sought, asked, node, wordsIn};
-ghost use Rattle.search.specs.Asks.{AtFork, AtNode, AtSpot, Askable, FieldAsk, KindAsk, MetSays, NameAsk, Numbered, OnPath, SpotSays, WayOf, pairOf};
+ghost use Rattle.descent.specs.Vocabulary.{Descended, Highest, Located, Reached, Searchable, Sought, asked, node};
+ghost use Rattle.names.specs.Names.{PositionAsk};
+ghost use Rattle.search.specs.Asks.{AtFork, AtNode, AtSpot, Askable, FieldAsk, KindAsk, MetSays, Numbered, OnPath, SpotSays, WayOf, pairOf};
 
 // An answer's two numbers.
 pub struct Pair {
@@ -44,42 +45,42 @@ pub struct Spot {
 // Field number j of node v, in the table at `nodes`.
 fn field(book: &[u8], nodes: usize, v: usize, j: usize) -> usize
     requires { ⌜ FieldAsk (now book) nodes v j ⌝ }
-    ensures { λ r. ⌜ r ≡ getD (fields (node (wordsIn plain (now (book .entry))) v)) j 0 ⌝ }
+    ensures { λ r. ⌜ r ≡ getD (fields (node (wordsOf plain (now (book .entry))) v)) j 0 ⌝ }
 {
     numbers::number_at(book, nodes + v * 10 + 2 * j)
 }
 
 fn symbol_of(book: &[u8], nodes: usize, v: usize) -> usize
     requires { ⌜ Numbered (now book) nodes v ⌝ }
-    ensures { λ r. ⌜ r ≡ node (wordsIn plain (now (book .entry))) v .symbol ⌝ }
+    ensures { λ r. ⌜ r ≡ node (wordsOf plain (now (book .entry))) v .symbol ⌝ }
 {
     field(book, nodes, v, 0)
 }
 
 fn depth_of(book: &[u8], nodes: usize, v: usize) -> usize
     requires { ⌜ Numbered (now book) nodes v ⌝ }
-    ensures { λ r. ⌜ r ≡ node (wordsIn plain (now (book .entry))) v .depth ⌝ }
+    ensures { λ r. ⌜ r ≡ node (wordsOf plain (now (book .entry))) v .depth ⌝ }
 {
     field(book, nodes, v, 1)
 }
 
 fn first_of(book: &[u8], nodes: usize, v: usize) -> usize
     requires { ⌜ Numbered (now book) nodes v ⌝ }
-    ensures { λ r. ⌜ r ≡ node (wordsIn plain (now (book .entry))) v .first ⌝ }
+    ensures { λ r. ⌜ r ≡ node (wordsOf plain (now (book .entry))) v .first ⌝ }
 {
     field(book, nodes, v, 2)
 }
 
 fn names_of(book: &[u8], nodes: usize, v: usize) -> usize
     requires { ⌜ Numbered (now book) nodes v ⌝ }
-    ensures { λ r. ⌜ r ≡ node (wordsIn plain (now (book .entry))) v .names ⌝ }
+    ensures { λ r. ⌜ r ≡ node (wordsOf plain (now (book .entry))) v .names ⌝ }
 {
     field(book, nodes, v, 3)
 }
 
 fn nodes_of(book: &[u8], nodes: usize, v: usize) -> usize
     requires { ⌜ Numbered (now book) nodes v ⌝ }
-    ensures { λ r. ⌜ r ≡ node (wordsIn plain (now (book .entry))) v .nodes ⌝ }
+    ensures { λ r. ⌜ r ≡ node (wordsOf plain (now (book .entry))) v .nodes ⌝ }
 {
     field(book, nodes, v, 4)
 }
@@ -98,7 +99,7 @@ fn symbol_at(name: &[u8], d: usize) -> usize
 // The first child of v whose symbol is not below s, or the end of v's row where there is none.
 fn seek(book: &[u8], nodes: usize, v: usize, s: usize) -> usize
     requires { ⌜ AtFork (now book) nodes v ⌝ }
-    ensures { λ r. ⌜ Sought (wordsIn plain (now (book .entry))) v s r ⌝ }
+    ensures { λ r. ⌜ Sought (wordsOf plain (now (book .entry))) v s r ⌝ }
 {
     let end = v + nodes_of(book, nodes, v);
     let mut c = v + 1;
@@ -115,7 +116,7 @@ fn seek(book: &[u8], nodes: usize, v: usize, s: usize) -> usize
 // where no child fits.
 fn child(book: &[u8], nodes: usize, question: &[u8], v: usize) -> Way
     requires { ⌜ AtNode (now book) nodes v ⌝ }
-    ensures { λ r. ⌜ WayOf (wordsIn plain (now (book .entry))) (asked plain (now (question .entry))) v r ⌝ }
+    ensures { λ r. ⌜ WayOf (wordsOf plain (now (book .entry))) (asked plain (now (question .entry))) v r ⌝ }
 {
     if names_of(book, nodes, v) == 1 {
         return Way::Stay;
@@ -138,7 +139,7 @@ fn child(book: &[u8], nodes: usize, question: &[u8], v: usize) -> Way
 // The way down from the root.
 fn descend(book: &[u8], nodes: usize, question: &[u8]) -> Descent
     requires { ⌜ Searchable plain (now book) nodes ⌝ }
-    ensures { λ r. ⌜ Descended (wordsIn plain (now (book .entry))) (asked plain (now (question .entry))) (r .path) (r .len) (r .last) ⌝ }
+    ensures { λ r. ⌜ Descended (wordsOf plain (now (book .entry))) (asked plain (now (question .entry))) (r .path) (r .len) (r .last) ⌝ }
 {
     let mut path = [0u16; 202];
     let mut n: usize = 1;
@@ -166,7 +167,7 @@ fn descend(book: &[u8], nodes: usize, question: &[u8]) -> Descent
 // the compiler copies it twice where it is indexed in there.
 fn highest(book: &[u8], nodes: usize, way: Descent, shared: usize) -> usize
     requires { ⌜ OnPath (now book) nodes (way .path) (way .len) ⌝ }
-    ensures { λ r. ⌜ Highest (wordsIn plain (now (book .entry))) (way .path) (way .len) shared r ⌝ }
+    ensures { λ r. ⌜ Highest (wordsOf plain (now (book .entry))) (way .path) (way .len) shared r ⌝ }
 {
     let path = way.path;
     let len = way.len;
@@ -184,8 +185,8 @@ fn highest(book: &[u8], nodes: usize, way: Descent, shared: usize) -> usize
 
 // The name at a position, rebuilt, and how it stands to the question.
 fn meet(book: &[u8], k: usize, position: usize, question: &[u8]) -> Met
-    requires { ⌜ NameAsk (now book) k position ⌝ }
-    ensures { λ r. ⌜ MetSays (wordsIn plain (now (book .entry))) (asked plain (now (question .entry))) position (r .shared) (r .symbol) ⌝ }
+    requires { ⌜ PositionAsk (now book) k position ⌝ }
+    ensures { λ r. ⌜ MetSays (wordsOf plain (now (book .entry))) (asked plain (now (question .entry))) position (r .shared) (r .symbol) ⌝ }
 {
     let entry = names::read_name(book, k, position);
     let name = entry.name;
@@ -198,7 +199,7 @@ fn meet(book: &[u8], k: usize, position: usize, question: &[u8]) -> Met
 // The position that the question reaches.
 fn reach(book: &[u8], nodes: usize, question: &[u8]) -> usize
     requires { ⌜ Searchable plain (now book) nodes ⌝ }
-    ensures { λ r. ⌜ Reached (wordsIn plain (now (book .entry))) (asked plain (now (question .entry))) r ⌝ }
+    ensures { λ r. ⌜ Reached (wordsOf plain (now (book .entry))) (asked plain (now (question .entry))) r ⌝ }
 {
     let way = descend(book, nodes, question);
     first_of(book, nodes, way.last)
@@ -207,7 +208,7 @@ fn reach(book: &[u8], nodes: usize, question: &[u8]) -> usize
 // The node with the names that share most with the question.
 fn locate(book: &[u8], k: usize, nodes: usize, question: &[u8]) -> Spot
     requires { ⌜ Askable (now book) k nodes ⌝ }
-    ensures { λ r. ⌜ SpotSays (wordsIn plain (now (book .entry))) (asked plain (now (question .entry))) (r .node) (r .shared) (r .symbol) ⌝ }
+    ensures { λ r. ⌜ SpotSays (wordsOf plain (now (book .entry))) (asked plain (now (question .entry))) (r .node) (r .shared) (r .symbol) ⌝ }
 {
     let way = descend(book, nodes, question);
     let position = first_of(book, nodes, way.last);
@@ -224,7 +225,7 @@ fn locate(book: &[u8], k: usize, nodes: usize, question: &[u8]) -> Spot
 // question stands before the first child whose symbol is not below its own, or behind the group.
 fn seat(book: &[u8], nodes: usize, question: &[u8], spot: Spot) -> usize
     requires { ⌜ AtSpot (now book) nodes (now question) (spot .node) (spot .shared) (spot .symbol) ⌝ }
-    ensures { λ r. ⌜ r ≡ place (asked plain (now (question .entry))) (wordsIn plain (now (book .entry))) ⌝ }
+    ensures { λ r. ⌜ r ≡ place (asked plain (now (question .entry))) (wordsOf plain (now (book .entry))) ⌝ }
 {
     let v = spot.node;
     let shared = spot.shared;
@@ -247,7 +248,7 @@ fn seat(book: &[u8], nodes: usize, question: &[u8], spot: Spot) -> usize
 // (position, 1) where a name equals the question, else (0, 0).
 fn ask_exact(book: &[u8], k: usize, nodes: usize, question: &[u8]) -> Pair
     requires { ⌜ Askable (now book) k nodes ⌝ }
-    ensures { λ r. ⌜ pairOf r ≡ exact (asked plain (now (question .entry))) (wordsIn plain (now (book .entry))) ⌝ }
+    ensures { λ r. ⌜ pairOf r ≡ exact (asked plain (now (question .entry))) (wordsOf plain (now (book .entry))) ⌝ }
 {
     let position = reach(book, nodes, question);
     let met = meet(book, k, position, question);
@@ -272,7 +273,7 @@ fn ask_exact(book: &[u8], k: usize, nodes: usize, question: &[u8]) -> Pair
 // (how many names are less, 0).
 fn ask_place(book: &[u8], k: usize, nodes: usize, question: &[u8]) -> Pair
     requires { ⌜ Askable (now book) k nodes ⌝ }
-    ensures { λ r. ⌜ pairOf r ≡ (place (asked plain (now (question .entry))) (wordsIn plain (now (book .entry))), 0) ⌝ }
+    ensures { λ r. ⌜ pairOf r ≡ (place (asked plain (now (question .entry))) (wordsOf plain (now (book .entry))), 0) ⌝ }
 {
     let spot = locate(book, k, nodes, question);
     Pair {
@@ -284,7 +285,7 @@ fn ask_place(book: &[u8], k: usize, nodes: usize, question: &[u8]) -> Pair
 // (the question's place, how many names begin with it).
 fn ask_range(book: &[u8], k: usize, nodes: usize, question: &[u8]) -> Pair
     requires { ⌜ Askable (now book) k nodes ⌝ }
-    ensures { λ r. ⌜ pairOf r ≡ range (asked plain (now (question .entry))) (wordsIn plain (now (book .entry))) ⌝ }
+    ensures { λ r. ⌜ pairOf r ≡ range (asked plain (now (question .entry))) (wordsOf plain (now (book .entry))) ⌝ }
 {
     let spot = locate(book, k, nodes, question);
     let first = seat(book, nodes, question, spot);
@@ -298,7 +299,7 @@ fn ask_range(book: &[u8], k: usize, nodes: usize, question: &[u8]) -> Pair
 // (the position reached, the bytes that its name and the question share).
 fn ask_nearest(book: &[u8], k: usize, nodes: usize, question: &[u8]) -> Pair
     requires { ⌜ Askable (now book) k nodes ⌝ }
-    ensures { λ r. ⌜ pairOf r ≡ nearest (asked plain (now (question .entry))) (wordsIn plain (now (book .entry))) ⌝ }
+    ensures { λ r. ⌜ pairOf r ≡ nearest (asked plain (now (question .entry))) (wordsOf plain (now (book .entry))) ⌝ }
 {
     let position = reach(book, nodes, question);
     let met = meet(book, k, position, question);
@@ -311,7 +312,7 @@ fn ask_nearest(book: &[u8], k: usize, nodes: usize, question: &[u8]) -> Pair
 // A question of a kind by its number, 1 to 4 in this order.
 pub fn answer(book: &[u8], k: usize, kind: usize, question: &[u8]) -> Pair
     requires { ⌜ KindAsk (now book) k kind ⌝ }
-    ensures { λ r. ⌜ pairOf r ≡ ask kind (asked plain (now (question .entry))) (wordsIn plain (now (book .entry))) ⌝ }
+    ensures { λ r. ⌜ pairOf r ≡ ask kind (asked plain (now (question .entry))) (wordsOf plain (now (book .entry))) ⌝ }
 {
     let at = book.len() - 16;
     let nodes = numbers::number_at(book, at + 6);

@@ -18,16 +18,17 @@ use Rattle.words.specs.Words.{Bytes, at, nth, plain, word}
 use Rattle.words.proofs.Rising.{nth-word}
 use Rattle.words.proofs.Words.{Sides, before, behind, level, sides}
 use Rattle.format.specs.Records.{longest}
-use Rattle.streams.specs.Streams.{EntryAt, Here, Known, Stream, entry, entryEnd, nameAt, namesOf, offsetAt, offsetFrom, prevOf, restAt, wordsOf}
+use Rattle.format.specs.Book.{namesOf, wordsOf}
+use Rattle.streams.specs.Streams.{EntryAt, Here, Known, Stream, entry, entryEnd, nameAt, offsetAt, offsetFrom, prevOf, restAt}
 use Rattle.streams.proofs.Places.{offset-next, stream-at}
 
 -- ---- words
 
-pub words-count : (b : Bytes) → length (wordsOf b) ≡ length (namesOf b)
+pub words-count : (b : Bytes) → length (wordsOf plain b) ≡ length (namesOf b)
 unfolding wordsOf
 words-count b = length-map (namesOf b) (word plain)
 
-pub words-nth : (b : Bytes) (i : ℕ) → nth (wordsOf b) i ≡ word plain (getD (namesOf b) i [])
+pub words-nth : (b : Bytes) (i : ℕ) → nth (wordsOf plain b) i ≡ word plain (getD (namesOf b) i [])
 unfolding wordsOf
 words-nth b i = nth-word plain (namesOf b) i
 
@@ -57,19 +58,19 @@ module _ (b : Bytes) (i a : ℕ) (k : Known b) (h : Here b i a) (l : i < length 
   front-length : length (take (getD b a 0) (prevOf (namesOf b) i)) ≡ getD b a 0
   front-length = rw length-take (omega (arith, comes .stands .shares))
 
-  pub here-symbol : (d s : ℕ) → getD b a 0 ≤ d → s ≡ at (word plain (restAt b a)) (d - getD b a 0) → s ≡ at (nth (wordsOf b) i) d
+  pub here-symbol : (d s : ℕ) → getD b a 0 ≤ d → s ≡ at (word plain (restAt b a)) (d - getD b a 0) → s ≡ at (nth (wordsOf plain b) i) d
   here-symbol d s m e =
       let z : length (take (getD b a 0) (prevOf (namesOf b) i)) + (d - getD b a 0) ≡ d = omega (arith, front-length) in
       e ∙ sym (past (take (getD b a 0) (prevOf (namesOf b) i)) (restAt b a) (d - getD b a 0))
       ∙ ap₂ (λ (x : Bytes) (n : ℕ). at (word plain x) n) (comes .named) z ∙ sym (ap (λ (w : List ℕ). at w d) (words-nth b i))
 
-  pub here-length : getD b a 0 + getD b (a + 1) 0 ≡ length (nth (wordsOf b) i)
+  pub here-length : getD b a 0 + getD b (a + 1) 0 ≡ length (nth (wordsOf plain b) i)
   here-length =
       sym (ap length (words-nth b i) ∙ length-map (getD (namesOf b) i []) plain ∙ ap length (sym (comes .named))
       ∙ length-append (take (getD b a 0) (prevOf (namesOf b) i)) (restAt b a)
       ∙ omega (arith, front-length, length-take (getD b (a + 1) 0) (drop (a + 2) b), length-drop (a + 2) b, here-fits))
 
-pub name-short : (b : Bytes) (i : ℕ) → Known b → i < length (namesOf b) → length (nth (wordsOf b) i) ≤ longest
+pub name-short : (b : Bytes) (i : ℕ) → Known b → i < length (namesOf b) → length (nth (wordsOf plain b) i) ≤ longest
 name-short b i k l = omega (arith, here-length b i (offsetAt b i) k refl l, (comes b i (offsetAt b i) k refl l) .stands .short)
 
 pub here-next : (b : Bytes) (i a : ℕ) → Here b i a → Here b (suc i) (entryEnd b a)

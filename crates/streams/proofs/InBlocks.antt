@@ -10,10 +10,10 @@ use mathlib.Core.List.{List, [], _∷_}
 use lib.ListN.{drop, getD, length, length-drop, length-take, take}
 use lib.Seq.{drop-drop, getD-drop, getD-take, length-take-le}
 use Rattle.words.specs.Words.{Bytes, shared}
-use Rattle.format.specs.Book.{longestBook, number, trailerSize}
+use Rattle.format.specs.Book.{longestBook, number, trailerSize, namesOf}
 use Rattle.format.specs.Entries.{front}
 use Rattle.streams.specs.Runs.{Frame, Has, Rest, Run, more}
-use Rattle.streams.specs.Streams.{InBlocks, namesOf, offsetAt, offsetFrom}
+use Rattle.streams.specs.Streams.{InBlocks, offsetAt, offsetFrom}
 use Rattle.streams.proofs.Blocks.{rest-first}
 use Rattle.streams.proofs.Places.{offset-add, run-end, run-next-count}
 use Rattle.streams.proofs.Walks.{has-names}

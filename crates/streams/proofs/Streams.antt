@@ -16,13 +16,13 @@ use lib.Seq.{getD-drop, drop-drop, take-at, drop-at, take-append-seam}
 use Rattle.words.specs.Words.{All, Bytes, Rises, cons, plain, shared, word}
 use Rattle.words.proofs.Lists.{all-left, all-map, all-right}
 use Rattle.words.proofs.Words.{plain-lawful, shared-comm, shared-le, take-shared}
-use Rattle.format.specs.Book.{entryPart, joined, longestBook, number, trailerSize}
+use Rattle.format.specs.Book.{entryPart, joined, longestBook, number, trailerSize, namesOf, wordsOf}
 use Rattle.format.specs.Entries as format
 use Rattle.format.specs.Entries.{blocks, blocksFrom, decode, front}
 use Rattle.format.specs.Records.{longest, mostNames, sound}
 use Rattle.format.proofs.Entries.{decode-entries, joined-blocks, joinedNames}
 use Rattle.format.proofs.Records.{rising-sizes, sound-few, sound-rises, sound-rising}
-use Rattle.streams.specs.Streams.{EntryAt, Known, Stream, done, entry, namesOf, wordsOf}
+use Rattle.streams.specs.Streams.{EntryAt, Known, Stream, done, entry}
 
 -- what stands at an offset, taken apart
 pub record Cut (b : Bytes) (o c : ℕ) (r t : Bytes) : Type 0 where

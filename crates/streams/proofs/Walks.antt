@@ -23,11 +23,11 @@ use lib.Seq.{take-at, drop-at, take-nil}
 use borrow.Author.Tests.{le-leb, lt-leb, lt-ltb, le-ltb}
 use Rattle.words.specs.Words.{Bytes, InBytes, at, less, plain, shared, word}
 use Rattle.words.proofs.Words.{at-past, less-by, word-at}
-use Rattle.format.specs.Book.{entryPart, longestBook, number, trailerSize}
+use Rattle.format.specs.Book.{entryPart, longestBook, number, trailerSize, namesOf}
 use Rattle.format.specs.Entries.{front}
 use Rattle.format.specs.Records.{longest, mostNames, sound}
 use Rattle.streams.specs.Runs.{Frame, Has, Rest, Run, RunTo, Step, done, endOf, lastOf, more}
-use Rattle.streams.specs.Streams.{EntryAt, Known, entryEnd, nameAt, namesOf}
+use Rattle.streams.specs.Streams.{EntryAt, Known, entryEnd, nameAt}
 use Rattle.streams.proofs.Blocks.{FirstBlock, none-rest, rest-first, rest-join, rest-none}
 use Rattle.streams.proofs.Fronts.{both-are, run-unique}
 use Rattle.streams.proofs.Streams.{known, names-are}

@@ -4,18 +4,16 @@
 --     restAt, lengthAt  what the entry at an offset adds to the name before it; its name's length
 --     offsetAt, Here    where entry number i stands; the entry of name i stands there
 --     prevOf            the name before name i, and none before the first
---     namesOf, wordsOf  the names that `opened` reads, and their words
 --     Known             what a walk over the entries has shown of them
 --     InBlocks          they stand in blocks, each from its offset in the block table on, its first name whole and every other with what
 --                       it shares with the name before it as its count
 -- The laws are in proofs/Streams.antt, proofs/Places.antt, proofs/InBlocks.antt and proofs/Rereading.antt. Assumes nothing: these are definitions.
-use Prim.Native.Nat.{ℕ, zero, suc, _+_, _-_, _*_, _<_, _≤_}
+use Prim.Native.Nat.{ℕ, zero, suc, _+_, _*_, _<_, _≤_}
 use mathlib.Core.Path.{_≡_}
-use mathlib.Core.List.{List, [], _++_, _∷_, map}
+use mathlib.Core.List.{List, [], _++_, _∷_}
 use lib.ListN.{drop, getD, length, take}
-use Rattle.words.specs.Words.{Bytes, Rises, Words, plain, shared, word}
-use Rattle.format.specs.Book.{longestBook, number, trailerSize}
-use Rattle.format.specs.Entries.{decode}
+use Rattle.words.specs.Words.{Bytes, Rises, plain, shared}
+use Rattle.format.specs.Book.{longestBook, namesOf, number, wordsOf}
 use Rattle.format.specs.Records.{longest, mostNames}
 
 abbrev pub nameAt : Bytes → ℕ → Bytes → Bytes
@@ -59,16 +57,10 @@ abbrev pub prevOf : List Bytes → ℕ → Bytes
 prevOf xs zero = []
 prevOf xs (suc i) = getD xs i []
 
-unfoldable pub namesOf : Bytes → List Bytes
-namesOf b = decode (take (number b (length b - trailerSize + 4)) b)
-
-unfoldable pub wordsOf : Bytes → Words
-wordsOf b = map (word plain) (namesOf b)
-
 pub record Known (b : Bytes) : Type 0 where
   pub short : length b ≤ longestBook
   pub few : length (namesOf b) ≤ mostNames
-  pub rises : Rises (wordsOf b)
+  pub rises : Rises (wordsOf plain b)
   pub stream : Stream b 0 [] (namesOf b)
 
 -- blocks of k names, whose offsets stand from s on

@@ -5,7 +5,7 @@ use mathlib.Core.Path.{_≡_, refl}
 use mathlib.Core.List.{[], _∷_, map}
 use lib.ListN.{length}
 use Rattle.words.specs.Words.{Bytes, begins, less, plain, same, shared}
-use Rattle.format.specs.Book.{allFields, blockPart, book, entryPart, fits, joined, nodePart, number, numbers, opened, trailer}
+use Rattle.format.specs.Book.{allFields, blockPart, book, entryPart, fits, joined, namesOf, nodePart, number, numbers, opened, trailer}
 use Rattle.format.specs.Entries.{blocks, blocksFrom, decode, decodeFrom, entry, front, offsets}
 use Rattle.format.specs.Nodes.{depth, glue, groups, nodeTable, rowOf, table, tableWithin}
 use Rattle.format.specs.Records.{rising, sound}
@@ -29,5 +29,5 @@ abbrev listed : Marked → Answer
 listed a = given (a .2 .0) (a .2 .1)
 
 pub example-rows : map asked marked ≡ map listed marked
-unfolding shared less begins same depth glue groups rowOf tableWithin nodeTable table numbers joined entry blocksFrom front blocks offsets entryPart blockPart allFields nodePart trailer book decodeFrom decode number rising sound fits opened childOf reachWithin reached count exactFrom exact place range nearest ask answer questionOf question
+unfolding shared less begins same depth glue groups rowOf tableWithin nodeTable table numbers joined entry blocksFrom front blocks offsets entryPart blockPart allFields nodePart trailer book decodeFrom decode number rising sound fits namesOf opened childOf reachWithin reached count exactFrom exact place range nearest ask answer questionOf question
 example-rows = refl

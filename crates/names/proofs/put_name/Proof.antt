@@ -3,7 +3,7 @@
 use mathlib.Core.List.{[]}
 use lib.ListN.{getD}
 use borrow.Author.Needs.{needs}
-use Rattle.streams.specs.Streams.{namesOf}
+use Rattle.format.specs.Book.{namesOf}
 use Rattle.names.specs.Names.{Named}
 use Rattle.names.proofs.Rebuilding.{front-is, put-all, put-short}
 use Rattle.names.proofs.put_name.Statement.{statement}

@@ -5,14 +5,15 @@ use Prim.Native.Nat.{_-_}
 use native.Mathlib.Omega.{arith}
 use borrow.Author.Needs.{needs}
 use Rattle.words.specs.Words.{plain}
-use Rattle.descent.specs.Vocabulary.{Seeking, wordsIn}
+use Rattle.format.specs.Book.{wordsOf}
+use Rattle.descent.specs.Vocabulary.{Seeking}
 use Rattle.descent.proofs.Rows.{seek-end, seek-found, seek-more, seek-start}
 use Rattle.search.proofs.Ways.{seek-next, seek-less}
 use Rattle.search.proofs.seek.Statement.{statement}
 use Rattle.search.proofs.seek.Tie as tie
 
 abbrev Inv-loop : tie.InvT-loop
-Inv-loop book nodes v s end c₀ c = Seeking (wordsIn plain book) v s c
+Inv-loop book nodes v s end c₀ c = Seeking (wordsOf plain book) v s c
 
 abbrev μ-loop : tie.MeasureT-loop
 μ-loop book nodes v s end c₀ c = end - c
