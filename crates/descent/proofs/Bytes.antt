@@ -1,22 +1,26 @@
 -- Every book with names meets what a search asks: opening it gives `Searchable`.
 --     book-searchable, opened-searchable
 -- Assumes nothing.
-use Prim.Native.Nat.{ℕ, _+_, _*_, _≤_, _<_}
+use Prim.Native.Nat.{ℕ, _≤_, _<_}
 use native.Mathlib.Omega.{arith}
-use mathlib.Core.Path.{_≡_, sym, ap, ap₂, _∙_, subst}
+use mathlib.Core.Path.{_≡_, sym, ap, _∙_, subst}
 use mathlib.Core.Bool.{true}
 use mathlib.Core.List.{List, [], _∷_, _++_, map, append-assoc}
-use lib.ListN.{length, getD, length-append, length-map}
+use lib.ListN.{drop, length, length-append, length-map, take}
+use lib.Seq.{drop-at, slice, take-at}
 use Rattle.words.specs.Words.{All, Bytes, InBytes, Lawful, Rises, Rule, Words, cons, nil, nth, word}
-use Rattle.words.proofs.Lists.{all-at}
-use Rattle.format.specs.Book.{Book, allFields, blockPart, book, entryPart, fits, mark, nodePart, nodeSize, number, numbers, opened, wordsOf}
-use Rattle.format.specs.Nodes.{Node, table}
+use Rattle.format.specs.Book.{Book, allFields, blockPart, book, entryPart, fits, mark, nodePart, numbers, opened, wordsOf}
+use Rattle.format.specs.Nodes.{table}
 use Rattle.format.specs.Records.{longest, mostNames, sound}
-use Rattle.format.proofs.Book.{Fits, book-length, book-opened, book-parts, fields-length, fits-parts, nodesAt, read-field, read-names, trailerNumbers}
-use Rattle.format.proofs.Numbers.{number-past, numbers-at, numbers-length, word-high}
+use Rattle.format.proofs.Book.{Fits, book-length, book-opened, book-parts, fits-parts, nodesAt, read-field, read-names, records, trailerAt, trailerNumbers}
+use Rattle.format.proofs.Numbers.{word-high}
 use Rattle.format.proofs.Records.{rising-sizes, sound-few, sound-rises, sound-rising, word-short}
-use Rattle.format.proofs.Small.{Modest, fields-at, names-bytes, table-small}
+use Rattle.format.proofs.Small.{Modest, names-bytes, table-small}
 use Rattle.format.proofs.Spans.{table-few}
+use Rattle.standing.specs.Maps.{inRows, rowsAt}
+use Rattle.standing.specs.Stands.{Stands}
+use Rattle.standing.proofs.Bytes.{bytes-stand}
+use Rattle.standing.proofs.Records.{Told, stands-at}
 use Rattle.descent.specs.Vocabulary.{NodesAt, Searchable, noNode, node, startIn}
 
 -- names of bytes give words of small symbols
@@ -39,26 +43,32 @@ module _ (ρ : Rule) (ok : Lawful ρ) (k : ℕ) (xs : List Bytes) (fit : fits ρ
   small : All Modest (map (word ρ) xs)
   small = modest ρ ok xs (rising-sizes ρ [] xs (sound-rising ρ xs (f .sound))) (names-bytes ρ k xs f bytes)
 
-  table-at : NodesAt (book ρ k xs) (nodesAt ρ k xs) (map (word ρ) xs)
-  unfolding node nodePart
-  table-at =
+  -- the node table's bytes, by the layout
+  part : slice (nodesAt ρ k xs) (trailerAt ρ k xs) (book ρ k xs) ≡ nodePart (records ρ k xs)
+  part =
       let es : Bytes = entryPart k xs in
       let bs : Bytes = blockPart k xs in
-      let rs : List Node = table (map (word ρ) xs) in
+      let ns : Bytes = nodePart (records ρ k xs) in
       let end : Bytes = numbers (trailerNumbers ρ k xs) ++ mark in
-      let split : book ρ k xs ≡ (es ++ bs) ++ (numbers (allFields rs) ++ end) = book-parts ρ k xs ∙ sym (append-assoc es bs (numbers (allFields rs) ++ end)) in
-      record {
-        room = omega (arith, book-length ρ k xs, numbers-length (allFields rs), fields-length rs);
-        field = λ v j h l.
-            let o : nodesAt ρ k xs + v * nodeSize + 2 * j ≡ length (es ++ bs) + 2 * (5 * v + j) = omega (arith, length-append es bs) in
-            let i : 5 * v + j < length (allFields rs) = omega (arith, fields-length rs) in
-            let e : number (book ρ k xs) (nodesAt ρ k xs + v * nodeSize + 2 * j) ≡ getD (allFields rs) (5 * v + j) 0 =
-            ap₂ number split o ∙ number-past (es ++ bs) (numbers (allFields rs) ++ end) (2 * (5 * v + j))
-            ∙ numbers-at (allFields rs) end (5 * v + j) i (all-at 0 (allFields rs) (table-small (map (word ρ) xs) up small (omega (arith, count, sound-few ρ xs (f .sound)))) (5 * v + j) i) in
-            e ∙ fields-at rs noNode v j h l;
-      }
+      let split : book ρ k xs ≡ ((es ++ bs) ++ ns) ++ end = book-parts ρ k xs ∙ simp append-assoc in
+      let front : length (es ++ bs) ≡ nodesAt ρ k xs = length-append es bs in
+      ap (λ (s : Bytes). drop (nodesAt ρ k xs) (take (trailerAt ρ k xs) s)) split
+      ∙ ap (drop (nodesAt ρ k xs)) (take-at ((es ++ bs) ++ ns) end (trailerAt ρ k xs) (omega (arith, length-append (es ++ bs) ns)))
+      ∙ drop-at (es ++ bs) ns (nodesAt ρ k xs) front
 
-  pub book-searchable : Searchable ρ (book ρ k xs) (startIn (book ρ k xs))
+  stood : Stands inRows (book ρ k xs) (nodesAt ρ k xs) (records ρ k xs) (trailerAt ρ k xs)
+  stood =
+      let fields : All (λ n. n < 65536) (allFields (records ρ k xs)) = table-small (map (word ρ) xs) up small (omega (arith, count, sound-few ρ xs (f .sound))) in
+      bytes-stand (book ρ k xs) (records ρ k xs) (nodesAt ρ k xs) (trailerAt ρ k xs) (omega arith) (omega (arith, book-length ρ k xs)) fields part
+
+  table-at : NodesAt (rowsAt (nodesAt ρ k xs)) (book ρ k xs) (map (word ρ) xs)
+  unfolding node
+  table-at = record { room = λ v h. node-at v h .room; told = λ v h. node-at v h .told }
+    where
+      node-at : (v : ℕ) → v < length (records ρ k xs) → Told inRows (book ρ k xs) (records ρ k xs) (nodesAt ρ k xs) v noNode
+      node-at v h = stands-at inRows (book ρ k xs) (records ρ k xs) (nodesAt ρ k xs) (trailerAt ρ k xs) v noNode stood h
+
+  pub book-searchable : Searchable ρ (book ρ k xs) (rowsAt (startIn (book ρ k xs)))
   unfolding wordsOf startIn
   book-searchable =
       let names : wordsOf ρ (book ρ k xs) ≡ map (word ρ) xs = ap (map (word ρ)) (read-names ρ k xs f) in
@@ -70,11 +80,11 @@ module _ (ρ : Rule) (ok : Lawful ρ) (k : ℕ) (xs : List Bytes) (fit : fits ρ
         few = omega arith;
         small = omega (arith, ap (λ (vs : Words). length (table vs)) names, table-few (map (word ρ) xs) up (omega (arith, count)), count);
         short = subst (λ (vs : Words). (i : ℕ) → length (nth vs i) ≤ longest) (sym names) (word-short ρ xs (f .sound));
-        table = subst (λ (vs : Words). NodesAt (book ρ k xs) (startIn (book ρ k xs)) vs) (sym names) (rw (read-field ρ k xs f 3 (omega arith)) table-at);
+        table = subst (λ (vs : Words). NodesAt (rowsAt (startIn (book ρ k xs))) (book ρ k xs) vs) (sym names) (rw (read-field ρ k xs f 3 (omega arith)) table-at);
       }
 
 -- bytes that open as a book with names
-pub opened-searchable : (ρ : Rule) → Lawful ρ → (s : Bytes) (k : ℕ) (xs : List Bytes) → opened ρ s ≡ Book k xs → InBytes s → 0 < length xs → Searchable ρ s (startIn s)
+pub opened-searchable : (ρ : Rule) → Lawful ρ → (s : Bytes) (k : ℕ) (xs : List Bytes) → opened ρ s ≡ Book k xs → InBytes s → 0 < length xs → Searchable ρ s (rowsAt (startIn s))
 opened-searchable ρ ok s k xs e bytes some =
     let b = book-opened ρ s k xs e in
-    subst (λ (t : Bytes). Searchable ρ t (startIn t)) (b .1) (book-searchable ρ ok k xs (b .0) (subst InBytes (sym (b .1)) bytes) some)
+    subst (λ (t : Bytes). Searchable ρ t (rowsAt (startIn t))) (b .1) (book-searchable ρ ok k xs (b .0) (subst InBytes (sym (b .1)) bytes) some)

@@ -9,7 +9,7 @@
 --     Highest, Found       the highest node of a path that is deep enough; it holds the names that share reached-most with q
 --     Group                the names from lo up to hi are those that share the reached-most, n symbols, with q
 --     asked                the word of a question; shut, so that it can be inferred
---     NodesAt, Searchable  bytes hold the fields of a table; what every step of a search asks of its book
+--     NodesAt, Searchable  bytes hold the records of a table; what every step of a search asks of its book
 -- Laws: Cuts, Reach, Rows, Paths, Bytes. Assumes nothing: these are definitions.
 use Prim.Native.Nat.{ℕ, _+_, _-_, _*_, _≤_, _<_, suc, pred}
 use mathlib.Core.Path.{_≡_}
@@ -17,10 +17,11 @@ use mathlib.Core.Logic.{_⊎_}
 use mathlib.Core.List.{List, _++_}
 use lib.ListN.{length, getD, drop}
 use Rattle.words.specs.Words.{Bytes, Rises, Rule, Words, at, nth, shared, span, word}
-use Rattle.format.specs.Book.{fields, nodeSize, number, trailerSize, wordsOf}
+use Rattle.format.specs.Book.{number, trailerSize, wordsOf}
 use Rattle.format.specs.Nodes.{Node, nodeTable, rowTable, table}
 use Rattle.format.specs.Records.{longest, mostNames}
 use Rattle.format.proofs.Groups.{Ranked}
+use Rattle.standing.specs.Maps.{Map, Roomy, nodeIn, recordAt}
 use Rattle.answers.specs.Questions.{reachWithin, reached}
 
 -- past the table's end
@@ -167,19 +168,19 @@ pub record Located (ws : Words) (q : List ℕ) (n v : ℕ) : Type 0 where
 unfoldable pub asked : Rule → Bytes → List ℕ
 asked ρ q = word ρ q
 
--- field j of node v stands at start + v * 10 + 2 * j
-pub record NodesAt (s : Bytes) (start : ℕ) (ws : Words) : Type 0 where
-  pub room : start + length (table ws) * nodeSize ≤ length s
-  pub field : (v j : ℕ) → v < length (table ws) → j < 5 → number s (start + v * nodeSize + 2 * j) ≡ getD (fields (node ws v)) j 0
+-- each node's record stands where the map says
+pub record NodesAt (μ : Map) (s : Bytes) (ws : Words) : Type 0 where
+  pub room : (v : ℕ) → v < length (table ws) → Roomy μ s (nodeIn μ v)
+  pub told : (v : ℕ) → v < length (table ws) → recordAt μ s (nodeIn μ v) ≡ node ws v
 
--- a book with names, its node table at `start`
-pub record Searchable (ρ : Rule) (s : Bytes) (start : ℕ) : Type 0 where
+-- a book with names, its node table by that map
+pub record Searchable (ρ : Rule) (s : Bytes) (μ : Map) : Type 0 where
   pub rises : Rises (wordsOf ρ s)
   pub some : 0 < length (wordsOf ρ s)
   pub few : length (wordsOf ρ s) ≤ mostNames
   pub small : length (table (wordsOf ρ s)) < 2 * mostNames
   pub short : (i : ℕ) → length (nth (wordsOf ρ s) i) ≤ longest
-  pub table : NodesAt s start (wordsOf ρ s)
+  pub table : NodesAt μ s (wordsOf ρ s)
 
 -- where a book's trailer says that its node table starts
 unfoldable pub startIn : Bytes → ℕ

@@ -2,7 +2,6 @@
 --     entry-not, entry-is       the last test of an entry
 --     Pasted, name-read, name-size     the cursor
 --     Held, held-..             the loop over a block, with its buffer
---     shared-bytes, Alike       the loop over what two names share
 --     next-..                   a block and the name before it
 --     Reached                   the loop to a name that is read back
 -- Assumes nothing.
@@ -15,8 +14,8 @@ use mathlib.Core.List.{List, [], _∷_}
 use lib.ListN.{length, getD, take, drop, set, length-take, length-drop, length-set}
 use lib.Seq.{paste, paste-zero, paste-suc, take-paste, length-paste, getD-drop, take-take, drop-drop}
 use borrow.Author.Tests.{not-false, not-true}
-use Rattle.words.specs.Words.{Bytes, less, plain, shared, word}
-use Rattle.words.proofs.Words.{false≠true, part-at, plain-injective, shared-comm, shared-le, shared-more, shared-word}
+use Rattle.words.specs.Words.{Bytes, less, plain, word}
+use Rattle.words.proofs.Words.{false≠true}
 use Rattle.streams.specs.Streams.{EntryAt, Stream, entry, entryEnd, nameAt}
 use Rattle.streams.specs.Runs.{Step}
 use Rattle.streams.proofs.Walks.{Blocked, blocked-apart, blocked-bad, blocked-done, blocked-entry, blocked-more, blocked-start, first-name, not-above, run-first, step-is}
@@ -113,29 +112,6 @@ module _ {b : Bytes} {e o₀ m o : ℕ} {name : Bytes} {len left : ℕ} (w : Hel
 
   pub held-done : left ≤ 0 → o ≡ e → BlockSays b o₀ e m true name len
   held-done h q = blocked-done b e o₀ m o (take len name) left (w .blocked) h q
-
--- ---- what two names share
-
-pub shared-bytes : (a c : Bytes) → shared (word plain a) (word plain c) ≡ shared a c
-shared-bytes a c = shared-word plain plain-injective a c
-
-pub record Alike (a c : Bytes) (i : ℕ) : Type 0 where
-  pub low : i ≤ length a
-  pub shares : i ≤ shared a c
-
-module _ (a c : Bytes) where
-  module _ (i : ℕ) (k : Alike a c i) where
-    pub alike-more : i < length a → i < length c → getD a i 0 ≡ getD c i 0 → Alike a c (i + 1)
-    alike-more h g e = record { low = omega arith; shares = omega (arith, shared-more a c i (k .shares) h g e) }
-
-    pub alike-other : (getD a i 0 ≡ getD c i 0 → ⊥) → i ≡ shared (word plain a) (word plain c)
-    alike-other n = sym (shared-bytes a c ∙ part-at a c i (k .shares) n)
-
-    pub alike-left : length a ≤ i → i ≡ shared (word plain a) (word plain c)
-    alike-left h = omega (arith, k .shares, shared-le a c, shared-bytes a c)
-
-    pub alike-right : length c ≤ i → i ≡ shared (word plain a) (word plain c)
-    alike-right h = omega (arith, k .shares, shared-le c a, shared-comm a c, shared-bytes a c)
 
 -- ---- a block and the name before it
 

@@ -4,7 +4,6 @@ ghost use mathlib.Core.Path.{_≡_};
 ghost use Prim.Native.Nat.{_+_, _<_, _≤_};
 ghost use lib.ListN.{drop, length, take};
 ghost use lib.Seq.{paste};
-ghost use Rattle.words.specs.Words.{less, plain, shared, word};
 ghost use Rattle.streams.specs.Streams.{EntryAt};
 ghost use Rattle.streams.specs.Runs.{Frame, endOf};
 ghost use Rattle.entries.specs.Judging.{BlockSays, EntrySays, NameIs, NameRead, NextSays, ReadAsk, WalkSays};
@@ -133,40 +132,6 @@ fn block_end(book: &[u8], k: usize, s: usize, t: usize, left: usize) -> usize
     numbers::number_at(book, t + 2)
 }
 
-// How many leading symbols two names share. Equal bytes have equal symbols, and no others have.
-pub fn shared_symbols(a: &[u8], b: &[u8]) -> usize
-    ensures { λ r. ⌜ r ≡ shared (word plain (now (a .entry))) (word plain (now (b .entry))) ⌝ }
-{
-    let mut i: usize = 0;
-    while i < a.len() {
-        if b.len() <= i {
-            return i;
-        }
-        if a[i] != b[i] {
-            return i;
-        }
-        i += 1;
-    }
-    i
-}
-
-// Whether a name is above prev, with which it shares that many symbols.
-fn is_above(prev: &[u8], name: &[u8], shares: usize) -> bool
-    requires { ⌜ shares ≡ shared (word plain (now prev)) (word plain (now name)) ⌝ }
-    ensures { λ r. ⌜ r ≡ less (word plain (now (prev .entry))) (word plain (now (name .entry))) ⌝ }
-{
-    if name.len() <= shares {
-        return false;
-    }
-    if prev.len() <= shares {
-        return true;
-    }
-    if name[shares] <= prev[shares] {
-        return false;
-    }
-    true
-}
-
 // Whether a block of m names stands from an offset to `end`, its first name above the first `before` bytes of the lent name, whose place
 // its last name takes. So the first name, which its entry has whole, is compared before the block is gone over.
 fn next_block(
@@ -185,8 +150,8 @@ fn next_block(
     }
     let from = start + 2;
     let to = from + numbers::wide(book[start + 1]);
-    let shares = shared_symbols(&name[0..before], &book[from..to]);
-    if !is_above(&name[0..before], &book[from..to], shares) {
+    let shares = symbols::shared_symbols(&name[0..before], &book[from..to]);
+    if !symbols::is_above(&name[0..before], &book[from..to], shares) {
         return Last { ok: false, len: 0 };
     }
     check_block(book, start, end, m, name)

@@ -3,6 +3,7 @@
 --     low-byte, high-byte        the two bytes that tell a number
 --     numbers-length, numbers-append, numbers-at
 --     number-past                what stands after other bytes
+--     numbers-are, numbers-told  numbers that stand in a row are the bytes there; and the other way
 --     all-bytes, bytes-all       InBytes, by every element
 --     numbers-bytes, word-high
 -- Assumes nothing.
@@ -12,7 +13,7 @@ use native.Mathlib.Omega.{arith}
 use mathlib.Core.Path.{_≡_, refl, sym, ap, ap₂, _∙_, subst}
 use mathlib.Core.List.{List, [], _∷_, _++_}
 use lib.ListN.{length, getD, take, drop, take-append-drop}
-use lib.Seq.{getD-append-add}
+use lib.Seq.{drop-append-le, getD-append-add, length-take-le, slice, slice-cons, slice-empty}
 use Rattle.words.specs.Words.{All, Bytes, InBytes, Lawful, Rule, at, cons, nil, word}
 use Rattle.words.proofs.Lists.{all-from, all-left}
 use Rattle.format.specs.Book.{number, numbers}
@@ -52,6 +53,38 @@ numbers-at (n ∷ ns) t (suc j) h l =
     ap (number (numbers (n ∷ ns) ++ t)) e
     ∙ number-past (n % 256 ∷ n / 256 % 256 ∷ []) (numbers ns ++ t) (2 * j)
     ∙ numbers-at ns t j (le-of-suc-le-suc h) l
+
+-- ---- numbers and the bytes where they stand, one law each way
+
+pub numbers-are : (b : Bytes) → InBytes b → (ns : List ℕ) (o e : ℕ) → e ≡ o + 2 * length ns → e ≤ length b → ((i : ℕ) → i < length ns → number b (o + 2 * i) ≡ getD ns i 0)
+    → slice o e b ≡ numbers ns
+unfolding numbers number
+numbers-are b bytes [] o e z l h =
+    let q : o ≡ e = omega arith in
+    subst (λ (x : ℕ). slice x e b ≡ []) (sym q) (slice-empty e b)
+numbers-are b bytes (n ∷ ns) o e z l h =
+    let here : number b o ≡ n = ap (number b) (omega arith) ∙ h 0 (omega arith) in
+    let next : (i : ℕ) → i < length ns → number b (o + 2 + 2 * i) ≡ getD ns i 0 = λ i k.
+    let s : o + 2 + 2 * i ≡ o + 2 * suc i = omega arith in
+    ap (number b) s ∙ h (suc i) (omega arith) in
+    let second : suc o ≡ o + 1 = omega arith in
+    let third : suc (suc o) ≡ o + 2 = omega arith in
+    slice-cons o e b 0 (omega arith) l
+    ∙ ap₂ (λ (x : ℕ) (s : Bytes). x ∷ s) (low-byte (getD b o 0) (getD b (o + 1) 0) n (bytes o) here)
+    (slice-cons (suc o) e b 0 (omega arith) l
+    ∙ ap₂ (λ (x : ℕ) (s : Bytes). x ∷ s)
+    (ap (λ (x : ℕ). getD b x 0) second ∙ high-byte (getD b o 0) (getD b (o + 1) 0) n (bytes o) (bytes (o + 1)) here)
+    (ap (λ (x : ℕ). slice x e b) third ∙ numbers-are b bytes ns (o + 2) e (omega arith) l next))
+
+pub numbers-told : (b : Bytes) (ns : List ℕ) (o e : ℕ) → o ≤ e → e ≤ length b → slice o e b ≡ numbers ns → (i : ℕ) → i < length ns → getD ns i 0 < 65536
+    → number b (o + 2 * i) ≡ getD ns i 0
+numbers-told b ns o e h l q i k small =
+    let front : length (take o b) ≡ o = length-take-le o b (omega arith) in
+    let rest : drop o b ≡ numbers ns ++ drop e b =
+    ap (drop o) (sym (take-append-drop e b)) ∙ drop-append-le o (take e b) (drop e b) (omega (arith, length-take-le e b l)) ∙ ap (λ (s : Bytes). s ++ drop e b) q in
+    let whole : b ≡ take o b ++ (numbers ns ++ drop e b) = sym (take-append-drop o b) ∙ ap (λ (s : Bytes). take o b ++ s) rest in
+    let there : o + 2 * i ≡ length (take o b) + 2 * i = omega arith in
+    ap₂ number whole there ∙ number-past (take o b) (numbers ns ++ drop e b) (2 * i) ∙ numbers-at ns (drop e b) i k small
 
 -- ---- bytes
 

@@ -1,16 +1,14 @@
 -- Every number of a book fits its place: counts and lengths a byte, numbers of the node table two bytes.
 --     Modest            a word of at most 200 symbols, each at most 256
 --     table-small       the numbers of a node table
---     fields-at         where a node's fields stand
 --     decode-bytes, names-bytes, book-bytes    names of bytes, books of bytes
 -- Assumes nothing.
-use Prim.Native.Nat.{ℕ, zero, suc, _+_, _-_, _*_, _≤_, _<_}
-use native.Mathlib.Nat.{le-of-suc-le-suc, not-suc-le-zero}
+use Prim.Native.Nat.{ℕ, zero, suc, _+_, _-_, _≤_, _<_}
+use native.Mathlib.Nat.{le-of-suc-le-suc}
 use native.Mathlib.Omega.{arith}
-use mathlib.Core.Path.{_≡_, refl, sym, ap, _∙_, subst}
+use mathlib.Core.Path.{_≡_, refl, sym, ap, subst}
 use mathlib.Core.List.{List, [], _∷_, _++_}
-use lib.ListN.{length, getD, take, drop, length-append, length-drop, take-append-drop}
-use lib.Seq.{getD-append-add}
+use lib.ListN.{length, take, drop, length-append, length-drop, take-append-drop}
 use Rattle.words.specs.Words.{All, Bytes, InBytes, Rises, Rule, Words, at, cons, nil, shared}
 use Rattle.words.proofs.Lists.{all-append, all-head, all-left, all-right}
 use Rattle.words.proofs.Rising.{rises-left, rises-right}
@@ -76,23 +74,6 @@ unfolding table nodeTable
 table-small ws r a n = within-small (length ws) 0 0 ws r a (omega arith) (omega arith) (omega arith)
 
 -- field j of node v, in the row of all fields
-pub fields-at : (rs : List Node) (r : Node) (v j : ℕ) → v < length rs → j < 5 → getD (allFields rs) (5 * v + j) 0 ≡ getD (fields (getD rs v r)) j 0
-unfolding allFields
-fields-at [] r v j h l = absurd (not-suc-le-zero h)
-fields-at (x ∷ rs) r zero j h l = front j l
-  where
-    front : (j : ℕ) → j < 5 → getD (fields x ++ allFields rs) (5 * 0 + j) 0 ≡ getD (fields x) j 0
-    front zero l = refl
-    front (suc zero) l = refl
-    front (suc (suc zero)) l = refl
-    front (suc (suc (suc zero))) l = refl
-    front (suc (suc (suc (suc zero)))) l = refl
-    front (suc (suc (suc (suc (suc j))))) l = absurd (omega arith)
-fields-at (x ∷ rs) r (suc v) j h l =
-    let e : 5 * suc v + j ≡ 5 + (5 * v + j) = omega arith in
-    ap (λ (n : ℕ). getD (fields x ++ allFields rs) n 0) e ∙ getD-append-add (fields x) (allFields rs) (5 * v + j) 0
-    ∙ fields-at rs r v j (le-of-suc-le-suc h) l
-
 -- ---- names of bytes
 
 abbrev Small : Bytes → Type 0

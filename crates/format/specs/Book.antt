@@ -42,9 +42,12 @@ unfoldable pub allFields : List Node → List ℕ
 allFields [] = []
 allFields (r ∷ rs) = fields r ++ allFields rs
 
--- ten bytes per node
+-- two bytes for each of them
+abbrev pub fieldCount : ℕ
+fieldCount = 5
+
 abbrev pub nodeSize : ℕ
-nodeSize = 10
+nodeSize = 2 * fieldCount
 
 unfoldable pub nodePart : List Node → Bytes
 nodePart rs = numbers (allFields rs)

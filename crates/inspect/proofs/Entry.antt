@@ -1,24 +1,16 @@
 -- The symbol that the entry at hand tells.
---     symbol-in, symbol-none                    ways out of `symbol_of`
+--     symbol-told       the rest of the entry is lent, and it tells the symbol
 -- Assumes nothing.
-use Prim.Native.Nat.{ℕ, suc, _+_, _-_, _≤_, _<_}
+use Prim.Native.Nat.{ℕ, _+_, _-_}
 use native.Mathlib.Omega.{arith}
-use mathlib.Core.Path.{_≡_, sym, ap, _∙_}
-use lib.ListN.{length, getD, drop, length-take, length-drop, length-map}
-use lib.Seq.{getD-take, getD-drop}
+use mathlib.Core.Path.{_≡_, ap₂, _∙_}
+use lib.ListN.{getD, take, drop}
 use Rattle.words.specs.Words.{Bytes, at, plain, word}
-use Rattle.words.proofs.Words.{at-past, word-at}
-use Rattle.streams.specs.Streams.{entryEnd, restAt}
+use Rattle.streams.specs.Streams.{restAt}
 
 -- c and l are what the code read at a and after it
-
-module _ (b : Bytes) (a c l d : ℕ) (ce : c ≡ getD b a 0) (le : l ≡ getD b (a + 1) 0) where
-  pub symbol-in : (r : ℕ) → entryEnd b a ≤ length b → d - c < l → r ≡ plain (getD b (a + 2 + (d - c)) 0) → r ≡ at (word plain (restAt b a)) (d - getD b a 0)
-  symbol-in r f h e =
-      e ∙ ap suc (sym (getD-drop (a + 2) b (d - c) 0) ∙ sym (getD-take (getD b (a + 1) 0) (drop (a + 2) b) (d - c) 0 (omega arith)))
-      ∙ sym (word-at plain (restAt b a) (d - c) (rw (length-take, length-drop) (omega arith)))
-      ∙ ap (λ (x : ℕ). at (word plain (restAt b a)) (d - x)) ce
-
-  pub symbol-none : l ≤ d - c → 0 ≡ at (word plain (restAt b a)) (d - getD b a 0)
-  symbol-none h =
-      sym (at-past (word plain (restAt b a)) (d - getD b a 0) (omega (arith, length-map (restAt b a) plain, length-take (getD b (a + 1) 0) (drop (a + 2) b))))
+pub symbol-told : (b : Bytes) (a c l d r : ℕ) → c ≡ getD b a 0 → l ≡ getD b (a + 1) 0 → r ≡ at (word plain (take (a + 2 + l - (a + 2)) (drop (a + 2) b))) (d - c)
+    → r ≡ at (word plain (restAt b a)) (d - getD b a 0)
+symbol-told b a c l d r ce le e =
+    let size : a + 2 + l - (a + 2) ≡ getD b (a + 1) 0 = omega arith in
+    e ∙ ap₂ (λ (n i : ℕ). at (word plain (take n (drop (a + 2) b))) (d - i)) size ce

@@ -13,16 +13,17 @@ use lib.Dec.{eqb, leb}
 use lib.ListN.{getD}
 use borrow.Author.Tests.{eqb-true, eqb-false, leb-true, leb-false}
 use Rattle.words.specs.Words.{Bytes, at, plain, word}
-use Rattle.format.specs.Book.{number}
+use Rattle.format.specs.Book.{nodeSize}
 use Rattle.streams.specs.Streams.{restAt}
+use Rattle.standing.specs.Maps.{inRows, recordAt}
 use Rattle.inspect.specs.Check.{ForkSays, LeafSays, LedSays}
 
 -- x is the symbol that the record tells, s the one that the entry tells, z the first name
-module _ (b : Bytes) (o i d a x s : ℕ) (xe : x ≡ number b o) (se : s ≡ at (word plain (restAt b a)) (d - getD b a 0)) where
+module _ (b : Bytes) (o i d a x s : ℕ) (xe : x ≡ recordAt inRows b o .symbol) (se : s ≡ at (word plain (restAt b a)) (d - getD b a 0)) where
   pub led-symbol : (x ≡ s → ⊥) → LedSays b o i d a false
   led-symbol n k = n (xe ∙ k .0 ∙ sym se)
 
-  pub led-first : x ≡ s → (z : ℕ) → z ≡ number b (o + 4) → LedSays b o i d a (eqb z i)
+  pub led-first : x ≡ s → (z : ℕ) → z ≡ recordAt inRows b o .first → LedSays b o i d a (eqb z i)
   led-first same z ze = go (eqb z i) refl
     where
       go : (t : Bool) → eqb z i ≡ t → LedSays b o i d a t
@@ -30,11 +31,11 @@ module _ (b : Bytes) (o i d a x s : ℕ) (xe : x ≡ number b o) (se : s ≡ at 
       go false q = λ k. eqb-false z i q (ze ∙ k .1)
 
 -- x is the depth, w the number of nodes, l the name's length
-module _ (b : Bytes) (o len x l : ℕ) (xe : x ≡ number b (o + 2)) (le : l ≡ len) where
+module _ (b : Bytes) (o len x l : ℕ) (xe : x ≡ recordAt inRows b o .depth) (le : l ≡ len) where
   pub leaf-depth : (x ≡ l + 1 → ⊥) → LeafSays b o len false
   leaf-depth n k = n (xe ∙ k .0 ∙ ap suc (sym le) ∙ sym (add-one l))
 
-  pub leaf-nodes : x ≡ l + 1 → (w : ℕ) → w ≡ number b (o + 8) → LeafSays b o len (eqb w 1)
+  pub leaf-nodes : x ≡ l + 1 → (w : ℕ) → w ≡ recordAt inRows b o .nodes → LeafSays b o len (eqb w 1)
   leaf-nodes same w we = go (eqb w 1) refl
     where
       go : (t : Bool) → eqb w 1 ≡ t → LeafSays b o len t
@@ -42,17 +43,17 @@ module _ (b : Bytes) (o len x l : ℕ) (xe : x ≡ number b (o + 2)) (le : l ≡
       go false q = λ k. eqb-false w 1 q (we ∙ k .1)
 
 -- x is the number of names, y the depth, z the number of nodes; each way out before this is a field or its contrary
-pub fork-ends : (b : Bytes) (o e n d left x y z : ℕ) → x ≡ number b (o + 6) → y ≡ number b (o + 2) → z ≡ number b (o + 8) → 2 ≤ x → x < n → x ≤ left → d < y → y < 200
-    → ForkSays b o e n d left (leb (o + 10 * z) e)
-fork-ends b o e n d left x y z xe ye ze several proper upto below shallow = go (leb (o + 10 * z) e) refl
+pub fork-ends : (b : Bytes) (o e n d left x y z : ℕ) → x ≡ recordAt inRows b o .names → y ≡ recordAt inRows b o .depth → z ≡ recordAt inRows b o .nodes → 2 ≤ x → x < n → x ≤ left → d < y → y < 200
+    → ForkSays b o e n d left (leb (o + z * nodeSize) e)
+fork-ends b o e n d left x y z xe ye ze several proper upto below shallow = go (leb (o + z * nodeSize) e) refl
   where
-    go : (t : Bool) → leb (o + 10 * z) e ≡ t → ForkSays b o e n d left t
+    go : (t : Bool) → leb (o + z * nodeSize) e ≡ t → ForkSays b o e n d left t
     go true q = record {
       several = omega arith;
       proper = omega arith;
       upto = omega arith;
       below = omega arith;
       shallow = omega arith;
-      ends = omega (arith, leb-true (o + 10 * z) e q);
+      ends = omega (arith, leb-true (o + z * nodeSize) e q);
     }
-    go false q = λ k. lt-irrefl e (omega (arith, leb-false (o + 10 * z) e q, k .ends))
+    go false q = λ k. lt-irrefl e (omega (arith, leb-false (o + z * nodeSize) e q, k .ends))

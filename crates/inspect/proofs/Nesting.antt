@@ -10,7 +10,7 @@ use Prim.Native.Nat.{ℕ, min, _-_, _*_, _+_, _≤_, _<_}
 use native.Mathlib.Omega.{arith}
 use mathlib.Core.Path.{_≡_}
 use Rattle.words.specs.Words.{Bytes}
-use Rattle.format.specs.Book.{number}
+use Rattle.standing.specs.Maps.{inRows, recordAt}
 use Rattle.inspect.specs.Check.{MayBeFork}
 
 -- of a node, or its row, of n names and of depth d
@@ -24,5 +24,5 @@ levels-fall n d x y fewer deeper low = omega arith
 pub levels-most : (n d : ℕ) → 2 * levelsLeft n d + 1 ≤ 399
 levels-most n d = omega arith
 
-pub fork-falls : {b : Bytes} {o e n d left t : ℕ} → MayBeFork b o e n d left → 2 * levelsLeft n d ≡ t → 2 * levelsLeft (number b (o + 6)) (number b (o + 2)) + 1 < t
-fork-falls {b} {o} {e} {n} {d} k te = omega (arith, levels-fall n d (number b (o + 6)) (number b (o + 2)) (k .proper) (k .below) (k .shallow))
+pub fork-falls : {b : Bytes} {o e n d left t : ℕ} → MayBeFork b o e n d left → 2 * levelsLeft n d ≡ t → 2 * levelsLeft (recordAt inRows b o .names) (recordAt inRows b o .depth) + 1 < t
+fork-falls {b} {o} {e} {n} {d} k te = omega (arith, levels-fall n d (recordAt inRows b o .names) (recordAt inRows b o .depth) (k .proper) (k .below) (k .shallow))

@@ -8,11 +8,12 @@ use native.Mathlib.Omega.{arith}
 use mathlib.Core.Path.{_≡_, refl, sym, ap, _∙_, subst}
 use lib.ListN.{length}
 use Rattle.words.specs.Words.{Bytes, nth, plain}
-use Rattle.format.specs.Book.{number, namesOf, wordsOf}
+use Rattle.format.specs.Book.{namesOf, nodeSize, wordsOf}
 use Rattle.format.specs.Nodes.{Node, leaf}
 use Rattle.streams.specs.Streams.{Here, lengthAt}
 use Rattle.streams.proofs.Here.{here-length, words-count}
-use Rattle.standing.specs.Stands.{NodeAt, recordAt}
+use Rattle.standing.specs.Maps.{Roomy, inRows, recordAt}
+use Rattle.standing.specs.Stands.{NodeAt}
 use Rattle.standing.proofs.Children as child
 use Rattle.inspect.specs.Check.{Ask, LeafAt, NodeAsk, NodeSays, RowAsk, RowSays, Says}
 
@@ -39,23 +40,23 @@ module _ (b : Bytes) (lo s o a : ℕ) (q : Ask b lo 1 a) where
   next : suc lo ≡ lo + 1
   next = omega arith
 
-  pub leaf-stands : o + 10 ≤ length b → number b o ≡ s → number b (o + 4) ≡ lo → number b (o + 6) ≡ 1 → LeafAt b o (lengthAt b a) → NodeAt b (wordsOf plain b) lo (lo + 1) s o (o + 10)
+  pub leaf-stands : Roomy inRows b o → recordAt inRows b o .symbol ≡ s → recordAt inRows b o .first ≡ lo → recordAt inRows b o .names ≡ 1 → LeafAt b o (lengthAt b a) → NodeAt inRows b (wordsOf plain b) lo (lo + 1) s o (o + nodeSize)
   leaf-stands room symbol first names k =
-      let depth : number b (o + 2) ≡ suc (length (nth (wordsOf plain b) lo)) = k .0 ∙ ap suc size in
-      let told : recordAt b o ≡ leaf lo s (nth (wordsOf plain b) lo) = rw (symbol, depth, first, names, k .1) refl in
-      subst (λ (m : ℕ). NodeAt b (wordsOf plain b) lo m s o (o + 10)) next (child.leaf-node (wordsOf plain b) (q .known .rises) b s lo o lone room told)
+      let depth : recordAt inRows b o .depth ≡ suc (length (nth (wordsOf plain b) lo)) = k .0 ∙ ap suc size in
+      let told : recordAt inRows b o ≡ leaf lo s (nth (wordsOf plain b) lo) = rw (symbol, depth, first, names, k .1) refl in
+      subst (λ (m : ℕ). NodeAt inRows b (wordsOf plain b) lo m s o (o + nodeSize)) next (child.leaf-node (wordsOf plain b) (q .known .rises) inRows b s lo o lone room told)
 
-  pub leaf-not : (LeafAt b o (lengthAt b a) → ⊥) → (e : ℕ) → NodeAt b (wordsOf plain b) lo (lo + 1) s o e → ⊥
+  pub leaf-not : (LeafAt b o (lengthAt b a) → ⊥) → (e : ℕ) → NodeAt inRows b (wordsOf plain b) lo (lo + 1) s o e → ⊥
   leaf-not n e g =
-      let f = child.node-leaf (wordsOf plain b) (q .known .rises) b s lo o e lone (subst (λ (m : ℕ). NodeAt b (wordsOf plain b) lo m s o e) (sym next) g) in
+      let f = child.node-leaf (wordsOf plain b) (q .known .rises) inRows b s lo o e lone (subst (λ (m : ℕ). NodeAt inRows b (wordsOf plain b) lo m s o e) (sym next) g) in
       n (ap (λ (r : Node). r .depth) (f .told) ∙ ap suc (sym size), ap (λ (r : Node). r .nodes) (f .told))
 
 -- ---- several names
 
 module _ (b : Bytes) (o a : ℕ) (q : NodeAsk b o a) where
   -- d, lo, n and m are the numbers of the record
-  module _ (d lo n m : ℕ) (de : d ≡ number b (o + 2)) (le : lo ≡ number b (o + 4)) (ne : n ≡ number b (o + 6)) (me : m ≡ number b (o + 8)) where
-    pub node-asks : RowAsk b (o + 10 * m) lo n d a
+  module _ (d lo n m : ℕ) (de : d ≡ recordAt inRows b o .depth) (le : lo ≡ recordAt inRows b o .first) (ne : n ≡ recordAt inRows b o .names) (me : m ≡ recordAt inRows b o .nodes) where
+    pub node-asks : RowAsk b (o + m * nodeSize) lo n d a
     node-asks = record {
       ask = rw (le, ne) (q .ask);
       several = omega (arith, q .several);
@@ -63,12 +64,12 @@ module _ (b : Bytes) (o a : ℕ) (q : NodeAsk b o a) where
       long = omega (arith, q .long);
     }
 
-    pub node-says : (r : ℕ) → RowSays b (o + 10) (o + 10 * m) lo n d r → NodeSays b o r
+    pub node-says : (r : ℕ) → RowSays b (o + nodeSize) (o + m * nodeSize) lo n d r → NodeSays b o r
     node-says r says = record {
-      no-way = λ z g. row .no-way z ((child.node-split (wordsOf plain b) (q .ask .known .rises) b (number b o) first (first + names) o end two few g) .group);
+      no-way = λ z g. row .no-way z ((child.node-split (wordsOf plain b) (q .ask .known .rises) inRows b (recordAt inRows b o .symbol) first (first + names) o end two few g) .group);
       it-does = λ z.
           let s = row .it-does z in (
-            child.node-join (wordsOf plain b) (q .ask .known .rises) b (number b o) first (first + names) o end two few (record {
+            child.node-join (wordsOf plain b) (q .ask .known .rises) inRows b (recordAt inRows b o .symbol) first (first + names) o end two few (omega arith) (record {
               room = q .room;
               symbol = refl;
               first = refl;
@@ -81,13 +82,13 @@ module _ (b : Bytes) (o a : ℕ) (q : NodeAsk b o a) where
     }
       where
         first : ℕ
-        first = number b (o + 4)
+        first = recordAt inRows b o .first
 
         names : ℕ
-        names = number b (o + 6)
+        names = recordAt inRows b o .names
 
         end : ℕ
-        end = o + 10 * number b (o + 8)
+        end = o + recordAt inRows b o .nodes * nodeSize
 
         two : suc first < first + names
         two = omega (arith, q .several)
@@ -95,5 +96,5 @@ module _ (b : Bytes) (o a : ℕ) (q : NodeAsk b o a) where
         few : first + names ≤ length (wordsOf plain b)
         few = omega (arith, q .ask .within, words-count b)
 
-        row : RowSays b (o + 10) end first names (number b (o + 2)) r
+        row : RowSays b (o + nodeSize) end first names (recordAt inRows b o .depth) r
         row = rw (← de, ← le, ← ne, ← me) says

@@ -12,11 +12,12 @@ use mathlib.Core.Bool.{Bool, false, not, true}
 use lib.ListN.{length, getD}
 use Rattle.words.specs.Words.{Bytes, at, nth, plain, shared, word}
 use Rattle.words.proofs.Words.{false≠true}
-use Rattle.format.specs.Book.{nodeSize, number, trailerSize, namesOf, wordsOf}
+use Rattle.format.specs.Book.{namesOf, nodeSize, number, trailerSize, wordsOf}
 use Rattle.format.specs.Nodes.{deep}
 use Rattle.format.specs.Records.{longest}
 use Rattle.streams.specs.Streams.{Here, InBlocks, Known, entryEnd, lengthAt, offsetFrom, restAt}
 use Rattle.streams.proofs.Here.{here-fits, here-next, here-rises, here-symbol, name-short, words-count}
+use Rattle.standing.specs.Maps.{Roomy, inRows, recordAt}
 use Rattle.standing.specs.Stands.{Child, GroupAt, NodeAt}
 use Rattle.standing.proofs.Walk.{Ahead, Walk, deep-short, group-end, node-head, walk-done, walk-more, walk-next, walk-start}
 use Rattle.neighbours.specs.Neighbours.{MeetAsk}
@@ -31,7 +32,7 @@ pub record Rows (b : Bytes) (lo₀ n d o₀ e o lo a : ℕ) : Type 0 where
   pub several : 2 ≤ n
   pub within : lo₀ + n ≤ length (namesOf b)
   pub upto : lo < lo₀ + n
-  pub walk : Walk b (wordsOf plain b) lo₀ (lo₀ + n) d o₀ lo o
+  pub walk : Walk inRows b (wordsOf plain b) lo₀ (lo₀ + n) d o₀ lo o
   pub here : Here b lo a
   pub low : getD b a 0 ≤ d
   pub some : lo < length (namesOf b)
@@ -39,11 +40,11 @@ pub record Rows (b : Bytes) (lo₀ n d o₀ e o lo a : ℕ) : Type 0 where
 
 pub record Turn (b : Bytes) (lo₀ n d o₀ e o lo a x m c : ℕ) : Type 0 where
   pub rows : Rows b lo₀ n d o₀ e o lo a
-  pub told : x ≡ number b (o + 6)
+  pub told : x ≡ recordAt inRows b o .names
   pub some : 1 ≤ x
   pub proper : x < n
   pub upto : lo + x ≤ lo₀ + n
-  pub child : Child b (wordsOf plain b) d lo (lo + x) o m
+  pub child : Child inRows b (wordsOf plain b) d lo (lo + x) o m
   pub here : Here b (pred (lo + x)) c
   pub fits : entryEnd b c ≤ length b
 
@@ -65,7 +66,7 @@ module _ (b : Bytes) (lo₀ n d o₀ e : ℕ) where
     several = q .several;
     within = q .ask .within;
     upto = omega (arith, q .several);
-    walk = walk-start b (wordsOf plain b) (q .ask .known .rises) lo₀ (lo₀ + n) d o₀ (omega (arith, q .several)) (omega (arith, q .ask .within, words-count b));
+    walk = walk-start inRows b (wordsOf plain b) (q .ask .known .rises) lo₀ (lo₀ + n) d o₀ (omega (arith, q .several)) (omega (arith, q .ask .within, words-count b));
     here = q .ask .here;
     low = q .low;
     some = omega (arith, q .ask .some, q .ask .within);
@@ -83,8 +84,8 @@ module _ (b : Bytes) (lo₀ n d o₀ e : ℕ) where
     fit : Rows b lo₀ n d o₀ e o lo a → lo₀ + n ≤ length (wordsOf plain b)
     fit r = omega (arith, r .within, words-count b)
 
-    ahead : Rows b lo₀ n d o₀ e o lo a → GroupAt b (wordsOf plain b) lo₀ (lo₀ + n) d o₀ e → Ahead b (wordsOf plain b) lo₀ (lo₀ + n) d lo o e
-    ahead r g = walk-next b (wordsOf plain b) (r .known .rises) lo₀ (lo₀ + n) d o₀ (two r) (fit r) lo o (r .walk) e g
+    ahead : Rows b lo₀ n d o₀ e o lo a → GroupAt inRows b (wordsOf plain b) lo₀ (lo₀ + n) d o₀ e → Ahead inRows b (wordsOf plain b) lo₀ (lo₀ + n) d lo o e
+    ahead r g = walk-next inRows b (wordsOf plain b) (r .known .rises) lo₀ (lo₀ + n) d o₀ (two r) (fit r) lo o (r .walk) e g
 
     -- ---- up to the child
 
@@ -92,7 +93,7 @@ module _ (b : Bytes) (lo₀ n d o₀ e : ℕ) where
       pub rows-end : e ≤ o → Refused
       rows-end h = says-no (λ g. lt-irrefl o (omega (arith, (ahead r g) .past)))
 
-      pub rows-room : o < e → o + nodeSize ≤ length b
+      pub rows-room : o < e → Roomy inRows b o
       rows-room h = omega (arith, r .long)
 
       symbol-is : (s : ℕ) → s ≡ at (word plain (restAt b a)) (d - getD b a 0) → s ≡ at (nth (wordsOf plain b) lo) d
@@ -103,7 +104,7 @@ module _ (b : Bytes) (lo₀ n d o₀ e : ℕ) where
       rows-other false never h = says-no (λ g. let k = ahead r g in never (k .symbol ∙ sym (symbol-is _ refl), k .first))
 
       -- the entry's symbol led to the record, and x is the number of names that it tells
-      module _ (led : LedTo b o lo d a) (x : ℕ) (xe : x ≡ number b (o + 6)) where
+      module _ (led : LedTo b o lo d a) (x : ℕ) (xe : x ≡ recordAt inRows b o .names) where
         asked : 1 ≤ x → lo + x ≤ lo₀ + n → Ask b lo x a
         asked some upto = record { known = r .known; blocks = r .blocks; some = some; within = omega (arith, r .within); here = r .here }
 
@@ -117,11 +118,11 @@ module _ (b : Bytes) (lo₀ n d o₀ e : ℕ) where
           rows-no-leaf true k h = absurd (false≠true h)
           rows-no-leaf false never h = says-no (λ g.
               let k = ahead r g in
-              let z : lo + number b (o + 6) ≡ lo + 1 = omega arith in
-              leaf-not b lo (at (nth (wordsOf plain b) lo) d) o a lone never (o + 10 * number b (o + 8))
-              (subst (λ (m : ℕ). NodeAt b (wordsOf plain b) lo m (at (nth (wordsOf plain b) lo) d) o (o + 10 * number b (o + 8))) z (k .node)))
+              let z : lo + recordAt inRows b o .names ≡ lo + 1 = omega arith in
+              leaf-not b lo (at (nth (wordsOf plain b) lo) d) o a lone never (o + recordAt inRows b o .nodes * nodeSize)
+              (subst (λ (m : ℕ). NodeAt inRows b (wordsOf plain b) lo m (at (nth (wordsOf plain b) lo) d) o (o + recordAt inRows b o .nodes * nodeSize)) z (k .node)))
 
-          pub rows-leaf : o < e → (v : Bool) → LeafSays b o (lengthAt b a) v → not v ≡ false → Turn b lo₀ n d o₀ e o lo a x (o + 10) a
+          pub rows-leaf : o < e → (v : Bool) → LeafSays b o (lengthAt b a) v → not v ≡ false → Turn b lo₀ n d o₀ e o lo a x (o + nodeSize) a
           rows-leaf room false never h = absurd (false≠true (sym h))
           rows-leaf room true sure h =
               let z : lo + 1 ≡ lo + x = omega arith in
@@ -134,8 +135,8 @@ module _ (b : Bytes) (lo₀ n d o₀ e : ℕ) where
                 upto = omega (arith, r .upto);
                 child = record {
                   some = omega arith;
-                  node = subst (λ (m : ℕ). NodeAt b (wordsOf plain b) lo m (at (nth (wordsOf plain b) lo) d) o (o + 10)) z
-                      (leaf-stands b lo (at (nth (wordsOf plain b) lo) d) o a lone (rows-room room) (symbol-is (number b o) (led .0)) (led .1) (omega arith) sure);
+                  node = subst (λ (m : ℕ). NodeAt inRows b (wordsOf plain b) lo m (at (nth (wordsOf plain b) lo) d) o (o + nodeSize)) z
+                      (leaf-stands b lo (at (nth (wordsOf plain b) lo) d) o a lone (rows-room room) (symbol-is (recordAt inRows b o .symbol) (led .0)) (led .1) (omega arith) sure);
                   below = λ q. absurd (lt-irrefl lo (omega arith));
                 };
                 here = subst (λ (i : ℕ). Here b i a) p (r .here);
@@ -145,18 +146,18 @@ module _ (b : Bytes) (lo₀ n d o₀ e : ℕ) where
         -- ---- several names
 
         -- several words share less than any name can have
-        shallow : Ahead b (wordsOf plain b) lo₀ (lo₀ + n) d lo o e → 1 < number b (o + 6) → number b (o + 2) < longest
+        shallow : Ahead inRows b (wordsOf plain b) lo₀ (lo₀ + n) d lo o e → 1 < recordAt inRows b o .names → recordAt inRows b o .depth < longest
         shallow k many =
-            let end : lo + number b (o + 6) ≤ length (wordsOf plain b) = omega (arith, fit r, k .upto, r .upto) in
-            let hd = node-head b (wordsOf plain b) (r .known .rises) _ lo (lo + number b (o + 6)) o (o + 10 * number b (o + 8)) (omega (arith, k .some)) end (k .node) in
-            let short : length (nth (wordsOf plain b) (pred (lo + number b (o + 6)))) ≤ longest = name-short b (pred (lo + number b (o + 6))) (r .known) (omega (arith, end, words-count b)) in
-            omega (arith, hd .depth (omega arith), deep-short (wordsOf plain b) (r .known .rises) lo (lo + number b (o + 6)) longest (omega arith) end short)
+            let end : lo + recordAt inRows b o .names ≤ length (wordsOf plain b) = omega (arith, fit r, k .upto, r .upto) in
+            let hd = node-head inRows b (wordsOf plain b) (r .known .rises) _ lo (lo + recordAt inRows b o .names) o (o + recordAt inRows b o .nodes * nodeSize) (omega (arith, k .some)) end (k .node) in
+            let short : length (nth (wordsOf plain b) (pred (lo + recordAt inRows b o .names))) ≤ longest = name-short b (pred (lo + recordAt inRows b o .names)) (r .known) (omega (arith, end, words-count b)) in
+            omega (arith, hd .depth (omega arith), deep-short (wordsOf plain b) (r .known .rises) lo (lo + recordAt inRows b o .names) longest (omega arith) end short)
 
         pub rows-no-fork : (x ≡ 1 → ⊥) → (v : Bool) → ForkSays b o e n d (lo₀ + n - lo) v → not v ≡ true → Refused
         rows-no-fork more true k h = absurd (false≠true h)
         rows-no-fork more false never h = says-no (λ g.
             let k = ahead r g in
-            let many : 1 < number b (o + 6) = omega (arith, k .some) in
+            let many : 1 < recordAt inRows b o .names = omega (arith, k .some) in
             never (record {
               several = many;
               proper = omega (arith, k .proper);
@@ -169,7 +170,7 @@ module _ (b : Bytes) (lo₀ n d o₀ e : ℕ) where
         module _ (f : MayBeFork b o e n d (lo₀ + n - lo)) where
           pub rows-asks : o < e → NodeAsk b o a
           rows-asks room = record {
-            ask = subst (λ (i : ℕ). Ask b i (number b (o + 6)) a) (sym (led .1)) (rw xe at (asked (omega (arith, f .several)) (omega (arith, f .upto, r .upto))));
+            ask = subst (λ (i : ℕ). Ask b i (recordAt inRows b o .names) a) (sym (led .1)) (rw xe at (asked (omega (arith, f .several)) (omega (arith, f .upto, r .upto))));
             several = f .several;
             low = omega (arith, r .low, f .below);
             room = rows-room room;
@@ -183,13 +184,13 @@ module _ (b : Bytes) (lo₀ n d o₀ e : ℕ) where
                 let k = ahead r g in
                 says .no-way z (rw (led .1, k .symbol) (k .node)))
 
-            pub rows-fork : o < e → (c ≡ 0 → ⊥) → (m : ℕ) → m ≡ number b (o + 8) → Turn b lo₀ n d o₀ e o lo a x (o + 10 * m) c
+            pub rows-fork : o < e → (c ≡ 0 → ⊥) → (m : ℕ) → m ≡ recordAt inRows b o .nodes → Turn b lo₀ n d o₀ e o lo a x (o + m * nodeSize) c
             rows-fork room nz m me =
                 let s = says .it-does nz in
                 let up : lo + x ≤ lo₀ + n = omega (arith, f .upto, r .upto) in
-                let node : NodeAt b (wordsOf plain b) lo (lo + number b (o + 6)) (number b o) o (o + 10 * number b (o + 8)) =
-                subst (λ (i : ℕ). NodeAt b (wordsOf plain b) i (i + number b (o + 6)) (number b o) o (o + 10 * number b (o + 8))) (led .1) (s .0) in
-                let hd = node-head b (wordsOf plain b) (r .known .rises) (number b o) lo (lo + number b (o + 6)) o (o + 10 * number b (o + 8)) (omega (arith, f .several)) (omega (arith, fit r)) node in
+                let node : NodeAt inRows b (wordsOf plain b) lo (lo + recordAt inRows b o .names) (recordAt inRows b o .symbol) o (o + recordAt inRows b o .nodes * nodeSize) =
+                subst (λ (i : ℕ). NodeAt inRows b (wordsOf plain b) i (i + recordAt inRows b o .names) (recordAt inRows b o .symbol) o (o + recordAt inRows b o .nodes * nodeSize)) (led .1) (s .0) in
+                let hd = node-head inRows b (wordsOf plain b) (r .known .rises) (recordAt inRows b o .symbol) lo (lo + recordAt inRows b o .names) o (o + recordAt inRows b o .nodes * nodeSize) (omega (arith, f .several)) (omega (arith, fit r)) node in
                 let last : Here b (pred (lo + x)) c = subst (λ (i : ℕ). Here b (pred (i + x)) c) (led .1) (rw xe (s .1)) in
                 record {
                   rows = r;
@@ -199,7 +200,7 @@ module _ (b : Bytes) (lo₀ n d o₀ e : ℕ) where
                   upto = up;
                   child = record {
                     some = omega (arith, f .several);
-                    node = rw (xe, me) (subst (λ (t : ℕ). NodeAt b (wordsOf plain b) lo (lo + number b (o + 6)) t o (o + 10 * number b (o + 8))) (symbol-is (number b o) (led .0)) node);
+                    node = rw (xe, me) (subst (λ (t : ℕ). NodeAt inRows b (wordsOf plain b) lo (lo + recordAt inRows b o .names) t o (o + recordAt inRows b o .nodes * nodeSize)) (symbol-is (recordAt inRows b o .symbol) (led .0)) node);
                     below = λ q. subst (λ (y : ℕ). d < deep (wordsOf plain b) lo (lo + y)) (sym xe) (omega (arith, hd .depth (omega arith), f .below));
                   };
                   here = last;
@@ -212,20 +213,20 @@ module _ (b : Bytes) (lo₀ n d o₀ e : ℕ) where
       r : Rows b lo₀ n d o₀ e o lo a
       r = p .rows
 
-      stood : lo + x ≡ lo₀ + n → GroupAt b (wordsOf plain b) lo₀ (lo₀ + n) d o₀ m
+      stood : lo + x ≡ lo₀ + n → GroupAt inRows b (wordsOf plain b) lo₀ (lo₀ + n) d o₀ m
       stood q =
-          walk-done b (wordsOf plain b) (r .known .rises) lo₀ (lo₀ + n) d o₀ (two r) (fit r) lo o (r .walk) m (subst (λ (y : ℕ). Child b (wordsOf plain b) d lo y o m) q (p .child))
+          walk-done inRows b (wordsOf plain b) (r .known .rises) lo₀ (lo₀ + n) d o₀ (two r) (fit r) lo o (r .walk) m (subst (λ (y : ℕ). Child inRows b (wordsOf plain b) d lo y o m) q (p .child))
           (omega (arith, p .proper, r .upto))
 
       pub rows-apart : lo + x ≡ lo₀ + n → (m ≡ e → ⊥) → Refused
-      rows-apart q h = says-no (λ g. h (group-end b (wordsOf plain b) lo₀ (lo₀ + n) d o₀ m e (stood q) g))
+      rows-apart q h = says-no (λ g. h (group-end inRows b (wordsOf plain b) lo₀ (lo₀ + n) d o₀ m e (stood q) g))
 
       -- the last one of several names stands behind the first entry
       pub rows-done : lo + x ≡ lo₀ + n → m ≡ e → RowSays b o₀ e lo₀ n d c
       unfolding offsetFrom
       rows-done q h =
           let here : Here b (pred (lo₀ + n)) c = subst (λ (y : ℕ). Here b (pred y) c) q (p .here) in
-          says-yes (subst (GroupAt b (wordsOf plain b) lo₀ (lo₀ + n) d o₀) h (stood q)) here
+          says-yes (subst (GroupAt inRows b (wordsOf plain b) lo₀ (lo₀ + n) d o₀) h (stood q)) here
           (λ z. lt-irrefl 0 (omega (arith, here-rises b 0 (pred (lo₀ + n)) (omega (arith, r .several)), here)))
 
       module _ (more : lo + x ≡ lo₀ + n → ⊥) where
@@ -260,7 +261,7 @@ module _ (b : Bytes) (lo₀ n d o₀ e : ℕ) where
               several = r .several;
               within = r .within;
               upto = fewer;
-              walk = walk-more b (wordsOf plain b) (r .known .rises) lo₀ (lo₀ + n) d o₀ (two r) (fit r) lo o (r .walk) (lo + x) m (p .child) fewer (sym ue ∙ h);
+              walk = walk-more inRows b (wordsOf plain b) (r .known .rises) lo₀ (lo₀ + n) d o₀ (two r) (fit r) lo o (r .walk) (lo + x) m (p .child) fewer (sym ue ∙ h);
               here = moved;
               low = low;
               some = inside;

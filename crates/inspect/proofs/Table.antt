@@ -17,7 +17,7 @@ use borrow.Author.Tests.{eqb-true, eqb-false, eq-eqb}
 use Rattle.words.specs.Words.{All, Bytes, InBytes, Words, cons, nil, plain, same, span, word}
 use Rattle.words.proofs.Lists.{all-append, all-right}
 use Rattle.words.proofs.Words.{false≠true, plain-lawful, same-refl, same-true}
-use Rattle.format.specs.Book.{allFields, nodePart, number, numbers, namesOf, wordsOf}
+use Rattle.format.specs.Book.{allFields, namesOf, nodePart, nodeSize, numbers, wordsOf}
 use Rattle.format.specs.Nodes.{Node, nodeTable, table, tableWithin}
 use Rattle.format.specs.Records.{longest}
 use Rattle.format.proofs.Groups.{table-root}
@@ -26,6 +26,7 @@ use Rattle.format.proofs.Small.{Modest, table-small}
 use Rattle.numbers.proofs.Parts.{Held, held-bytes}
 use Rattle.streams.specs.Streams.{Here, Stream, done, entry, lengthAt, offsetFrom}
 use Rattle.streams.proofs.Here.{first-low, words-count}
+use Rattle.standing.specs.Maps.{inRows, recordAt}
 use Rattle.standing.specs.Stands.{NodeAt, Stands}
 use Rattle.standing.proofs.Bytes.{bytes-stand, stands-bytes}
 use Rattle.standing.proofs.Walk.{Head, node-head}
@@ -83,10 +84,10 @@ module _ (b : Bytes) (start end n : ℕ) (a : TableAsk b start end n) (z : n ≡
       (record { known = a .known; blocks = a .blocks; some = omega (arith, table-some, a .count); within = omega (arith, a .count); here = here })
 
   -- the root is of several names
-  pub table-asks : (n ≡ 1 → ⊥) → 10 ≤ end - start → (f x m : ℕ) → f ≡ number b (start + 4) → f ≡ 0 → x ≡ number b (start + 6) → x ≡ n → m ≡ number b (start + 8)
-      → start + 10 * m ≡ end → NodeAsk b start 0
+  pub table-asks : (n ≡ 1 → ⊥) → nodeSize ≤ end - start → (f x m : ℕ) → f ≡ recordAt inRows b start .first → f ≡ 0 → x ≡ recordAt inRows b start .names → x ≡ n → m ≡ recordAt inRows b start .nodes
+      → start + m * nodeSize ≡ end → NodeAsk b start 0
   table-asks more room f x m fe fz xe xn me ends = record {
-    ask = asked (number b (start + 4)) (number b (start + 6)) (sym fe ∙ fz) (sym xe ∙ xn);
+    ask = asked (recordAt inRows b start .first) (recordAt inRows b start .names) (sym fe ∙ fz) (sym xe ∙ xn);
     several = omega (arith, table-some, a .count);
     low = omega (arith, first-low b (a .known) table-some);
     room = omega (arith, a .long, a .order);
@@ -110,18 +111,18 @@ module _ (b : Bytes) (start end n : ℕ) (held : Held b) (a : TableAsk b start e
   root-is =
       ap (nodeTable 0 0) (let k : 0 + n ≡ length (wordsOf plain b) = omega (arith, a .count, words-count b) in ap (λ (j : ℕ). take j (wordsOf plain b)) k ∙ take-length (wordsOf plain b)) ∙ sym (table-root (wordsOf plain b))
 
-  node-of : nodePart (table (wordsOf plain b)) ≡ slice start end b → NodeAt b (wordsOf plain b) 0 (0 + n) 0 start end
-  node-of q = record { stands = subst (λ (rs : List Node). Stands b start rs end) (sym root-is) (bytes-stand b bytes (table (wordsOf plain b)) start end (a .order) within small (sym q)) }
+  node-of : nodePart (table (wordsOf plain b)) ≡ slice start end b → NodeAt inRows b (wordsOf plain b) 0 (0 + n) 0 start end
+  node-of q = record { stands = subst (λ (rs : List Node). Stands inRows b start rs end) (sym root-is) (bytes-stand b (table (wordsOf plain b)) start end (a .order) within small (sym q)) }
 
-  pub table-not : (NodeAt b (wordsOf plain b) 0 (0 + n) 0 start end → ⊥) → false ≡ isTable b start end
+  pub table-not : (NodeAt inRows b (wordsOf plain b) 0 (0 + n) 0 start end → ⊥) → false ≡ isTable b start end
   unfolding isTable
   table-not h = said _ _ false (λ e. absurd (false≠true e)) (λ e. absurd (h (node-of e)))
 
-  table-is : NodeAt b (wordsOf plain b) 0 (0 + n) 0 start end → true ≡ isTable b start end
+  table-is : NodeAt inRows b (wordsOf plain b) 0 (0 + n) 0 start end → true ≡ isTable b start end
   unfolding isTable
   table-is g =
-      said _ _ true (λ t. sym (stands-bytes b bytes (table (wordsOf plain b)) start end (omega (arith, a .order, within))
-      (subst (λ (rs : List Node). Stands b start rs end) root-is (g .stands)))) (λ q. refl)
+      said _ _ true (λ t. sym (stands-bytes b bytes (table (wordsOf plain b)) start end within
+      (subst (λ (rs : List Node). Stands inRows b start rs end) root-is (g .stands)))) (λ q. refl)
 
   pub table-nothing : n ≡ 0 → eqb start end ≡ isTable b start end
   unfolding isTable
@@ -138,47 +139,47 @@ module _ (b : Bytes) (start end n : ℕ) (held : Held b) (a : TableAsk b start e
     some : 0 < length (namesOf b)
     some = table-some b start end n a z
 
-    head : NodeAt b (wordsOf plain b) 0 (0 + n) 0 start end → Head b (wordsOf plain b) 0 0 (0 + n) start end
-    head g = node-head b (wordsOf plain b) (a .known .rises) 0 0 (0 + n) start end (omega (arith, some, a .count)) (omega (arith, words-count b, a .count)) g
+    head : NodeAt inRows b (wordsOf plain b) 0 (0 + n) 0 start end → Head inRows b (wordsOf plain b) 0 0 (0 + n) start end
+    head g = node-head inRows b (wordsOf plain b) (a .known .rises) 0 0 (0 + n) start end (omega (arith, some, a .count)) (omega (arith, words-count b, a .count)) g
 
-    pub table-short : end - start < 10 → false ≡ isTable b start end
+    pub table-short : end - start < nodeSize → false ≡ isTable b start end
     table-short h = table-not (λ g. lt-irrefl end (omega (arith, (head g) .past, a .order)))
 
     -- x is what the root's record tells there
     module _ (x : ℕ) where
-      pub table-symbol : x ≡ number b start → (x ≡ 0 → ⊥) → false ≡ isTable b start end
+      pub table-symbol : x ≡ recordAt inRows b start .symbol → (x ≡ 0 → ⊥) → false ≡ isTable b start end
       table-symbol e h = table-not (λ g. h (e ∙ (head g) .symbol))
 
-      pub table-first : x ≡ number b (start + 4) → (x ≡ 0 → ⊥) → false ≡ isTable b start end
+      pub table-first : x ≡ recordAt inRows b start .first → (x ≡ 0 → ⊥) → false ≡ isTable b start end
       table-first e h = table-not (λ g. h (e ∙ (head g) .first))
 
-      pub table-names : x ≡ number b (start + 6) → (x ≡ n → ⊥) → false ≡ isTable b start end
+      pub table-names : x ≡ recordAt inRows b start .names → (x ≡ n → ⊥) → false ≡ isTable b start end
       table-names e h = table-not (λ g. h (omega (arith, (head g) .names)))
 
-      pub table-nodes : x ≡ number b (start + 8) → (start + 10 * x ≡ end → ⊥) → false ≡ isTable b start end
+      pub table-nodes : x ≡ recordAt inRows b start .nodes → (start + x * nodeSize ≡ end → ⊥) → false ≡ isTable b start end
       table-nodes e h = table-not (λ g. h (omega (arith, (head g) .nodes)))
 
     -- all four are as they should be
-    module _ (s f x m : ℕ) (se : s ≡ number b start) (sz : s ≡ 0) (fe : f ≡ number b (start + 4)) (fz : f ≡ 0) (xe : x ≡ number b (start + 6)) (xn : x ≡ n)
-        (me : m ≡ number b (start + 8)) (ends : start + 10 * m ≡ end) where
+    module _ (s f x m : ℕ) (se : s ≡ recordAt inRows b start .symbol) (sz : s ≡ 0) (fe : f ≡ recordAt inRows b start .first) (fz : f ≡ 0) (xe : x ≡ recordAt inRows b start .names) (xn : x ≡ n)
+        (me : m ≡ recordAt inRows b start .nodes) (ends : start + m * nodeSize ≡ end) where
       -- one name
-      pub table-leaf : n ≡ 1 → 10 ≤ end - start → (v : Bool) → LeafSays b start (lengthAt b 0) v → v ≡ isTable b start end
+      pub table-leaf : n ≡ 1 → nodeSize ≤ end - start → (v : Bool) → LeafSays b start (lengthAt b 0) v → v ≡ isTable b start end
       table-leaf one room v says = go v says
         where
-          one-name : (e : ℕ) → NodeAt b (wordsOf plain b) 0 (0 + n) 0 start e → NodeAt b (wordsOf plain b) 0 (0 + 1) 0 start e
-          one-name e g = subst (λ (k : ℕ). NodeAt b (wordsOf plain b) 0 (0 + k) 0 start e) one g
+          one-name : (e : ℕ) → NodeAt inRows b (wordsOf plain b) 0 (0 + n) 0 start e → NodeAt inRows b (wordsOf plain b) 0 (0 + 1) 0 start e
+          one-name e g = subst (λ (k : ℕ). NodeAt inRows b (wordsOf plain b) 0 (0 + k) 0 start e) one g
 
           go : (t : Bool) → LeafSays b start (lengthAt b 0) t → t ≡ isTable b start end
           go false never = table-not (λ g. leaf-not b 0 0 start 0 (asked b start end n a z 0 1 refl (sym one)) never end (one-name end g))
           go true sure =
-              let e : start + 10 ≡ end = omega (arith, sure .1) in
-              table-is (subst (λ (k : ℕ). NodeAt b (wordsOf plain b) 0 (0 + k) 0 start end) (sym one)
-              (subst (NodeAt b (wordsOf plain b) 0 (0 + 1) 0 start) e
+              let e : start + nodeSize ≡ end = omega (arith, sure .1) in
+              table-is (subst (λ (k : ℕ). NodeAt inRows b (wordsOf plain b) 0 (0 + k) 0 start end) (sym one)
+              (subst (NodeAt inRows b (wordsOf plain b) 0 (0 + 1) 0 start) e
               (leaf-stands b 0 0 start 0 (asked b start end n a z 0 1 refl (sym one)) (omega (arith, a .long, a .order)) (sym se ∙ sz) (sym fe ∙ fz) (sym xe ∙ xn ∙ one) sure)))
 
       -- several names
-      root : NodeAt b (wordsOf plain b) 0 (0 + n) 0 start end
-          ≡ NodeAt b (wordsOf plain b) (number b (start + 4)) (number b (start + 4) + number b (start + 6)) (number b start) start (start + 10 * number b (start + 8))
+      root : NodeAt inRows b (wordsOf plain b) 0 (0 + n) 0 start end
+          ≡ NodeAt inRows b (wordsOf plain b) (recordAt inRows b start .first) (recordAt inRows b start .first + recordAt inRows b start .names) (recordAt inRows b start .symbol) start (start + recordAt inRows b start .nodes * nodeSize)
       root = rw (sym fe ∙ fz, sym xe ∙ xn, sym se ∙ sz, ← me, ends) refl
 
       pub table-said : (r : ℕ) → NodeSays b start r → not (eqb r 0) ≡ isTable b start end

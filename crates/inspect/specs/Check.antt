@@ -14,17 +14,18 @@ use mathlib.Core.Bool.{Bool, false, true}
 use lib.ListN.{getD, length}
 use lib.Seq.{slice}
 use Rattle.words.specs.Words.{Bytes, at, plain, same, word}
-use Rattle.format.specs.Book.{nodePart, nodeSize, number, trailerSize, namesOf, wordsOf}
+use Rattle.format.specs.Book.{namesOf, nodePart, nodeSize, number, trailerSize, wordsOf}
 use Rattle.format.specs.Nodes.{table}
 use Rattle.format.specs.Records.{longest}
 use Rattle.streams.specs.Streams.{Here, InBlocks, Known, restAt}
+use Rattle.standing.specs.Maps.{Roomy, inRows, recordAt}
 use Rattle.standing.specs.Stands.{GroupAt, NodeAt}
 
 -- ---- a record
 
 -- symbol number d of the name of the entry at a, which shares no more than d bytes, led to the record at o, whose first name is number i
 abbrev pub LedTo : Bytes → ℕ → ℕ → ℕ → ℕ → Type 0
-LedTo b o i d a = (number b o ≡ at (word plain (restAt b a)) (d - getD b a 0)) × (number b (o + 4) ≡ i)
+LedTo b o i d a = (recordAt inRows b o .symbol ≡ at (word plain (restAt b a)) (d - getD b a 0)) × (recordAt inRows b o .first ≡ i)
 
 abbrev pub LedSays : Bytes → ℕ → ℕ → ℕ → ℕ → Bool → Type 0
 LedSays b o i d a true = LedTo b o i d a
@@ -32,7 +33,7 @@ LedSays b o i d a false = LedTo b o i d a → ⊥
 
 -- a leaf's depth, of a name of len bytes, and its number of nodes
 abbrev pub LeafAt : Bytes → ℕ → ℕ → Type 0
-LeafAt b o len = (number b (o + 2) ≡ suc len) × (number b (o + 8) ≡ 1)
+LeafAt b o len = (recordAt inRows b o .depth ≡ suc len) × (recordAt inRows b o .nodes ≡ 1)
 
 abbrev pub LeafSays : Bytes → ℕ → ℕ → Bool → Type 0
 LeafSays b o len true = LeafAt b o len
@@ -41,12 +42,12 @@ LeafSays b o len false = LeafAt b o len → ⊥
 -- the record at o has several of the `left` names that are left of a row of n, not all n, a depth greater than the row's and less than
 -- any name's length can be, and nodes that end by e
 pub record MayBeFork (b : Bytes) (o e n d left : ℕ) : Type 0 where
-  pub several : 2 ≤ number b (o + 6)
-  pub proper : number b (o + 6) < n
-  pub upto : number b (o + 6) ≤ left
-  pub below : d < number b (o + 2)
-  pub shallow : number b (o + 2) < longest
-  pub ends : o + nodeSize * number b (o + 8) ≤ e
+  pub several : 2 ≤ recordAt inRows b o .names
+  pub proper : recordAt inRows b o .names < n
+  pub upto : recordAt inRows b o .names ≤ left
+  pub below : d < recordAt inRows b o .depth
+  pub shallow : recordAt inRows b o .depth < longest
+  pub ends : o + recordAt inRows b o .nodes * nodeSize ≤ e
 
 abbrev pub ForkSays : Bytes → ℕ → ℕ → ℕ → ℕ → ℕ → Bool → Type 0
 ForkSays b o e n d left true = MayBeFork b o e n d left
@@ -64,11 +65,11 @@ pub record Ask (b : Bytes) (lo n a : ℕ) : Type 0 where
 
 -- the record at o is of several names; the first entry's count is no greater than the depth that it tells
 pub record NodeAsk (b : Bytes) (o a : ℕ) : Type 0 where
-  pub ask : Ask b (number b (o + 4)) (number b (o + 6)) a
-  pub several : 2 ≤ number b (o + 6)
-  pub low : getD b a 0 ≤ number b (o + 2)
-  pub room : o + nodeSize ≤ length b
-  pub long : o + nodeSize * number b (o + 8) + trailerSize ≤ length b
+  pub ask : Ask b (recordAt inRows b o .first) (recordAt inRows b o .names) a
+  pub several : 2 ≤ recordAt inRows b o .names
+  pub low : getD b a 0 ≤ recordAt inRows b o .depth
+  pub room : Roomy inRows b o
+  pub long : o + recordAt inRows b o .nodes * nodeSize + trailerSize ≤ length b
 
 -- the row ends at e, which is before the trailer
 pub record RowAsk (b : Bytes) (e lo n d a : ℕ) : Type 0 where
@@ -85,12 +86,12 @@ pub record Says (Stands : Type 0) (b : Bytes) (i r : ℕ) : Type 0 where
 -- as far as the record says: its first name, its number of names, its symbol, its number of nodes
 abbrev pub NodeSays : Bytes → ℕ → ℕ → Type 0
 NodeSays b o r =
-    Says (NodeAt b (wordsOf plain b) (number b (o + 4)) (number b (o + 4) + number b (o + 6)) (number b o) o (o + nodeSize * number b (o + 8)))
-    b (pred (number b (o + 4) + number b (o + 6))) r
+    Says (NodeAt inRows b (wordsOf plain b) (recordAt inRows b o .first) (recordAt inRows b o .first + recordAt inRows b o .names) (recordAt inRows b o .symbol) o (o + recordAt inRows b o .nodes * nodeSize))
+    b (pred (recordAt inRows b o .first + recordAt inRows b o .names)) r
 
 -- from o to e, of a node of depth d
 abbrev pub RowSays : Bytes → ℕ → ℕ → ℕ → ℕ → ℕ → ℕ → Type 0
-RowSays b o e lo n d r = Says (GroupAt b (wordsOf plain b) lo (lo + n) d o e) b (pred (lo + n)) r
+RowSays b o e lo n d r = Says (GroupAt inRows b (wordsOf plain b) lo (lo + n) d o e) b (pred (lo + n)) r
 
 -- ---- the whole table
 

@@ -4,28 +4,18 @@ ghost use mathlib.Core.Path.{_≡_};
 ghost use Prim.Native.Nat.{_+_, _-_, _≤_, _<_};
 ghost use lib.ListN.{length, getD};
 ghost use Rattle.words.specs.Words.{plain, word, at};
-ghost use Rattle.format.specs.Book.{nodeSize};
 ghost use Rattle.streams.specs.Streams.{entryEnd, lengthAt, restAt};
+ghost use Rattle.standing.specs.Maps.{Roomy, inRows};
 ghost use Rattle.inspect.specs.Check.{ForkSays, LeafSays, LedSays, NodeAsk, NodeSays, RowAsk, RowSays, TableAsk, isTable};
-
-// The symbol of a byte.
-fn symbol(x: u8) -> usize
-    ensures { λ r. ⌜ (r ≡ plain x) × (r < 257) ⌝ }
-{
-    numbers::wide(x) + 1
-}
 
 // Symbol number d of the name of the entry at a, which shares no more than d bytes.
 fn symbol_of(book: &[u8], a: usize, d: usize) -> usize
     requires { ⌜ (entryEnd (now book) a ≤ length (now book)) × (getD (now book) a 0 ≤ d) ⌝ }
     ensures { λ r. ⌜ r ≡ at (word plain (restAt (now (book .entry)) a)) (d - getD (now (book .entry)) a 0) ⌝ }
 {
-    let i = d - numbers::wide(book[a]);
-    if i < numbers::wide(book[a + 1]) {
-        symbol(book[a + 2 + i])
-    } else {
-        0
-    }
+    let from = a + 2;
+    let to = from + numbers::wide(book[a + 1]);
+    symbols::symbol_at(&book[from..to], numbers::wide(book[a]), d)
 }
 
 // The length of the name of the entry at a.
@@ -38,34 +28,34 @@ fn length_of(book: &[u8], a: usize) -> usize
 
 // Whether symbol number d of the name of the entry at a led to the record at an offset, and its first name is number i.
 fn is_led_to(book: &[u8], o: usize, i: usize, d: usize, a: usize) -> bool
-    requires { ⌜ (o + nodeSize ≤ length (now book)) × (entryEnd (now book) a ≤ length (now book)) × (getD (now book) a 0 ≤ d) ⌝ }
+    requires { ⌜ Roomy inRows (now book) o × (entryEnd (now book) a ≤ length (now book)) × (getD (now book) a 0 ≤ d) ⌝ }
     ensures { λ r. ⌜ LedSays (now (book .entry)) o i d a r ⌝ }
 {
-    if numbers::number_at(book, o) != symbol_of(book, a, d) {
+    if fields::symbol(book, o) != symbol_of(book, a, d) {
         return false;
     }
-    numbers::number_at(book, o + 4) == i
+    fields::first(book, o) == i
 }
 
 // Whether the record at an offset, of one name, whose entry stands at a, has a leaf's depth and number of nodes.
 fn is_leaf(book: &[u8], o: usize, a: usize) -> bool
-    requires { ⌜ (o + nodeSize ≤ length (now book)) × (a + 2 ≤ length (now book)) ⌝ }
+    requires { ⌜ Roomy inRows (now book) o × (a + 2 ≤ length (now book)) ⌝ }
     ensures { λ r. ⌜ LeafSays (now (book .entry)) o (lengthAt (now (book .entry)) a) r ⌝ }
 {
-    if numbers::number_at(book, o + 2) != length_of(book, a) + 1 {
+    if fields::depth(book, o) != length_of(book, a) + 1 {
         return false;
     }
-    numbers::number_at(book, o + 8) == 1
+    fields::nodes(book, o) == 1
 }
 
 // Whether the record at an offset can be a fork's, in the row up to `end` of a node of depth d and n names of which `left` are left: it
 // has several of the names left, and not all n, and its nodes end by `end`. Its depth is greater and below 200: two different names share
 // no more than 199 symbols. So depths bound how far nodes nest, whatever the bytes.
 fn may_be_fork(book: &[u8], o: usize, end: usize, n: usize, d: usize, left: usize) -> bool
-    requires { ⌜ o + nodeSize ≤ length (now book) ⌝ }
+    requires { ⌜ Roomy inRows (now book) o ⌝ }
     ensures { λ r. ⌜ ForkSays (now (book .entry)) o end n d left r ⌝ }
 {
-    let names = numbers::number_at(book, o + 6);
+    let names = fields::names(book, o);
     if names < 2 {
         return false;
     }
@@ -75,14 +65,14 @@ fn may_be_fork(book: &[u8], o: usize, end: usize, n: usize, d: usize, left: usiz
     if left < names {
         return false;
     }
-    let depth = numbers::number_at(book, o + 2);
+    let depth = fields::depth(book, o);
     if depth <= d {
         return false;
     }
     if 200 <= depth {
         return false;
     }
-    o + 10 * numbers::number_at(book, o + 8) <= end
+    o + fields::nodes(book, o) * fields::SIZE <= end
 }
 
 // The node at an offset, of several names, the first one's entry at a: where the entry of its last name stands, or 0, where no node of
@@ -91,11 +81,11 @@ fn check_node(book: &[u8], o: usize, a: usize) -> usize
     requires { ⌜ NodeAsk (now book) o a ⌝ }
     ensures { λ r. ⌜ NodeSays (now (book .entry)) o r ⌝ }
 {
-    let d = numbers::number_at(book, o + 2);
-    let lo = numbers::number_at(book, o + 4);
-    let n = numbers::number_at(book, o + 6);
-    let m = numbers::number_at(book, o + 8);
-    check_row(book, o + 10, o + 10 * m, lo, n, d, a)
+    let d = fields::depth(book, o);
+    let lo = fields::first(book, o);
+    let n = fields::names(book, o);
+    let m = fields::nodes(book, o);
+    check_row(book, o + fields::SIZE, o + m * fields::SIZE, lo, n, d, a)
 }
 
 // The row from an offset to `end` of the n names from number lo on, whose node has depth d; the first one's entry stands at a.
@@ -113,12 +103,12 @@ fn check_row(book: &[u8], o: usize, end: usize, lo: usize, n: usize, d: usize, a
         if !is_led_to(book, child, first, d, entry) {
             return 0;
         }
-        let names = numbers::number_at(book, child + 6);
+        let names = fields::names(book, child);
         if names == 1 {
             if !is_leaf(book, child, entry) {
                 return 0;
             }
-            child += 10;
+            child += fields::SIZE;
         } else {
             if !may_be_fork(book, child, end, n, d, lo + n - first) {
                 return 0;
@@ -127,7 +117,7 @@ fn check_row(book: &[u8], o: usize, end: usize, lo: usize, n: usize, d: usize, a
             if entry == 0 {
                 return 0;
             }
-            child += 10 * numbers::number_at(book, child + 8);
+            child += fields::nodes(book, child) * fields::SIZE;
         }
         first += names;
         if first == lo + n {
@@ -151,19 +141,19 @@ pub fn check_table(book: &[u8], start: usize, end: usize, n: usize) -> bool
     if n == 0 {
         return start == end;
     }
-    if end - start < 10 {
+    if end - start < fields::SIZE {
         return false;
     }
-    if numbers::number_at(book, start) != 0 {
+    if fields::symbol(book, start) != 0 {
         return false;
     }
-    if numbers::number_at(book, start + 4) != 0 {
+    if fields::first(book, start) != 0 {
         return false;
     }
-    if numbers::number_at(book, start + 6) != n {
+    if fields::names(book, start) != n {
         return false;
     }
-    if start + 10 * numbers::number_at(book, start + 8) != end {
+    if start + fields::nodes(book, start) * fields::SIZE != end {
         return false;
     }
     if n == 1 {

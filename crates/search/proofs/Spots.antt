@@ -20,13 +20,14 @@ use Rattle.format.specs.Nodes.{table}
 use Rattle.answers.specs.Questions.{Pair as Numbers, ask, count, exact, nearest, place, range, reached}
 use Rattle.answers.proofs.Nearest.{reached-most}
 use Rattle.descent.specs.Vocabulary.{Descended, Highest, Reached, Searchable, Sits, Sought, asked, from, node, upto}
+use Rattle.standing.specs.Maps.{rowsAt}
 use Rattle.descent.proofs.Cuts.{exact-here, exact-nowhere, range-none, whole-range}
 use Rattle.descent.proofs.Paths.{edge-after, edge-before, fork-child, fork-end, fork-wide, found, only-reached, passed-deepens, passed-sits, reached-is}
 use Rattle.format.specs.Book.{namesOf, wordsOf}
 use Rattle.accept.specs.Parts.{told}
 use Rattle.names.specs.Names.{Named, PositionAsk}
 use Rattle.search.specs.Asks.{Askable, AtFork, AtSpot, MetSays, Numbered, OnPath, SpotSays}
-use Rattle.search.proofs.Ways.{asked-length}
+use Rattle.search.proofs.Ways.{asked-at, asked-length}
 
 -- ---- `highest`
 
@@ -89,17 +90,17 @@ module _ (b : Bytes) (position : ℕ) {len : ℕ} (q name : Bytes) (n : Named (g
       let z : len - 0 ≡ len = omega arith in
       ap (λ (i : ℕ). word plain (take i name)) z ∙ ap (word plain) (n .name-is) ∙ sym (nth-word plain (namesOf b) position)
 
-  pub met : {m s : ℕ} → m ≡ shared (word plain q) (word plain (take (len - 0) name)) → s ≡ at (asked plain (take (len - 0) name)) m
+  pub met : {m s : ℕ} → m ≡ shared (word plain q) (word plain (take (len - 0) name)) → s ≡ at (word plain (take (len - 0) name)) (m - 0)
       → MetSays (wordsOf plain b) (asked plain q) position m s
   unfolding asked
   met {m} {s} e f = record {
     shares = e ∙ ap (shared (asked plain q)) name-is;
-    next = f ∙ ap (λ (w : List ℕ). at w m) name-is;
+    next = asked-at (take (len - 0) name) m f ∙ ap (λ (w : List ℕ). at w m) name-is;
   }
 
 -- ---- `reach` and `locate`
 
-module _ (b q : Bytes) {start : ℕ} (o : Searchable plain b start) {p : List ℕ} {n last : ℕ} (t : Descended (wordsOf plain b) (asked plain q) p n last) where
+module _ (b q : Bytes) {start : ℕ} (o : Searchable plain b (rowsAt start)) {p : List ℕ} {n last : ℕ} (t : Descended (wordsOf plain b) (asked plain q) p n last) where
   ends : Sits (wordsOf plain b) last
   ends = passed-sits (wordsOf plain b) (o .rises) (t .path) (o .short)
 
@@ -147,14 +148,14 @@ end-ask {b} q a t f = name-ask (asked plain q) a (end-reached b q (a .searchable
 
 -- d is the node's depth, f its first name, n how many it has, y its number of nodes, t the question's symbol, c the child that was sought
 module _ {b q : Bytes} {start v m s : ℕ} (a : AtSpot b start q v m s) {d : ℕ} (de : d ≡ node (wordsOf plain b) v .depth) where
-  pub seat-before : {f n t : ℕ} → f ≡ node (wordsOf plain b) v .first → n ≡ node (wordsOf plain b) v .names → m < d → t ≡ at (asked plain q) m → s < t
+  pub seat-before : {f n t : ℕ} → f ≡ node (wordsOf plain b) v .first → n ≡ node (wordsOf plain b) v .names → m < d → t ≡ at (word plain q) (m - 0) → s < t
       → f + n ≡ place (asked plain q) (wordsOf plain b)
   seat-before fe ne h e l =
-      omega (arith, edge-before (wordsOf plain b) (a .searchable .rises) (a .spot .located .found) (omega arith) (omega (arith, a .spot .next)))
+      omega (arith, edge-before (wordsOf plain b) (a .searchable .rises) (a .spot .located .found) (omega arith) (omega (arith, a .spot .next, asked-at q m e)))
 
-  pub seat-after : {f t : ℕ} → f ≡ node (wordsOf plain b) v .first → m < d → t ≡ at (asked plain q) m → t ≤ s → f ≡ place (asked plain q) (wordsOf plain b)
+  pub seat-after : {f t : ℕ} → f ≡ node (wordsOf plain b) v .first → m < d → t ≡ at (word plain q) (m - 0) → t ≤ s → f ≡ place (asked plain q) (wordsOf plain b)
   seat-after fe h e l =
-      omega (arith, edge-after (wordsOf plain b) (a .searchable .rises) (a .spot .located .found) (omega arith) (omega (arith, a .spot .next)))
+      omega (arith, edge-after (wordsOf plain b) (a .searchable .rises) (a .spot .located .found) (omega arith) (omega (arith, a .spot .next, asked-at q m e)))
 
   module _ (h : d ≤ m) where
     deep : node (wordsOf plain b) v .depth ≤ m
@@ -167,9 +168,9 @@ module _ {b q : Bytes} {start v m s : ℕ} (a : AtSpot b start q v m s) {d : ℕ
       several = fork-wide (wordsOf plain b) (a .searchable .rises) (a .spot .located .found) deep;
     }
 
-    module _ {t c y : ℕ} (e : t ≡ at (asked plain q) m) (k : Sought (wordsOf plain b) v t c) (ye : y ≡ node (wordsOf plain b) v .nodes) where
+    module _ {t c y : ℕ} (e : t ≡ at (word plain q) (m - 0)) (k : Sought (wordsOf plain b) v t c) (ye : y ≡ node (wordsOf plain b) v .nodes) where
       sought : Sought (wordsOf plain b) v (at (asked plain q) m) c
-      sought = subst (λ (i : ℕ). Sought (wordsOf plain b) v i c) e k
+      sought = subst (λ (i : ℕ). Sought (wordsOf plain b) v i c) (asked-at q m e) k
 
       pub seat-child : {f : ℕ} → f ≡ node (wordsOf plain b) c .first → c < v + y → f ≡ place (asked plain q) (wordsOf plain b)
       seat-child fe g = fe ∙ fork-child (wordsOf plain b) (a .searchable .rises) (a .spot .located .found) deep sought (omega arith)
@@ -182,7 +183,7 @@ module _ {b q : Bytes} {start v m s : ℕ} (a : AtSpot b start q v m s) {d : ℕ
 abbrev pair : ℕ → ℕ → Numbers
 pair y z = (y, z)
 
-module _ {b : Bytes} {start : ℕ} (q : Bytes) (o : Searchable plain b start) where
+module _ {b : Bytes} {start : ℕ} (q : Bytes) (o : Searchable plain b (rowsAt start)) where
   module _ {v m s : ℕ} (a : SpotSays (wordsOf plain b) (asked plain q) v m s) where
     pub range-short : m < length q → {r : ℕ} → r ≡ place (asked plain q) (wordsOf plain b) → (r, 0) ≡ range (asked plain q) (wordsOf plain b)
     unfolding range

@@ -1,27 +1,36 @@
 -- The way down: what the functions of the descent keep, and how each of their ways ends.
---     symbol-in, symbol-past    a byte's symbol; past the last byte stands the end symbol
---     asked-length              a question has as many symbols as bytes
+--     field-..                  a field of a node, where the map says
+--     asked-length, asked-at    a question has as many symbols as bytes; its symbol at a depth
 --     seek-next, seek-less      the loop of `seek`
 --     stay-.., go-down          the ways out of `child`
 --     Going, way-.., go-..      the loop of `descend`
 -- Assumes nothing.
-use Prim.Native.Nat.{ℕ, _+_, _-_, _≤_, _<_}
-use native.Mathlib.Numerals.{add-one}
+use Prim.Native.Nat.{ℕ, _+_, _-_, _*_, _≤_, _<_}
 use native.Mathlib.Omega.{arith}
 use mathlib.Core.Path.{_≡_, _∙_, ap, subst, sym}
 use mathlib.Core.List.{List}
 use lib.ListN.{getD, length, length-map, set}
 use mir.Val.{Fits}
 use mir.Syntax.{w16, w64}
-use Rattle.words.specs.Words.{Bytes, Rises, Words, at, plain}
-use Rattle.words.proofs.Words.{at-past, word-at}
-use Rattle.format.specs.Book.{wordsOf}
+use Rattle.words.specs.Words.{Bytes, Rises, Words, at, plain, word}
+use Rattle.format.specs.Book.{fields, nodeSize, wordsOf}
+use Rattle.format.specs.Nodes.{Node}
 use Rattle.descent.specs.Vocabulary.{Descended, Halts, Passed, Searchable, Seeking, Sits, Sought, Taken, asked, node}
+use Rattle.standing.specs.Maps.{Roomy, inRows, recordAt, rowsAt}
 use Rattle.descent.proofs.Paths.{halt-end, halt-leaf, halt-other, halt-short, passed-few, passed-on, passed-room, passed-sits, passed-start, taken}
 use Rattle.descent.proofs.Rows.{seek-some, seek-stop}
-use Rattle.search.specs.Asks.{AtNode, WayOf}
+use Rattle.search.specs.Asks.{AtNode, FieldAsk, WayOf}
 use Rattle.search.specs.declared.Way.{Way}
 use Rattle.search.specs.declared.Way.the-variants.{Down, Stay}
+
+-- ---- `field`
+
+module _ {b : Bytes} {start v j : ℕ} (a : FieldAsk b start v j) where
+  pub field-room : Roomy inRows b (start + v * nodeSize)
+  field-room = a .numbered .searchable .table .room v (a .numbered .inside)
+
+  pub field-told : {r : ℕ} → r ≡ getD (fields (recordAt inRows b (start + v * nodeSize))) j 0 → r ≡ getD (fields (node (wordsOf plain b) v)) j 0
+  field-told e = e ∙ ap (λ (n : Node). getD (fields n) j 0) (a .numbered .searchable .table .told v (a .numbered .inside))
 
 -- ---- symbols by the plain rule
 
@@ -29,17 +38,17 @@ pub asked-length : (s : Bytes) → length (asked plain s) ≡ length s
 unfolding asked
 asked-length s = length-map s plain
 
-pub symbol-in : (s : Bytes) (d : ℕ) → d < length s → getD s d 0 + 1 ≡ at (asked plain s) d
+-- t is the symbol of a question, none of whose bytes is skipped
+pub asked-at : (s : Bytes) (d : ℕ) {t : ℕ} → t ≡ at (word plain s) (d - 0) → t ≡ at (asked plain s) d
 unfolding asked
-symbol-in s d h = add-one (getD s d 0) ∙ sym (word-at plain s d h)
-
-pub symbol-past : (s : Bytes) (d : ℕ) → length s ≤ d → 0 ≡ at (asked plain s) d
-symbol-past s d h = sym (at-past (asked plain s) d (omega (arith, asked-length s)))
+asked-at s d e =
+    let z : d - 0 ≡ d = omega arith in
+    e ∙ ap (at (word plain s)) z
 
 -- ---- `seek`
 
 -- the next child lies within the row, and further on
-module _ {b : Bytes} {start v s c : ℕ} (o : Searchable plain b start) (k : Seeking (wordsOf plain b) v s c) (x y : ℕ)
+module _ {b : Bytes} {start v s c : ℕ} (o : Searchable plain b (rowsAt start)) (k : Seeking (wordsOf plain b) v s c) (x y : ℕ)
     (xe : x ≡ node (wordsOf plain b) v .nodes) (h : c < v + x) (ye : y ≡ node (wordsOf plain b) c .nodes) where
   pub seek-next : Fits w64 (c + y)
   seek-next = omega (arith, seek-stop (wordsOf plain b) (o .rises) k (omega arith), k .row .limit, o .small)
@@ -58,9 +67,9 @@ module _ (b q : Bytes) {v : ℕ} (r : Rises (wordsOf plain b)) (z : Sits (wordsO
     pub stay-short : length q < d → Halts (wordsOf plain b) (asked plain q) v
     stay-short h = halt-short (wordsOf plain b) r (asked plain q) z (λ i. n (xe ∙ i)) (omega (arith, asked-length q))
 
-    module _ (h : d ≤ length q) {t c y : ℕ} (e : t ≡ at (asked plain q) d) (k : Sought (wordsOf plain b) v t c) (ye : y ≡ node (wordsOf plain b) v .nodes) where
+    module _ (h : d ≤ length q) {t c y : ℕ} (e : t ≡ at (word plain q) (d - 0)) (k : Sought (wordsOf plain b) v t c) (ye : y ≡ node (wordsOf plain b) v .nodes) where
       symbol : t ≡ at (asked plain q) (node (wordsOf plain b) v .depth)
-      symbol = e ∙ ap (at (asked plain q)) de
+      symbol = asked-at q d e ∙ ap (at (asked plain q)) de
 
       long : node (wordsOf plain b) v .depth ≤ length (asked plain q)
       long = omega (arith, asked-length q)
@@ -76,7 +85,7 @@ module _ (b q : Bytes) {v : ℕ} (r : Rises (wordsOf plain b)) (z : Sits (wordsO
         stay-other o = halt-other (wordsOf plain b) r (asked plain q) z (λ i. n (xe ∙ i)) long sought (omega arith) (λ j. o (ue ∙ j ∙ sym symbol))
 
 -- its premises stand in the order in which a search finds them, not in the section's
-pub go-down : (b q : Bytes) {v x d t c y u : ℕ} → Sought (wordsOf plain b) v t c → u ≡ t → (x ≡ 1 → ⊥) → d ≤ length q → c < v + y → t ≡ at (asked plain q) d
+pub go-down : (b q : Bytes) {v x d t c y u : ℕ} → Sought (wordsOf plain b) v t c → u ≡ t → (x ≡ 1 → ⊥) → d ≤ length q → c < v + y → t ≡ at (word plain q) (d - 0)
     → u ≡ node (wordsOf plain b) c .symbol → d ≡ node (wordsOf plain b) v .depth → x ≡ node (wordsOf plain b) v .names → y ≡ node (wordsOf plain b) v .nodes
     → Rises (wordsOf plain b) → Sits (wordsOf plain b) v → Taken (wordsOf plain b) (asked plain q) v c
 go-down b q k j n h g e ue de xe ye r z =
@@ -87,10 +96,10 @@ go-down b q k j n h g e ue de xe ye r z =
 
 -- the path so far, from the root to the node at hand
 pub record Going (b : Bytes) (start : ℕ) (q : Bytes) (p : List ℕ) (n v : ℕ) : Type 0 where
-  pub searchable : Searchable plain b start
+  pub searchable : Searchable plain b (rowsAt start)
   pub path : Passed (wordsOf plain b) (asked plain q) p n v
 
-pub go-start : {b : Bytes} {start : ℕ} {q p : Bytes} → Searchable plain b start → length p ≡ 202 → getD p 0 0 ≡ 0 → Going b start q p 1 0
+pub go-start : {b : Bytes} {start : ℕ} {q p : Bytes} → Searchable plain b (rowsAt start) → length p ≡ 202 → getD p 0 0 ≡ 0 → Going b start q p 1 0
 go-start {b} {start} {q} {p} o l e = record { searchable = o; path = passed-start (wordsOf plain b) (o .rises) (asked plain q) p (o .some) l e }
 
 pub way-down : {ws : Words} {q : List ℕ} {v c : ℕ} {r : Way} → r ≡ Down c → WayOf ws q v r → Taken ws q v c

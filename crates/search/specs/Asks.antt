@@ -16,7 +16,8 @@ use Rattle.words.specs.Words.{Bytes, Words, at, nth, plain, shared}
 use Rattle.format.specs.Nodes.{table}
 use Rattle.answers.specs.Questions.{Pair as Numbers, reached}
 use Rattle.descent.specs.Vocabulary.{Halts, Located, Searchable, Sits, Taken, asked, node}
-use Rattle.format.specs.Book.{wordsOf}
+use Rattle.format.specs.Book.{fieldCount, wordsOf}
+use Rattle.standing.specs.Maps.{rowsAt}
 use Rattle.accept.specs.Parts.{Parts, told}
 use Rattle.search.specs.declared.Pair.{Pair}
 use Rattle.search.specs.declared.Way.{Way}
@@ -25,19 +26,19 @@ use Rattle.search.specs.declared.Way.the-variants.{Down, Stay}
 -- ---- the table of nodes, which starts at `start`
 
 pub record Numbered (b : Bytes) (start v : ℕ) : Type 0 where
-  pub searchable : Searchable plain b start
+  pub searchable : Searchable plain b (rowsAt start)
   pub inside : v < length (table (wordsOf plain b))
 
 pub record FieldAsk (b : Bytes) (start v j : ℕ) : Type 0 where
   pub numbered : Numbered b start v
-  pub field : j < 5
+  pub field : j < fieldCount
 
 pub record AtNode (b : Bytes) (start v : ℕ) : Type 0 where
-  pub searchable : Searchable plain b start
+  pub searchable : Searchable plain b (rowsAt start)
   pub sits : Sits (wordsOf plain b) v
 
 pub record AtFork (b : Bytes) (start v : ℕ) : Type 0 where
-  pub searchable : Searchable plain b start
+  pub searchable : Searchable plain b (rowsAt start)
   pub sits : Sits (wordsOf plain b) v
   pub several : node (wordsOf plain b) v .names ≡ 1 → ⊥
 
@@ -49,7 +50,7 @@ WayOf ws q v Stay = Halts ws q v
 
 -- the first n numbers of p are nodes, and their depths rise
 pub record OnPath (b : Bytes) (start : ℕ) (p : List ℕ) (n : ℕ) : Type 0 where
-  pub searchable : Searchable plain b start
+  pub searchable : Searchable plain b (rowsAt start)
   pub long : length p ≡ 202
   pub some : 0 < n
   pub few : n ≤ 202
@@ -69,7 +70,7 @@ pub record SpotSays (ws : Words) (q : List ℕ) (v m s : ℕ) : Type 0 where
   pub next : s ≡ at (nth ws (reached q ws)) m
 
 pub record AtSpot (b : Bytes) (start : ℕ) (q : Bytes) (v m s : ℕ) : Type 0 where
-  pub searchable : Searchable plain b start
+  pub searchable : Searchable plain b (rowsAt start)
   pub spot : SpotSays (wordsOf plain b) (asked plain q) v m s
 
 -- ---- the questions
@@ -77,7 +78,7 @@ pub record AtSpot (b : Bytes) (start : ℕ) (q : Bytes) (v m s : ℕ) : Type 0 w
 pub record Askable (b : Bytes) (k start : ℕ) : Type 0 where
   pub parts : Parts b
   pub block : k ≡ told b 2
-  pub searchable : Searchable plain b start
+  pub searchable : Searchable plain b (rowsAt start)
 
 pub record KindAsk (b : Bytes) (k kind : ℕ) : Type 0 where
   pub askable : Askable b k (told b 6)

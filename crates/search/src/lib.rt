@@ -3,8 +3,9 @@
 ghost use mathlib.Core.Path.{_≡_};
 ghost use Prim.Native.Nat.{_≤_};
 ghost use lib.ListN.{getD};
-ghost use Rattle.words.specs.Words.{at, plain};
+ghost use Rattle.words.specs.Words.{plain};
 ghost use Rattle.format.specs.Book.{fields, wordsOf};
+ghost use Rattle.standing.specs.Maps.{rowsAt};
 ghost use Rattle.answers.specs.Questions.{ask, exact, nearest, place, range};
 ghost use Rattle.descent.specs.Vocabulary.{Descended, Highest, Located, Reached, Searchable, Sought, asked, node};
 ghost use Rattle.names.specs.Names.{PositionAsk};
@@ -47,7 +48,7 @@ fn field(book: &[u8], nodes: usize, v: usize, j: usize) -> usize
     requires { ⌜ FieldAsk (now book) nodes v j ⌝ }
     ensures { λ r. ⌜ r ≡ getD (fields (node (wordsOf plain (now (book .entry))) v)) j 0 ⌝ }
 {
-    numbers::number_at(book, nodes + v * 10 + 2 * j)
+    fields::field(book, nodes + v * fields::SIZE, j)
 }
 
 fn symbol_of(book: &[u8], nodes: usize, v: usize) -> usize
@@ -85,17 +86,6 @@ fn nodes_of(book: &[u8], nodes: usize, v: usize) -> usize
     field(book, nodes, v, 4)
 }
 
-// Symbol number d of a name or a question: past its last byte stands the end symbol.
-fn symbol_at(name: &[u8], d: usize) -> usize
-    ensures { λ r. ⌜ r ≡ at (asked plain (now (name .entry))) d ⌝ }
-{
-    if d < name.len() {
-        numbers::wide(name[d]) + 1
-    } else {
-        0
-    }
-}
-
 // The first child of v whose symbol is not below s, or the end of v's row where there is none.
 fn seek(book: &[u8], nodes: usize, v: usize, s: usize) -> usize
     requires { ⌜ AtFork (now book) nodes v ⌝ }
@@ -125,7 +115,7 @@ fn child(book: &[u8], nodes: usize, question: &[u8], v: usize) -> Way
     if question.len() < d {
         return Way::Stay;
     }
-    let s = symbol_at(question, d);
+    let s = symbols::symbol_at(question, 0, d);
     let c = seek(book, nodes, v, s);
     if v + nodes_of(book, nodes, v) <= c {
         return Way::Stay;
@@ -138,7 +128,7 @@ fn child(book: &[u8], nodes: usize, question: &[u8], v: usize) -> Way
 
 // The way down from the root.
 fn descend(book: &[u8], nodes: usize, question: &[u8]) -> Descent
-    requires { ⌜ Searchable plain (now book) nodes ⌝ }
+    requires { ⌜ Searchable plain (now book) (rowsAt nodes) ⌝ }
     ensures { λ r. ⌜ Descended (wordsOf plain (now (book .entry))) (asked plain (now (question .entry))) (r .path) (r .len) (r .last) ⌝ }
 {
     let mut path = [0u16; 202];
@@ -191,14 +181,14 @@ fn meet(book: &[u8], k: usize, position: usize, question: &[u8]) -> Met
     let entry = names::read_name(book, k, position);
     let name = entry.name;
     let len = entry.len;
-    let shared = entries::shared_symbols(question, &name[0..len]);
-    let symbol = symbol_at(&name[0..len], shared);
+    let shared = symbols::shared_symbols(question, &name[0..len]);
+    let symbol = symbols::symbol_at(&name[0..len], 0, shared);
     Met { shared, symbol }
 }
 
 // The position that the question reaches.
 fn reach(book: &[u8], nodes: usize, question: &[u8]) -> usize
-    requires { ⌜ Searchable plain (now book) nodes ⌝ }
+    requires { ⌜ Searchable plain (now book) (rowsAt nodes) ⌝ }
     ensures { λ r. ⌜ Reached (wordsOf plain (now (book .entry))) (asked plain (now (question .entry))) r ⌝ }
 {
     let way = descend(book, nodes, question);
@@ -229,7 +219,7 @@ fn seat(book: &[u8], nodes: usize, question: &[u8], spot: Spot) -> usize
 {
     let v = spot.node;
     let shared = spot.shared;
-    let s = symbol_at(question, shared);
+    let s = symbols::symbol_at(question, 0, shared);
     let first = first_of(book, nodes, v);
     let past = first + names_of(book, nodes, v);
     if shared < depth_of(book, nodes, v) {

@@ -16,10 +16,11 @@ use lib.ListN.{length}
 use Rattle.words.specs.Words.{Bytes, Rises, Words, at, nth, shared, span}
 use Rattle.words.proofs.Rising.{nth-less, nth-positive, span-length}
 use Rattle.words.proofs.Words.{further, less-parts, part-at, shared-at, shared-le, shared-self, shared-trans}
-use Rattle.format.specs.Book.{number}
 use Rattle.format.specs.Nodes.{Node, deep, fork, leaf, nodeTable, rowTable}
 use Rattle.format.proofs.Spans.{ranked-within, span-share, table-more, table-none, table-one, table-run}
-use Rattle.standing.specs.Stands.{Child, GroupAt, NodeAt, RowAt, Stands, recordAt}
+use Rattle.standing.specs.Maps.{Map, Roomy, recordAt}
+use Rattle.standing.specs.Stands.{Child, GroupAt, NodeAt, RowAt, Stands}
+use Rattle.standing.proofs.Maps.{strides-differ}
 use Rattle.standing.proofs.Records.{Parts, stands-end, stands-join, stands-split}
 
 module _ (ws : Words) (r : Rises ws) where
@@ -98,7 +99,7 @@ module _ (ws : Words) (r : Rises ws) where
             (subst (λ (x : ℕ). at (nth ws mid) x ≡ at (nth ws (pred mid)) x) (sym s) (e ∙ sym same))
 
   -- ---- a row, child by child
-  module _ (b : Bytes) where
+  module _ (μ : Map) (b : Bytes) where
     -- the words' row is the child's node and the row of the others
     run-row : (d lo mid hi : ℕ) → hi ≤ length ws → d ≤ deep ws lo hi → Alike d lo hi mid
         → rowTable lo d (span ws lo hi) ≡ nodeTable lo (at (nth ws lo) d) (span ws lo mid) ++ rowTable mid d (span ws mid hi)
@@ -106,11 +107,11 @@ module _ (ws : Words) (r : Rises ws) where
         table-run ws d lo mid hi (u .some) (u .upto) l (ranked-within ws r d lo hi (omega (arith, u .some, u .upto)) l h) (u .same) (u .other)
 
     -- the last child is the whole row
-    pub row-last : (d lo hi o e : ℕ) → hi ≤ length ws → d ≤ length (nth ws lo) → Child b ws d lo hi o e → RowAt b ws lo hi d o e
+    pub row-last : (d lo hi o e : ℕ) → hi ≤ length ws → d ≤ length (nth ws lo) → Child μ b ws d lo hi o e → RowAt μ b ws lo hi d o e
     row-last d lo hi o e l q c = record {
       share = h;
-      stands = subst (λ (rs : List Node). Stands b o rs e) (sym (run-row d lo hi hi l h u)) (stands-join b (nodeTable lo (at (nth ws lo) d) (span ws lo hi)) (rowTable hi d (span ws hi hi)) o e e (c .node .stands)
-          (subst (λ (rs : List Node). Stands b e rs e) (sym (table-none ws d hi)) refl));
+      stands = subst (λ (rs : List Node). Stands μ b o rs e) (sym (run-row d lo hi hi l h u)) (stands-join μ b (nodeTable lo (at (nth ws lo) d) (span ws lo hi)) (rowTable hi d (span ws hi hi)) o e e (c .node .stands)
+          (subst (λ (rs : List Node). Stands μ b e rs e) (sym (table-none ws d hi)) refl));
     }
       where
         h : d ≤ deep ws lo hi
@@ -123,12 +124,12 @@ module _ (ws : Words) (r : Rises ws) where
         u = run-of d lo hi hi l (c .some) (omega arith) (c .below) (λ n. absurd (lt-irrefl hi n))
 
     -- a child, and the row of the others
-    pub row-more : (d lo mid hi o m e : ℕ) → hi ≤ length ws → mid < hi → Child b ws d lo mid o m → shared (nth ws (pred mid)) (nth ws mid) ≡ d
-        → RowAt b ws mid hi d m e → RowAt b ws lo hi d o e
+    pub row-more : (d lo mid hi o m e : ℕ) → hi ≤ length ws → mid < hi → Child μ b ws d lo mid o m → shared (nth ws (pred mid)) (nth ws mid) ≡ d
+        → RowAt μ b ws mid hi d m e → RowAt μ b ws lo hi d o e
     row-more d lo mid hi o m e l n c q t = record {
       share = h;
-      stands = subst (λ (rs : List Node). Stands b o rs e) (sym (run-row d lo mid hi l h u))
-          (stands-join b (nodeTable lo (at (nth ws lo) d) (span ws lo mid)) (rowTable mid d (span ws mid hi)) o m e (c .node .stands) (t .stands));
+      stands = subst (λ (rs : List Node). Stands μ b o rs e) (sym (run-row d lo mid hi l h u))
+          (stands-join μ b (nodeTable lo (at (nth ws lo) d) (span ws lo mid)) (rowTable mid d (span ws mid hi)) o m e (c .node .stands) (t .stands));
     }
       where
         first : d ≤ deep ws lo mid
@@ -147,23 +148,23 @@ module _ (ws : Words) (r : Rises ws) where
     -- what stands after the first child of a row
     pub data Others (d mid hi m e : ℕ) : Type 0 where
       ended : mid ≡ hi → m ≡ e → Others d mid hi m e
-      going : mid < hi → shared (nth ws (pred mid)) (nth ws mid) ≡ d → RowAt b ws mid hi d m e → Others d mid hi m e
+      going : mid < hi → shared (nth ws (pred mid)) (nth ws mid) ≡ d → RowAt μ b ws mid hi d m e → Others d mid hi m e
 
     pub record Lead (d lo hi o e : ℕ) : Type 0 where
       pub mid : ℕ
       pub end : ℕ
       pub upto : mid ≤ hi
-      pub child : Child b ws d lo mid o end
+      pub child : Child μ b ws d lo mid o end
       pub others : Others d mid hi end e
 
-    pub row-child : (d lo hi o e : ℕ) → lo < hi → hi ≤ length ws → RowAt b ws lo hi d o e → Lead d lo hi o e
+    pub row-child : (d lo hi o e : ℕ) → lo < hi → hi ≤ length ws → RowAt μ b ws lo hi d o e → Lead d lo hi o e
     row-child d lo hi o e a l t = record {
       mid = mid;
       end = p .seam;
       upto = u .upto;
       child = record { some = u .some; node = record { stands = p .left }; below = run-below d lo mid hi l (t .share) u };
       others = elim (eq-or-lt-of-le (u .upto)) [
-        | inl k ↦ ended k (subst (λ (rs : List Node). Stands b (p .seam) rs e) (ap (λ (x : ℕ). rowTable mid d (span ws mid x)) (sym k) ∙ table-none ws d mid) (p .right))
+        | inl k ↦ ended k (subst (λ (rs : List Node). Stands μ b (p .seam) rs e) (ap (λ (x : ℕ). rowTable mid d (span ws mid x)) (sym k) ∙ table-none ws d mid) (p .right))
         | inr k ↦ going k (run-edge d lo mid hi l (t .share) u k) (record { share = rest k; stands = p .right })
       ];
     }
@@ -174,9 +175,9 @@ module _ (ws : Words) (r : Rises ws) where
         u : Alike d lo hi mid
         u = (run-stop d lo hi a) .run
 
-        p : Parts b (nodeTable lo (at (nth ws lo) d) (span ws lo mid)) (rowTable mid d (span ws mid hi)) o e
-        p = stands-split b (nodeTable lo (at (nth ws lo) d) (span ws lo mid)) (rowTable mid d (span ws mid hi)) o e
-            (subst (λ (rs : List Node). Stands b o rs e) (run-row d lo mid hi l (t .share) u) (t .stands))
+        p : Parts μ b (nodeTable lo (at (nth ws lo) d) (span ws lo mid)) (rowTable mid d (span ws mid hi)) o e
+        p = stands-split μ b (nodeTable lo (at (nth ws lo) d) (span ws lo mid)) (rowTable mid d (span ws mid hi)) o e
+            (subst (λ (rs : List Node). Stands μ b o rs e) (run-row d lo mid hi l (t .share) u) (t .stands))
 
         rest : mid < hi → d ≤ deep ws mid hi
         rest k = omega (arith, t .share, deep-rest lo mid hi (omega (arith, u .some)) k l)
@@ -184,27 +185,27 @@ module _ (ws : Words) (r : Rises ws) where
     -- ---- a node
 
     -- a leaf's record
-    pub leaf-node : (s lo o : ℕ) → lo < length ws → o + 10 ≤ length b → recordAt b o ≡ leaf lo s (nth ws lo) → NodeAt b ws lo (suc lo) s o (o + 10)
-    leaf-node s lo o l f e = record { stands = subst (λ (rs : List Node). Stands b o rs (o + 10)) (sym (table-one ws s lo l)) (f, e, refl) }
+    pub leaf-node : (s lo o : ℕ) → lo < length ws → Roomy μ b o → recordAt μ b o ≡ leaf lo s (nth ws lo) → NodeAt μ b ws lo (suc lo) s o (o + μ .stride)
+    leaf-node s lo o l f e = record { stands = subst (λ (rs : List Node). Stands μ b o rs (o + μ .stride)) (sym (table-one ws s lo l)) (f, e, refl) }
 
     pub record Leaf (s lo o e : ℕ) : Type 0 where
-      pub room : o + 10 ≤ length b
-      pub told : recordAt b o ≡ leaf lo s (nth ws lo)
-      pub end : o + 10 ≡ e
+      pub room : Roomy μ b o
+      pub told : recordAt μ b o ≡ leaf lo s (nth ws lo)
+      pub end : o + μ .stride ≡ e
 
-    pub node-leaf : (s lo o e : ℕ) → lo < length ws → NodeAt b ws lo (suc lo) s o e → Leaf s lo o e
+    pub node-leaf : (s lo o e : ℕ) → lo < length ws → NodeAt μ b ws lo (suc lo) s o e → Leaf s lo o e
     node-leaf s lo o e l n =
-        let h : Stands b o (leaf lo s (nth ws lo) ∷ []) e = subst (λ (rs : List Node). Stands b o rs e) (table-one ws s lo l) (n .stands) in
+        let h : Stands μ b o (leaf lo s (nth ws lo) ∷ []) e = subst (λ (rs : List Node). Stands μ b o rs e) (table-one ws s lo l) (n .stands) in
         record { room = h .0; told = h .1; end = h .2 }
 
     -- the record of a node of several words, and its row
     pub record Fork (s lo hi o e : ℕ) : Type 0 where
-      pub room : o + 10 ≤ length b
-      pub symbol : number b o ≡ s
-      pub first : number b (o + 4) ≡ lo
-      pub names : number b (o + 6) ≡ hi - lo
-      pub nodes : o + 10 * number b (o + 8) ≡ e
-      pub group : GroupAt b ws lo hi (number b (o + 2)) (o + 10) e
+      pub room : Roomy μ b o
+      pub symbol : recordAt μ b o .symbol ≡ s
+      pub first : recordAt μ b o .first ≡ lo
+      pub names : recordAt μ b o .names ≡ hi - lo
+      pub nodes : o + recordAt μ b o .nodes * μ .stride ≡ e
+      pub group : GroupAt μ b ws lo hi (recordAt μ b o .depth) (o + μ .stride) e
 
     module _ (s lo hi o e : ℕ) (a : suc lo < hi) (l : hi ≤ length ws) where
       d : ℕ
@@ -213,27 +214,27 @@ module _ (ws : Words) (r : Rises ws) where
       row : List Node
       row = rowTable lo d (span ws lo hi)
 
-      pub node-split : NodeAt b ws lo hi s o e → Fork s lo hi o e
+      pub node-split : NodeAt μ b ws lo hi s o e → Fork s lo hi o e
       unfolding d row
       node-split n =
-          let h : Stands b o (fork lo s d (span ws lo hi) row ∷ row) e = subst (λ (rs : List Node). Stands b o rs e) (table-more ws s lo hi r a l) (n .stands) in
-          let t : number b (o + 2) ≡ d = ap (λ (x : Node). x .depth) (h .1) in
-          let m : number b (o + 8) ≡ suc (length row) = ap (λ (x : Node). x .nodes) (h .1) in
+          let h : Stands μ b o (fork lo s d (span ws lo hi) row ∷ row) e = subst (λ (rs : List Node). Stands μ b o rs e) (table-more ws s lo hi r a l) (n .stands) in
+          let t : recordAt μ b o .depth ≡ d = ap (λ (x : Node). x .depth) (h .1) in
+          let m : recordAt μ b o .nodes ≡ suc (length row) = ap (λ (x : Node). x .nodes) (h .1) in
           record {
             room = h .0;
             symbol = ap (λ (x : Node). x .symbol) (h .1);
             first = ap (λ (x : Node). x .first) (h .1);
             names = ap (λ (x : Node). x .names) (h .1) ∙ span-length ws lo hi l;
-            nodes = omega (arith, stands-end b row (o + 10) e (h .2));
-            group = record { share = t; stands = subst (λ (x : ℕ). Stands b (o + 10) (rowTable lo x (span ws lo hi)) e) (sym t) (h .2) };
+            nodes = omega (arith, stands-end μ b row (o + μ .stride) e (h .2), ap (λ (x : ℕ). x * μ .stride) m);
+            group = record { share = t; stands = subst (λ (x : ℕ). Stands μ b (o + μ .stride) (rowTable lo x (span ws lo hi)) e) (sym t) (h .2) };
           }
 
-      pub node-join : Fork s lo hi o e → NodeAt b ws lo hi s o e
+      pub node-join : 1 ≤ μ .stride → Fork s lo hi o e → NodeAt μ b ws lo hi s o e
       unfolding d row
-      node-join f =
-          let t : number b (o + 2) ≡ d = f .group .share in
-          let g : Stands b (o + 10) row e = subst (λ (x : ℕ). Stands b (o + 10) (rowTable lo x (span ws lo hi)) e) t (f .group .stands) in
-          let m : number b (o + 8) ≡ suc (length row) = omega (arith, stands-end b row (o + 10) e g, f .nodes) in
-          let told : recordAt b o ≡ fork lo s d (span ws lo hi) row =
+      node-join wide f =
+          let t : recordAt μ b o .depth ≡ d = f .group .share in
+          let g : Stands μ b (o + μ .stride) row e = subst (λ (x : ℕ). Stands μ b (o + μ .stride) (rowTable lo x (span ws lo hi)) e) t (f .group .stands) in
+          let m : recordAt μ b o .nodes ≡ suc (length row) = strides-differ (μ .stride) wide (recordAt μ b o .nodes) (suc (length row)) (omega (arith, stands-end μ b row (o + μ .stride) e g, f .nodes)) in
+          let told : recordAt μ b o ≡ fork lo s d (span ws lo hi) row =
           rw (f .symbol, t, f .first, f .names ∙ sym (span-length ws lo hi l), m) refl in
-          record { stands = subst (λ (rs : List Node). Stands b o rs e) (sym (table-more ws s lo hi r a l)) (f .room, told, g) }
+          record { stands = subst (λ (rs : List Node). Stands μ b o rs e) (sym (table-more ws s lo hi r a l)) (f .room, told, g) }

@@ -15,14 +15,12 @@ use native.Mathlib.Nat.{not-suc-le-zero, le-of-suc-le-suc}
 use native.Mathlib.Omega.{arith}
 use native.Mathlib.Decide.{decLe}
 use mathlib.Core.Path.{_≡_, refl, sym, ap, ap₂, _∙_, subst}
-use mathlib.Core.Bool.{true, false}
+use mathlib.Core.Bool.{true}
 use mathlib.Core.List.{List, [], _∷_, _++_}
-use lib.Dec.{ltb}
-use lib.ListN.{length, getD, take, drop, length-take, length-drop, length-append, length-map}
+use lib.ListN.{length, getD, take, drop, length-take, length-drop, length-append}
 use lib.Seq.{take-at, drop-at, take-nil}
-use borrow.Author.Tests.{le-leb, lt-leb, lt-ltb, le-ltb}
-use Rattle.words.specs.Words.{Bytes, InBytes, at, less, plain, shared, word}
-use Rattle.words.proofs.Words.{at-past, less-by, word-at}
+use borrow.Author.Tests.{le-leb, lt-leb}
+use Rattle.words.specs.Words.{Bytes, InBytes, at, less, plain, word}
 use Rattle.format.specs.Book.{entryPart, longestBook, number, trailerSize, namesOf}
 use Rattle.format.specs.Entries.{front}
 use Rattle.format.specs.Records.{longest, mostNames, sound}
@@ -133,27 +131,6 @@ end-last b k s t left h = rw (le-leb left k h) refl
 
 pub end-next : (b : Bytes) (k s t left : ℕ) → k < left → endOf b k s t left ≡ number b (t + 2)
 end-next b k s t left h = rw (lt-leb left k h) refl
-
--- ---- the order of two names
-
-past : (x : Bytes) (i : ℕ) → length x ≤ i → at (word plain x) i ≡ 0
-past x i h = at-past (word plain x) i (omega (arith, length-map x plain))
-
-module _ (a c : Bytes) (i : ℕ) (e : i ≡ shared (word plain a) (word plain c)) where
-  by : less (word plain a) (word plain c) ≡ ltb (at (word plain a) i) (at (word plain c) i)
-  by = less-by (word plain a) (word plain c) i (sym e)
-
-  pub below-no : length c ≤ i → false ≡ less (word plain a) (word plain c)
-  below-no h = sym (by ∙ le-ltb (at (word plain a) i) (at (word plain c) i) (omega (arith, past c i h)))
-
-  pub below-end : i < length c → length a ≤ i → true ≡ less (word plain a) (word plain c)
-  below-end h g = sym (by ∙ lt-ltb (at (word plain a) i) (at (word plain c) i) (omega (arith, past a i g, word-at plain c i h)))
-
-  pub below-not : i < length c → i < length a → getD c i 0 ≤ getD a i 0 → false ≡ less (word plain a) (word plain c)
-  below-not h g l = sym (by ∙ le-ltb (at (word plain a) i) (at (word plain c) i) (omega (arith, word-at plain a i g, word-at plain c i h)))
-
-  pub below-is : i < length c → i < length a → getD a i 0 < getD c i 0 → true ≡ less (word plain a) (word plain c)
-  below-is h g l = sym (by ∙ lt-ltb (at (word plain a) i) (at (word plain c) i) (omega (arith, word-at plain a i g, word-at plain c i h)))
 
 -- ---- a block and the name before it
 

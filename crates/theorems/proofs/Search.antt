@@ -27,6 +27,7 @@ use Rattle.descent.proofs.Bytes.{opened-searchable}
 use Rattle.descent.proofs.Cuts.{exact-here, exact-nowhere, range-none, whole-place, whole-range}
 use Rattle.descent.proofs.Exists.{Descent, descent-exists}
 use Rattle.descent.proofs.Paths.{edge-after, edge-before, fork-child, fork-end, found, only-reached, reached-is}
+use Rattle.standing.specs.Maps.{rowsAt}
 use Rattle.descent.specs.Vocabulary.{Descended, Found, Highest, Searchable, Sought, from, node, startIn, upto}
 
 module _ (ρ : Rule) (ok : Lawful ρ) (xs : List Bytes) (is : sound ρ xs ≡ true) (question : Bytes) where
@@ -85,5 +86,5 @@ module _ (ρ : Rule) (ok : Lawful ρ) (xs : List Bytes) (is : sound ρ xs ≡ tr
       let none : count (begins q) ws ≡ 0 = sym (range-none ws q r (shared q (nth ws (reached q ws))) (λ i l. reached-most q ws r i l) h) in
       ap (λ (c : ℕ). (place q ws, c)) none
 
-pub search-book : (ρ : Rule) → Lawful ρ → (s : Bytes) (k : ℕ) (xs : List Bytes) → InBytes s → opened ρ s ≡ Book k xs → 0 < length xs → Searchable ρ s (startIn s)
+pub search-book : (ρ : Rule) → Lawful ρ → (s : Bytes) (k : ℕ) (xs : List Bytes) → InBytes s → opened ρ s ≡ Book k xs → 0 < length xs → Searchable ρ s (rowsAt (startIn s))
 search-book ρ ok s k xs h e some = opened-searchable ρ ok s k xs e h some

@@ -9,7 +9,7 @@ use mathlib.Core.Logic.{⊎-elim}
 use borrow.Author.Needs.{needs}
 use borrow.Fn.Kinds.{In}
 use borrow.Fn.PlainCycle.{Measures, is, falls, and}
-use Rattle.format.specs.Book.{number}
+use Rattle.standing.specs.Maps.{inRows, recordAt}
 use Rattle.inspect.specs.Check.{LedTo, MayBeFork}
 use Rattle.inspect.proofs.Nesting.{fork-falls, levelsLeft}
 use Rattle.inspect.proofs.Nodes as node
@@ -26,12 +26,15 @@ use Rattle.inspect.proofs.is_led_to.Reads as is-led-to-reads
 use Rattle.inspect.proofs.may_be_fork.Reads as may-be-fork-reads
 use Rattle.neighbours.proofs.meet.Reads as meet-reads
 use Rattle.neighbours.proofs.next_entry.Reads as next-entry-reads
-use Rattle.numbers.proofs.number_at.Reads as number-at-reads
+use Rattle.fields.proofs.depth.Reads as depth-reads
+use Rattle.fields.proofs.first.Reads as first-reads
+use Rattle.fields.proofs.names.Reads as names-reads
+use Rattle.fields.proofs.nodes.Reads as nodes-reads
 use Rattle.inspect.proofs.+check_node+check_row.{statement}
 use Rattle.inspect.proofs.+check_node+check_row.Tie.{close}
 
 abbrev μ-check-node : Measures 1 check-node-kinds.ps ℕ
-μ-check-node κs a = 2 * levelsLeft (number (a .0 .now) (a .1 .0 + 6)) (number (a .0 .now) (a .1 .0 + 2)) + 1
+μ-check-node κs a = 2 * levelsLeft (recordAt inRows (a .0 .now) (a .1 .0) .names) (recordAt inRows (a .0 .now) (a .1 .0) .depth) + 1
 
 abbrev μ-check-row : Measures 1 check-row-kinds.ps ℕ
 μ-check-row κs a = 2 * levelsLeft (a .1 .1 .1 .1 .0) (a .1 .1 .1 .1 .1 .0)
@@ -52,10 +55,10 @@ check-row-below t =
     and 1 check-row-kinds.ps (falls 1 check-row-kinds.ps _<_ μ-check-row t) check-row.Pre
 
 abbrev node-claims : ℕ → check-node-lts.Claims
-node-claims t = (number-at-reads.Asked, number-at-reads.Learnt, check-row-below t, check-row.Post)
+node-claims t = (depth-reads.Asked, depth-reads.Learnt, first-reads.Asked, first-reads.Learnt, names-reads.Asked, names-reads.Learnt, nodes-reads.Asked, nodes-reads.Learnt, check-row-below t, check-row.Post)
 
 abbrev row-claims : ℕ → check-row-lts.Claims
-row-claims t = (is-led-to-reads.Asked, is-led-to-reads.Learnt, number-at-reads.Asked, number-at-reads.Learnt, is-leaf-reads.Asked, is-leaf-reads.Learnt, may-be-fork-reads.Asked, may-be-fork-reads.Learnt, check-node-below t, check-node.Post, next-entry-reads.Asked, next-entry-reads.Learnt, meet-reads.Asked, meet-reads.Learnt)
+row-claims t = (is-led-to-reads.Asked, is-led-to-reads.Learnt, names-reads.Asked, names-reads.Learnt, is-leaf-reads.Asked, is-leaf-reads.Learnt, may-be-fork-reads.Asked, may-be-fork-reads.Learnt, check-node-below t, check-node.Post, nodes-reads.Asked, nodes-reads.Learnt, next-entry-reads.Asked, next-entry-reads.Learnt, meet-reads.Asked, meet-reads.Learnt)
 
 abbrev Inv-loop : check-row-lts.InvT-loop
 Inv-loop book o end lo n d a child₀ first₀ entry₀ child first entry = Rows book lo n d o end child first entry
@@ -76,11 +79,11 @@ like t c = search law.fork-like
 -- the child at hand stands, whether it is a leaf or not
 turn : (t : ℕ) (c : check-row-lts.Joined3 (row-claims t) (check-row-at t) check-row.Post Inv-loop μ-loop)
     → let a = c .before .before .before .before .before .before .before .args in let l = c .before .before .before .before .before .loop in
-    Turn (a .book .now) (a .lo) (a .n) (a .d) (a .o) (a .end) (l .child) (l .first) (l .entry) (c .before .number-at .result) (c .if3 .child) (c .if3 .entry)
+    Turn (a .book .now) (a .lo) (a .n) (a .d) (a .o) (a .end) (l .child) (l .first) (l .entry) (c .before .names .result) (c .if3 .child) (c .if3 .entry)
 turn t c =
     let inv = c .before .before .before .before .before .loop .inv in
     let sure = led t (c .before .before) in
-    let names = c .before .number-at .ensures .0 in
+    let names = c .before .names .ensures .0 in
     let room = c .before .before .before .before .if1 .left in
     ⊎-elim
     (λ w. rw (w .3, w .4) (law.rows-leaf _ _ _ _ _ _ _ _ _ inv sure _ names (w .0 .taken) room (w .1 .result) (w .1 .ensures) (w .2 .left)))
@@ -91,13 +94,9 @@ pub +check-node+check-row-spec : {M : Type 1} → statement M
 +check-node+check-row-spec = close μ-check-node μ-check-row (λ t. check-node-lts.spec (node-claims t)
     (check-node-at t)
     check-node.Post
-    (λ c. search needs)
     (λ c κs. search needs)
-    (λ c. search needs)
     (λ c κs. search needs)
-    (λ c. search needs)
     (λ c κs. search needs)
-    (λ c. search needs)
     (λ c κs. search needs)
     (λ c. search needs)
     (λ c. search needs)
@@ -113,7 +112,6 @@ pub +check-node+check-row-spec : {M : Type 1} → statement M
     (λ c. search law.rows-end)
     (λ c κs. (omega (arith, c .before .loop .inv), c .before .loop .inv .fits, c .before .loop .inv .low))
     (λ c. search law.rows-other)
-    (λ c. omega (arith, c .before .before .before .loop .inv, c .before .before .before .loop .inv .known .short))
     (λ c κs. omega (arith, c .before .before .before .loop .inv))
     (λ c κs. (omega (arith, c .before .before .before .before .before .loop .inv), omega (arith, c .before .before .before .before .before .loop .inv .fits)))
     (λ c. search (law.rows-no-leaf, law.led-to))
@@ -122,9 +120,8 @@ pub +check-node+check-row-spec : {M : Type 1} → statement M
     (λ c. omega (arith, c .before .before .before .before .before .loop .inv .upto))
     (λ c κs. omega (arith, c .before .before .before .before .before .loop .inv))
     (λ c. search (law.rows-no-fork, law.led-to))
-    (λ c κs. (fork-falls (like t c) (c .before .before .before .before .before .before .before .before .before .pre .0), law.rows-asks _ _ _ _ _ _ _ _ _ (c .before .before .before .before .before .before .before .loop .inv) (led t (c .before .before .before .before)) _ (c .before .before .before .number-at .ensures .0) (like t c) (c .before .before .before .before .before .before .if1 .left)))
+    (λ c κs. (fork-falls (like t c) (c .before .before .before .before .before .before .before .before .before .pre .0), law.rows-asks _ _ _ _ _ _ _ _ _ (c .before .before .before .before .before .before .before .loop .inv) (led t (c .before .before .before .before)) _ (c .before .before .before .names .ensures .0) (like t c) (c .before .before .before .before .before .before .if1 .left)))
     (λ c. search (law.rows-node, law.fork-like, law.led-to))
-    (λ c. omega (arith, c .before .before .before .before .before .before .before .before .before .loop .inv, c .before .before .before .before .before .before .before .before .before .loop .inv .known .short))
     (λ c κs. omega (arith, c .before .before .before .before .before .before .before .before .before .loop .inv))
     (λ c. search needs)
     (λ c. omega (arith, like t (c .before .before .before), c .before .before .before .before .before .before .before .before .before .before .loop .inv, c .before .before .before .before .before .before .before .before .before .before .loop .inv .known .short))

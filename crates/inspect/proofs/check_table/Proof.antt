@@ -15,20 +15,17 @@ check-table-spec =
     (λ c. search law.table-short)
     (λ c κs. search needs)
     (λ c. search law.table-symbol)
-    (λ c. search needs)
     (λ c κs. search needs)
     (λ c. search law.table-first)
-    (λ c. search needs)
     (λ c κs. search needs)
     (λ c. search law.table-names)
-    (λ c. search needs)
     (λ c κs. search needs)
     (λ c. search needs)
     (λ c. search needs)
     (λ c.
     let names = c .before .before in
     let some = names .before .before .before .before .before .before .before in
-    law.table-nodes _ _ _ _ (some .before .shared-slice-known .given) (some .before .before .pre) (some .if1 .left) _ (c .before .number-at4 .ensures .0) (omega (arith, c .if6)))
+    law.table-nodes _ _ _ _ (some .before .shared-slice-known .given) (some .before .before .pre) (some .if1 .left) _ (c .before .nodes .ensures .0) (omega (arith, c .if6)))
     (λ c κs. search needs)
     (λ c.
     let nodes = c .before .before in
@@ -38,8 +35,8 @@ check-table-spec =
     let room = symbol .before .before in
     let some = room .before in
     law.table-leaf _ _ _ _ (some .before .shared-slice-known .given) (some .before .before .pre) (some .if1 .left)
-    _ _ _ _ (symbol .before .number-at .ensures .0) (symbol .if3 .left) (first .before .number-at2 .ensures .0) (first .if4 .left)
-    (names .before .number-at3 .ensures .0) (names .if5 .left) (nodes .before .number-at4 .ensures .0) (nodes .if6 .left)
+    _ _ _ _ (symbol .before .symbol .ensures .0) (symbol .if3 .left) (first .before .first .ensures .0) (first .if4 .left)
+    (names .before .names .ensures .0) (names .if5 .left) (nodes .before .nodes .ensures .0) (nodes .if6 .left)
     (c .before .if7 .taken) (room .if2 .left) _ (c .is-leaf .ensures))
     (λ c κs.
     let nodes = c .before in
@@ -48,6 +45,6 @@ check-table-spec =
     let room = first .before .before .before .before in
     let some = room .before in
     law.table-asks _ _ _ _ (some .before .before .pre) (some .if1 .left) (c .if7 .left) (room .if2 .left)
-    _ _ _ (first .before .number-at2 .ensures .0) (first .if4 .left) (names .before .number-at3 .ensures .0) (names .if5 .left)
-    (nodes .before .number-at4 .ensures .0) (nodes .if6 .left))
+    _ _ _ (first .before .first .ensures .0) (first .if4 .left) (names .before .names .ensures .0) (names .if5 .left)
+    (nodes .before .nodes .ensures .0) (nodes .if6 .left))
     (λ c. search law.table-said))

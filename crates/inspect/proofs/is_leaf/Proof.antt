@@ -9,11 +9,9 @@ pub is-leaf-spec : {M : Type 1} → statement M
 is-leaf-spec =
     tie.close
     (tie.spec
-    (λ c. search needs)
     (λ c κs. search needs)
     (λ c κs. search needs)
     (λ c. search needs)
-    (λ c. leaf-depth _ _ _ _ _ (c .before .before .number-at .ensures .0) (c .before .length-of .ensures .0) (c .if1 .taken))
-    (λ c. search needs)
+    (λ c. leaf-depth _ _ _ _ _ (c .before .before .depth .ensures .0) (c .before .length-of .ensures .0) (c .if1 .taken))
     (λ c κs. search needs)
-    (λ c. leaf-nodes _ _ _ _ _ (c .before .before .before .number-at .ensures .0) (c .before .before .length-of .ensures .0) (c .before .if1 .left) _ (c .number-at2 .ensures .0)))
+    (λ c. leaf-nodes _ _ _ _ _ (c .before .before .before .depth .ensures .0) (c .before .before .length-of .ensures .0) (c .before .if1 .left) _ (c .nodes .ensures .0)))

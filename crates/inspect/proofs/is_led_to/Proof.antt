@@ -12,7 +12,6 @@ is-led-to-spec =
     (tie.spec
     (λ c κs. search needs)
     (λ c κs. search needs)
-    (λ c. led-symbol _ _ _ _ _ _ _ (c .before .before .number-at .ensures .0) (c .before .symbol-of .ensures) (omega (arith, c .if1)))
-    (λ c. search needs)
+    (λ c. led-symbol _ _ _ _ _ _ _ (c .before .before .symbol .ensures .0) (c .before .symbol-of .ensures) (omega (arith, c .if1)))
     (λ c κs. search needs)
-    (λ c. led-first _ _ _ _ _ _ _ (c .before .before .before .number-at .ensures .0) (c .before .before .symbol-of .ensures) (c .before .if1 .left) _ (c .number-at2 .ensures .0)))
+    (λ c. led-first _ _ _ _ _ _ _ (c .before .before .before .symbol .ensures .0) (c .before .before .symbol-of .ensures) (c .before .if1 .left) _ (c .first .ensures .0)))

@@ -10,12 +10,6 @@ pub may-be-fork-spec : {M : Type 1} → statement M
 may-be-fork-spec =
     tie.close
     (tie.spec
-    (λ c. search needs)
-    (λ c κs. search needs)
-    (λ c. search needs)
-    (λ c. search needs)
-    (λ c. search needs)
-    (λ c. search needs)
     (λ c κs. search needs)
     (λ c. search needs)
     (λ c. search needs)
@@ -23,4 +17,7 @@ may-be-fork-spec =
     (λ c κs. search needs)
     (λ c. search needs)
     (λ c. search needs)
-    (λ c. fork-ends _ _ _ _ _ _ _ _ _ (c .before .before .before .before .before .before .before .number-at .ensures .0) (c .before .before .before .number-at2 .ensures .0) (c .number-at3 .ensures .0) (omega arith) (omega arith) (omega arith) (omega arith) (omega arith)))
+    (λ c κs. search needs)
+    (λ c. search needs)
+    (λ c. search needs)
+    (λ c. fork-ends _ _ _ _ _ _ _ _ _ (c .before .before .before .before .before .before .before .names .ensures .0) (c .before .before .before .depth .ensures .0) (c .nodes .ensures .0) (omega arith) (omega arith) (omega arith) (omega arith) (omega arith)))

@@ -1,11 +1,11 @@
--- `entries::shared_symbols` meets its contract.
+-- `symbols::shared_symbols` meets its contract.
 -- Assumes nothing.
 use Prim.Native.Nat.{_-_}
 use lib.ListN.{length}
 use borrow.Author.Needs.{needs}
-use Rattle.entries.proofs.Reading.{Alike, alike-more, alike-other, alike-left, alike-right}
-use Rattle.entries.proofs.shared_symbols.Statement.{statement}
-use Rattle.entries.proofs.shared_symbols.Tie as tie
+use Rattle.symbols.proofs.Symbols.{Alike, alike-more, alike-other, alike-left, alike-right}
+use Rattle.symbols.proofs.shared_symbols.Statement.{statement}
+use Rattle.symbols.proofs.shared_symbols.Tie as tie
 
 abbrev Inv-loop : tie.InvT-loop
 Inv-loop a b i₀ i = Alike a b i

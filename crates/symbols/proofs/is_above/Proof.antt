@@ -1,12 +1,12 @@
--- `entries::is_above` meets its contract.
+-- `symbols::is_above` meets its contract.
 -- Assumes nothing.
-use Rattle.streams.proofs.Walks.{below-no, below-end, below-not, below-is}
+use Rattle.symbols.proofs.Symbols.{below-no, below-end, below-not, below-is}
 use Prim.Native.Nat.{_≤_}
 use native.Mathlib.Omega.{arith}
 use lib.ListN.{getD}
 use borrow.Author.Needs.{needs}
-use Rattle.entries.proofs.is_above.Statement.{statement}
-use Rattle.entries.proofs.is_above.Tie as tie
+use Rattle.symbols.proofs.is_above.Statement.{statement}
+use Rattle.symbols.proofs.is_above.Tie as tie
 
 -- where they part, the name has no greater byte
 not-above : (c : tie.Then3) → let a = c .before .before .before .before .before .args in getD (a .name .now) (a .shares) 0 ≤ getD (a .prev .now) (a .shares) 0

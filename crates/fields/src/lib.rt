@@ -1,0 +1,72 @@
+// A node's record in a book: its numbers, read one by one, and all of them written. How many bytes it has, and where in it a number
+// stands, is known here and nowhere else.
+ghost use mathlib.Core.Path.{_≡_};
+ghost use Prim.Native.Nat.{_<_};
+ghost use lib.ListN.{getD, length};
+ghost use Rattle.format.specs.Book.{fieldCount, fields, nodeSize, numbers};
+ghost use Rattle.standing.specs.Maps.{Roomy, inRows, recordAt};
+ghost use Rattle.fields.specs.Node.{nodeOf};
+
+// How many bytes a record has.
+pub const SIZE: usize = 10;
+
+// A node's numbers, in the record's order.
+pub struct Node {
+    pub symbol: usize,
+    pub depth: usize,
+    pub first: usize,
+    pub names: usize,
+    pub nodes: usize,
+}
+
+// Field number j of the record at an offset.
+pub fn field(book: &[u8], at: usize, j: usize) -> usize
+    requires { ⌜ Roomy inRows (now book) at × (j < fieldCount) ⌝ }
+    ensures { λ r. ⌜ (r ≡ getD (fields (recordAt inRows (now (book .entry)) at)) j 0) × (r < 65536) ⌝ }
+{
+    numbers::number_at(book, at + j * 2)
+}
+
+pub fn symbol(book: &[u8], at: usize) -> usize
+    requires { ⌜ Roomy inRows (now book) at ⌝ }
+    ensures { λ r. ⌜ (r ≡ recordAt inRows (now (book .entry)) at .symbol) × (r < 65536) ⌝ }
+{
+    field(book, at, 0)
+}
+
+pub fn depth(book: &[u8], at: usize) -> usize
+    requires { ⌜ Roomy inRows (now book) at ⌝ }
+    ensures { λ r. ⌜ (r ≡ recordAt inRows (now (book .entry)) at .depth) × (r < 65536) ⌝ }
+{
+    field(book, at, 1)
+}
+
+pub fn first(book: &[u8], at: usize) -> usize
+    requires { ⌜ Roomy inRows (now book) at ⌝ }
+    ensures { λ r. ⌜ (r ≡ recordAt inRows (now (book .entry)) at .first) × (r < 65536) ⌝ }
+{
+    field(book, at, 2)
+}
+
+pub fn names(book: &[u8], at: usize) -> usize
+    requires { ⌜ Roomy inRows (now book) at ⌝ }
+    ensures { λ r. ⌜ (r ≡ recordAt inRows (now (book .entry)) at .names) × (r < 65536) ⌝ }
+{
+    field(book, at, 3)
+}
+
+pub fn nodes(book: &[u8], at: usize) -> usize
+    requires { ⌜ Roomy inRows (now book) at ⌝ }
+    ensures { λ r. ⌜ (r ≡ recordAt inRows (now (book .entry)) at .nodes) × (r < 65536) ⌝ }
+{
+    field(book, at, 4)
+}
+
+// A node's record, in a part that is as long.
+pub fn put_node(part: &mut [u8], node: Node)
+    requires { ⌜ length (now part) ≡ nodeSize ⌝ }
+    ensures { λ _. ⌜ now (part .exit) ≡ numbers (fields (nodeOf node)) ⌝ }
+{
+    let fields = [node.symbol, node.depth, node.first, node.names, node.nodes];
+    numbers::put_numbers(part, &fields);
+}
