@@ -2,22 +2,20 @@
 --     position-ask      an accepting check lets each position be asked
 --     block-none        the block of a position where k is 0
 --     Found, found, found-asks, found-name      where the block of a position starts, and what streams from there
---     fronted-..        bytes at the front of a room, one by one
 --     put-short, put-all            the room is too short; it holds the name
 -- Assumes nothing.
 use Prim.Native.Nat.{ℕ, _*_, _+_, _-_, _/_, _<_, _≤_}
 use native.Mathlib.Nat.{div-add-mod', div-le-self, div-zero}
-use native.Mathlib.Numerals.{add-one}
 use native.Mathlib.Omega.{arith}
-use mathlib.Core.Path.{_≡_, _∙_, ap, ap₂, refl, subst, sym}
-use mathlib.Core.List.{List, [], _++_}
-use lib.ListN.{drop, getD, length, length-drop, length-set, set, take}
-use lib.Seq.{getD-drop, length-take-le, paste, paste-suc, paste-zero, take-all}
+use mathlib.Core.Path.{_≡_, _∙_, ap, refl, subst, sym}
+use mathlib.Core.List.{List, []}
+use lib.ListN.{drop, getD, length, length-drop, take}
+use lib.Seq.{getD-drop, length-take-le}
 use borrow.Author.Tests.{le-leb, lt-leb}
 use Rattle.words.specs.Words.{Bytes, plain}
 use Rattle.format.specs.Book.{number, opened, namesOf}
 use Rattle.format.specs.Outcomes.{checkOf, over}
-use Rattle.numbers.proofs.Parts.{Held}
+use Rattle.numbers.proofs.Parts.{Copied, Held, copied}
 use Rattle.streams.specs.Runs.{Rest}
 use Rattle.streams.proofs.Rereading.{block-from}
 use Rattle.streams.proofs.Walks.{has-names}
@@ -93,40 +91,6 @@ module _ {b : Bytes} {k position table block start : ℕ} (f : Found b k positio
 
 -- ---- at the front of a room
 
--- i of the bytes are written
-pub record Fronted (out room₀ room : Bytes) (i : ℕ) : Type 0 where
-  pub fits : length out ≤ length room₀
-  pub within : i ≤ length out
-  pub kept : length room ≡ length room₀
-  pub so-far : room ≡ paste room₀ 0 out i
-
-module _ (out room₀ : Bytes) where
-  pub fronted-start : length out ≤ length room₀ → Fronted out room₀ room₀ 0
-  fronted-start h = record { fits = h; within = omega arith; kept = refl; so-far = paste-zero room₀ 0 out }
-
-  module _ (room : Bytes) (i : ℕ) (f : Fronted out room₀ room i) where
-    pub fronted-more : i < length out → Fronted out room₀ (set room i (getD out i 0)) (i + 1)
-    fronted-more h =
-        let z : 0 + i ≡ i = omega arith in
-        record {
-          fits = f .fits;
-          within = omega arith;
-          kept = length-set room i (getD out i 0) ∙ f .kept;
-          so-far = ap₂ (λ (r : Bytes) (n : ℕ). set r n (getD out i 0)) (f .so-far) (sym z)
-              ∙ paste-suc room₀ 0 out i 0 (omega (arith, f .fits)) h ∙ ap (paste room₀ 0 out) (sym (add-one i));
-        }
-
-    pub fronted-all : length out ≤ i → room ≡ over out room₀
-    fronted-all h =
-        let e : i ≡ length out = omega (arith, f .within) in
-        let z : 0 + length out ≡ length out = omega arith in
-        f .so-far ∙ ap (paste room₀ 0 out) e ∙ ap₂ (λ (t : Bytes) (n : ℕ). t ++ drop n room₀) (take-all (length out) out (omega arith)) z
-
-module _ (x : Bytes) (len : ℕ) (name : Bytes) (n : Named x len name) where
-  -- the part of the array that is the name
-  pub front-is : take (len - 0) name ≡ x
-  front-is = let z : len - 0 ≡ len = omega arith in ap (λ (i : ℕ). take i name) z ∙ n .name-is
-
 module _ (x room : Bytes) (len : ℕ) (name : Bytes) (n : Named x len name) where
   size-is : length x ≡ len
   size-is = sym (ap length (n .name-is)) ∙ length-take-le len name (omega (arith, n .size, n .room))
@@ -134,8 +98,12 @@ module _ (x room : Bytes) (len : ℕ) (name : Bytes) (n : Named x len name) wher
   pub put-short : length room < len → Put x room 0 room
   put-short h = record { answer = rw (lt-leb (length x) (length room) (omega (arith, size-is))) refl; bytes = rw (lt-leb (length x) (length room) (omega (arith, size-is))) refl }
 
-  pub put-all : (out after : Bytes) → len ≤ length room → out ≡ x → after ≡ over out room → Put x room len after
-  put-all out after h e q = record {
-    answer = sym size-is ∙ rw (le-leb (length x) (length room) (omega (arith, size-is))) refl;
-    bytes = q ∙ ap (λ (y : Bytes). over y room) e ∙ rw (le-leb (length x) (length room) (omega (arith, size-is))) refl;
-  }
+  -- the name, as the part `&name[0..len]`, was copied into the room
+  pub put-all : (after : Bytes) → len ≤ length room → Copied (take (len - 0) name) room after → Put x room len after
+  put-all after h e =
+      let z : len - 0 ≡ len = omega arith in
+      let front : take (len - 0) name ≡ x = ap (λ (i : ℕ). take i name) z ∙ n .name-is in
+      record {
+        answer = sym size-is ∙ rw (le-leb (length x) (length room) (omega (arith, size-is))) refl;
+        bytes = copied (take (len - 0) name) room after e ∙ ap (λ (y : Bytes). over y room) front ∙ rw (le-leb (length x) (length room) (omega (arith, size-is))) refl;
+      }

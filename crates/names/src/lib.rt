@@ -1,9 +1,8 @@
 // A name read back from a book, from the start of its block on.
 ghost use mathlib.Core.Path.{_≡_};
 ghost use mathlib.Core.List.{[]};
-ghost use Prim.Native.Nat.{_/_, _≤_};
-ghost use lib.ListN.{getD, length};
-ghost use Rattle.format.specs.Outcomes.{over};
+ghost use Prim.Native.Nat.{_/_};
+ghost use lib.ListN.{getD};
 ghost use Rattle.format.specs.Book.{namesOf};
 ghost use Rattle.names.specs.Names.{Named, PositionAsk, Put};
 
@@ -30,18 +29,6 @@ pub fn read_name(book: &[u8], k: usize, position: usize) -> entries::Entry
     entries::name_of(book, start, position - block * k)
 }
 
-// Bytes at the front of a room that holds them.
-fn put_front(out: &[u8], room: &mut [u8])
-    requires { ⌜ length (now out) ≤ length (now room) ⌝ }
-    ensures { λ _. ⌜ now (room .exit) ≡ over (now (out .entry)) (now (room .entry)) ⌝ }
-{
-    let mut i: usize = 0;
-    while i < out.len() {
-        room[i] = out[i];
-        i += 1;
-    }
-}
-
 // The name at a position at the front of the room, and its length; or 0, and nothing is written, where the room is shorter.
 pub fn put_name(book: &[u8], k: usize, position: usize, room: &mut [u8]) -> usize
     requires { ⌜ PositionAsk (now book) k position ⌝ }
@@ -53,6 +40,6 @@ pub fn put_name(book: &[u8], k: usize, position: usize, room: &mut [u8]) -> usiz
     if room.len() < len {
         return 0;
     }
-    put_front(&name[0..len], room);
+    bytes::copy(&name[0..len], room);
     len
 }

@@ -3,6 +3,7 @@
 --     part-length               a part of a run of bytes
 --     over-length, over-all     a room that is written over
 --     lent, lent-front          a part behind what is written comes back with more, whole or at its front
+--     Copied, copied, copied-behind     what the kit's `bytes::copy` leaves: in a room, and in one of which the front was not lent
 --     number-is, number-small   a number out of its two bytes
 --     two-stored                two bytes, one by one
 --     Numbered: numbered-none, numbered-more, numbered-all     numbers in a row
@@ -12,7 +13,7 @@ use native.Mathlib.Numerals.{add-one}
 use native.Mathlib.Omega.{arith}
 use mathlib.Core.Path.{_≡_, refl, sym, ap, ap₂, _∙_}
 use mathlib.Core.List.{List, [], _∷_, _++_, append-assoc, append-nil}
-use lib.ListN.{length, getD, set, take, drop, length-append, length-take, length-drop}
+use lib.ListN.{length, getD, set, take, drop, length-append, length-take, length-drop, take-append-drop}
 use lib.Seq.{take-at, drop-at, drop-drop, take-suc, take-all, drop-length, length-take-le}
 use mir.Syntax.{w8}
 use mir.Val.{Fits}
@@ -68,6 +69,24 @@ lent-front p out xs room ys a k r e h y l =
     ap₂ (λ (x z : Bytes). x ++ z) (ap (take a) r ∙ take-at p rest a e) (ap₂ (λ (x z : Bytes). x ++ z) front none ∙ append-nil (out ++ drop (length out) rest))
     ∙ sym (append-assoc p out (drop (length out) rest))
     ∙ ap (λ (z : Bytes). (p ++ out) ++ z) (drop-drop (length out) (length p) xs ∙ ap (λ (n : ℕ). drop n xs) (sym (length-append p out)))
+
+-- ---- bytes that were copied
+
+-- what the kit's `bytes::copy` says of the room dst afterwards
+abbrev pub Copied : Bytes → Bytes → Bytes → Type 0
+Copied src dst out = out ≡ take (length src) src ++ drop (length src) dst
+
+pub copied : (src dst out : Bytes) → Copied src dst out → out ≡ over src dst
+copied src dst out e = e ∙ ap (λ (x : Bytes). x ++ drop (length src) dst) (take-all (length src) src (omega arith))
+
+-- all but the first a bytes of the room was lent, and src copied into it
+pub copied-behind : (src room ys : Bytes) (a : ℕ) → a + length src ≤ length room → Copied src (take (length room - a) (drop a room)) ys
+    → take a room ++ (ys ++ drop (length room - a) (drop a room)) ≡ over (take a room ++ src) room
+copied-behind src room ys a h y =
+    let front : length (take a room) ≡ a = length-take-le a room (omega arith) in
+    let whole : room ≡ over (take a room) room = sym (ap (λ (n : ℕ). take a room ++ drop n room) front ∙ take-append-drop a room) in
+    let part : Bytes = take (length room - a) (drop a room) in
+    lent-front (take a room) src room room ys a (length room - a) whole front (omega arith) (copied src part ys y) (omega arith)
 
 -- ---- numbers
 

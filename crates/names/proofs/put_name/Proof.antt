@@ -5,7 +5,7 @@ use lib.ListN.{getD}
 use borrow.Author.Needs.{needs}
 use Rattle.format.specs.Book.{namesOf}
 use Rattle.names.specs.Names.{Named}
-use Rattle.names.proofs.Rebuilding.{front-is, put-all, put-short}
+use Rattle.names.proofs.Rebuilding.{put-all, put-short}
 use Rattle.names.proofs.put_name.Statement.{statement}
 use Rattle.names.proofs.put_name.Tie as tie
 
@@ -16,7 +16,7 @@ name-at c = c .read-name .ensures
 returns-2 : tie.Need-returns-2
 returns-2 c =
     let read = name-at (c .before .before .before .before .before .before .before .before) in
-    put-all _ _ _ _ read _ _ (search needs) (front-is _ _ _ read) (c .before .before .put-front .ensures)
+    put-all _ _ _ _ read _ (search needs) (c .before .before .copy .ensures .1)
 
 pub put-name-spec : {M : Type 1} → statement M
 put-name-spec =
