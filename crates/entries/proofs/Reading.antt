@@ -1,21 +1,22 @@
 -- Laws of the code that reads and judges one block, one for each way through it.
 --     entry-not, entry-is       the last test of an entry
---     Pasted, name-read, name-size     the cursor
+--     name-read, name-size      the cursor
 --     Held, held-..             the loop over a block, with its buffer
 --     next-..                   a block and the name before it
 --     Reached                   the loop to a name that is read back
 -- Assumes nothing.
 use Prim.Native.Nat.{ℕ, _+_, _-_, _≤_, _<_}
-use native.Mathlib.Numerals.{add-one}
 use native.Mathlib.Omega.{arith}
 use mathlib.Core.Path.{_≡_, refl, sym, ap, ap₂, _∙_, subst}
 use mathlib.Core.Bool.{Bool, true, false, not}
-use mathlib.Core.List.{List, [], _∷_}
-use lib.ListN.{length, getD, take, drop, set, length-take, length-drop, length-set}
-use lib.Seq.{paste, paste-zero, paste-suc, take-paste, length-paste, getD-drop, take-take, drop-drop}
+use mathlib.Core.List.{List, [], _∷_, _++_}
+use lib.ListN.{length, getD, take, drop, length-append, length-take, length-drop}
+use lib.Seq.{drop-drop, getD-drop, length-take-le, take-at, take-take}
 use borrow.Author.Tests.{not-false, not-true}
 use Rattle.words.specs.Words.{Bytes, less, plain, word}
 use Rattle.words.proofs.Words.{false≠true}
+use Rattle.format.specs.Outcomes.{over}
+use Rattle.numbers.proofs.Parts.{Copied, copied-behind, over-length, part-length}
 use Rattle.streams.specs.Streams.{EntryAt, Stream, entry, entryEnd, nameAt}
 use Rattle.streams.specs.Runs.{Step}
 use Rattle.streams.proofs.Walks.{Blocked, blocked-apart, blocked-bad, blocked-done, blocked-entry, blocked-more, blocked-start, first-name, not-above, run-first, step-is}
@@ -34,40 +35,33 @@ module _ (b prev : Bytes) (o e c : ℕ) where
 
 -- ---- the cursor
 
--- the first i bytes are copied
-pub record Pasted (b d buf : Bytes) (to from n i : ℕ) : Type 0 where
-  pub source : from + n ≤ length b
-  pub target : to + n ≤ length d
-  pub within : i ≤ n
-  pub kept : length buf ≡ length d
-  pub so-far : buf ≡ paste d to (drop from b) i
+-- The entry's rest, as the part `&book[from..to]`, was copied behind what it shares with the name before it. So its name stands in the
+-- array from the front on, and the array is as long as it was.
+module _ (b prev : Bytes) (o len c n : ℕ) (k : EntryAt b o len) (h : len ≤ 200) (size : length prev ≡ 200) (ce : c ≡ getD b o 0) (ne : n ≡ getD b (o + 1) 0) where
+  abbrev rest : Bytes
+  rest = take (o + 2 + n - (o + 2)) (drop (o + 2) b)
 
-module _ (b d : Bytes) (to from n : ℕ) where
-  pub paste-start : from + n ≤ length b → to + n ≤ length d → Pasted b d d to from n 0
-  paste-start h g = record { source = h; target = g; within = omega arith; kept = refl; so-far = paste-zero d to (drop from b) }
+  rest-length : length rest ≡ n
+  rest-length = part-length b (o + 2) (o + 2 + n - (o + 2)) (omega (arith, k .fits)) ∙ omega arith
 
-  pub paste-more : (buf : Bytes) (i : ℕ) → Pasted b d buf to from n i → i < n → Pasted b d (set buf (to + i) (getD b (from + i) 0)) to from n (i + 1)
-  paste-more buf i k h = record {
-    source = k .source;
-    target = k .target;
-    within = omega arith;
-    kept = length-set buf (to + i) (getD b (from + i) 0) ∙ k .kept;
-    so-far = rw (k .so-far, ← getD-drop from b i 0, add-one) (paste-suc d to (drop from b) i 0 (omega (arith, k .target)) (rw length-drop (omega (arith, k .source))));
-  }
+  name-length : length (take c prev ++ rest) ≡ c + n
+  name-length = length-append (take c prev) rest ∙ omega (arith, rest-length, length-take-le c prev (omega (arith, k .shares)))
 
-  pub paste-done : (buf : Bytes) (i : ℕ) → Pasted b d buf to from n i → n ≤ i → buf ≡ paste d to (drop from b) n
-  paste-done buf i k h = let e : i ≡ n = omega (arith, k .within) in k .so-far ∙ ap (paste d to (drop from b)) e
+  name-is : take c prev ++ rest ≡ nameAt b o (take len prev)
+  name-is = let z : o + 2 + n - (o + 2) ≡ n = omega arith in rw (z, ← ce, ← ne, take-take c len prev (omega (arith, k .shares))) refl
 
--- what was read stands in the array from its front on, and the array is as long as it was
-module _ (b prev out : Bytes) (o len c n : ℕ) (k : EntryAt b o len) (h : len ≤ 200) (size : length prev ≡ 200) (ce : c ≡ getD b o 0) (ne : n ≡ getD b (o + 1) 0)
-    (oe : out ≡ paste prev c (drop (o + 2) b) n) where
-  pub name-read : take (c + n) out ≡ nameAt b o (take len prev)
-  name-read =
-      rw oe (take-paste prev c (drop (o + 2) b) n (omega (arith, k .shares)) (rw length-drop (omega (arith, k .fits)))
-      ∙ rw (← ce, ← ne, take-take c len prev (omega (arith, k .shares))) refl)
+  module _ (ys : Bytes) (y : Copied rest (take (length prev - c) (drop c prev)) ys) where
+    abbrev array : Bytes
+    array = take c prev ++ (ys ++ drop (length prev - c) (drop c prev))
 
-  pub name-size : length out ≡ 200
-  name-size = rw oe (length-paste prev c (drop (o + 2) b) n (omega (arith, k .short)) (rw length-drop (omega (arith, k .fits))) ∙ size)
+    array-is : array ≡ over (take c prev ++ rest) prev
+    array-is = copied-behind rest prev ys c (omega (arith, rest-length, k .short)) y
+
+    pub name-read : take (c + n) array ≡ nameAt b o (take len prev)
+    name-read = ap (take (c + n)) array-is ∙ take-at (take c prev ++ rest) (drop (length (take c prev ++ rest)) prev) (c + n) name-length ∙ name-is
+
+    pub name-size : length array ≡ 200
+    name-size = ap length array-is ∙ over-length (take c prev ++ rest) prev (omega (arith, name-length, k .short)) ∙ size
 
 -- ---- a block
 

@@ -2,8 +2,7 @@
 // No list of the names is kept: a name is read from the one before it, into the same array.
 ghost use mathlib.Core.Path.{_≡_};
 ghost use Prim.Native.Nat.{_+_, _<_, _≤_};
-ghost use lib.ListN.{drop, length, take};
-ghost use lib.Seq.{paste};
+ghost use lib.ListN.{length, take};
 ghost use Rattle.streams.specs.Streams.{EntryAt};
 ghost use Rattle.streams.specs.Runs.{Frame, endOf};
 ghost use Rattle.entries.specs.Judging.{BlockSays, EntrySays, NameIs, NameRead, NextSays, ReadAsk, WalkSays};
@@ -67,18 +66,6 @@ fn is_entry(book: &[u8], at: usize, end: usize, prev: &[u8]) -> bool
     true
 }
 
-// Puts n bytes of the book, from an offset on, into a name, from a place on.
-fn put_rest(book: &[u8], from: usize, n: usize, name: &mut [u8], to: usize)
-    requires { ⌜ (from + n ≤ length (now book)) × (to + n ≤ length (now name)) ⌝ }
-    ensures { λ _. ⌜ now (name .exit) ≡ paste (now (name .entry)) to (drop from (now (book .entry))) n ⌝ }
-{
-    let mut i: usize = 0;
-    while i < n {
-        name[to + i] = book[from + i];
-        i += 1;
-    }
-}
-
 impl Cursor {
     // Reads the entry at the cursor into a lent name, whose first len bytes are the name before it. What the two share stays where it is,
     // so a walk needs one array, however many entries it reads.
@@ -89,10 +76,12 @@ impl Cursor {
         let at = self.at;
         let c = numbers::wide(book[at]);
         let n = numbers::wide(book[at + 1]);
-        put_rest(book, at + 2, n, name, c);
+        let from = at + 2;
+        let to = from + n;
+        bytes::copy(&book[from..to], &mut name[c..]);
         Ahead {
             len: c + n,
-            next: Cursor { at: at + 2 + n },
+            next: Cursor { at: to },
         }
     }
 }
