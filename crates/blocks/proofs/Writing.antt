@@ -1,6 +1,6 @@
 -- Laws of the writers of entries.
 --     stored-same, stored-other     the count that a name stores
---     Copying: copying-start, copying-more, copying-all     the bytes of one entry
+--     entry-put                     the bytes of one entry: its two counts, and its rest copied behind them
 --     entry-here                    an entry, by bytes of the list
 --     Sizing: sizing-start, sizing-record .. sizing-fits, sizing-count, sizing-more, sizing-all     a block, name by name
 --     Filling: filling-start, filling-fits, filling-count .. filling-part (what an entry asks), filling-more, filling-all     the same, written
@@ -16,14 +16,14 @@ use native.Mathlib.Omega.{arith}
 use mathlib.Core.Path.{_≡_, refl, sym, ap, _∙_, ap₂, subst}
 use mathlib.Core.List.{List, [], _∷_, _++_, append-assoc, append-nil}
 use lib.Dec.{eqb}
-use lib.ListN.{length, getD, set, take, drop, length-append, length-take, length-drop, length-set}
-use lib.Seq.{slice, slice-empty, slice-cons, take-suc, drop-append-le, set-at, drop-cons, getD-drop, length-take-le, take-add, drop-at, drop-drop}
+use lib.ListN.{length, getD, set, take, drop, length-append, length-take, length-drop}
+use lib.Seq.{slice, slice-empty, slice-cons, take-suc, drop-append-le, length-take-le, take-add, drop-at, drop-drop}
 use borrow.Author.Tests.{eq-eqb, ne-eqb}
 use Rattle.words.specs.Words.{Bytes, pick, shared}
 use Rattle.words.proofs.Words.{shared-comm, shared-le}
 use Rattle.format.specs.Entries.{entry, front}
 use Rattle.format.specs.Outcomes.{over}
-use Rattle.numbers.proofs.Parts.{lent, over-all, over-length, part-length}
+use Rattle.numbers.proofs.Parts.{Copied, copied-behind, lent, over-all, over-length, part-length}
 use Rattle.records.specs.Lists.{names, startOf}
 use Rattle.records.proofs.Starts.{ready-size, start-byte, start-fits, start-name, start-next, start-within}
 use Rattle.blocks.specs.Writing.{BlockAsk, BlockPut, BlockSize, SharedSum, before, block, sharedTo, storedCount}
@@ -38,49 +38,24 @@ stored-other lo i c steps n e = rw (ne-eqb i lo n) e
 
 -- ---- one entry
 
--- the two counts and i bytes of the rest are written
-pub record Copying (s : Bytes) (from c rest : ℕ) (part₀ part : Bytes) (i : ℕ) : Type 0 where
-  pub within : i ≤ rest
-  pub kept : length part ≡ rest + 2
-  pub so-far : part ≡ over (c ∷ rest ∷ take i (drop from s)) part₀
+-- the two counts in front of a copy
+counted : (part copy : Bytes) (c rest : ℕ) → 2 ≤ length part → set (set (take 2 part ++ copy) 0 c) 1 rest ≡ c ∷ rest ∷ copy
+counted [] copy c rest h = absurd (omega arith)
+counted (x ∷ []) copy c rest h = absurd (omega arith)
+counted (x ∷ y ∷ part) copy c rest h = refl
 
-abbrev counted : Bytes → ℕ → ℕ → Bytes
-counted part c rest = set (set part 0 c) 1 rest
-
-counted-over : (part : Bytes) (a b : ℕ) → 2 ≤ length part → counted part a b ≡ over (a ∷ b ∷ []) (counted part a b)
-counted-over [] a b h = absurd (omega arith)
-counted-over (x ∷ []) a b h = absurd (omega arith)
-counted-over (x ∷ y ∷ part) a b h = refl
-
-pub copying-start : (s : Bytes) (from c rest : ℕ) (part : Bytes) → length part ≡ rest + 2 → Copying s from c rest (counted part c rest) (counted part c rest) 0
-copying-start s from c rest part h = record { within = zero-le; kept = simp length-set h; so-far = counted-over part c rest (omega arith) }
-
-over-set : (p xs : Bytes) (i v : ℕ) → length p ≡ i → i < length xs → set (over p xs) i v ≡ over (p ++ (v ∷ [])) xs
-over-set p xs i v e h =
-    rw (drop-cons xs (length p) 0 (rw e h)) (set-at p (getD xs (length p) 0) (drop (suc (length p)) xs) v i e ∙ rw (append-assoc, length-append p (v ∷ []), add-one))
-
-module _ {s : Bytes} {from c rest : ℕ} {part₀ part : Bytes} {i : ℕ} (r : Copying s from c rest part₀ part i) (size : length part₀ ≡ rest + 2) (room : from + rest ≤ length s) where
-  pub copying-more : i < rest → Copying s from c rest part₀ (set part (i + 2) (getD s (from + i) 0)) (i + 1)
-  copying-more h =
-      let l : length (take i (drop from s)) ≡ i = simp (length-take, length-drop) (omega arith) in
-      let d : i < length (drop from s) = rw length-drop (omega arith) in
-      let next : take i (drop from s) ++ (getD s (from + i) 0 ∷ []) ≡ take (i + 1) (drop from s) =
-      ap (λ (v : ℕ). take i (drop from s) ++ (v ∷ [])) (sym (getD-drop from s i 0)) ∙ sym (take-suc (drop from s) i 0 d) ∙ ap (λ (n : ℕ). take n (drop from s)) (sym (add-one i)) in
-      record {
-        within = omega arith;
-        kept = length-set part (i + 2) (getD s (from + i) 0) ∙ r .kept;
-        so-far =
-            ap (λ (x : Bytes). set x (i + 2) (getD s (from + i) 0)) (r .so-far)
-            ∙ over-set (c ∷ rest ∷ take i (drop from s)) part₀ (i + 2) (getD s (from + i) 0) (omega arith) (omega arith)
-            ∙ ap (λ (b : Bytes). over (c ∷ rest ∷ b) part₀) next;
-      }
-
-  pub copying-all : rest ≤ i → part ≡ c ∷ rest ∷ take rest (drop from s)
-  copying-all h =
-      let e : i ≡ rest = omega (arith, r .within) in
-      let l : length (take rest (drop from s)) ≡ rest = simp (length-take, length-drop) (omega arith) in
-      r .so-far ∙ ap (λ (n : ℕ). over (c ∷ rest ∷ take n (drop from s)) part₀) e
-      ∙ over-all (c ∷ rest ∷ take rest (drop from s)) part₀ (omega arith)
+-- the rest, as the part `&list[from..to]`, was copied, and the counts were written in front of it
+pub entry-put : (s : Bytes) (from c rest : ℕ) (part : Bytes) → from + rest ≤ length s → length part ≡ rest + 2
+    → (ys : Bytes) → Copied (take (from + rest - from) (drop from s)) (take (length part - 2) (drop 2 part)) ys
+    → set (set (take 2 part ++ (ys ++ drop (length part - 2) (drop 2 part))) 0 c) 1 rest ≡ c ∷ rest ∷ take rest (drop from s)
+entry-put s from c rest part room size ys y =
+    let z : from + rest - from ≡ rest = omega arith in
+    let copy : Bytes = take (from + rest - from) (drop from s) in
+    let long : length copy ≡ rest = part-length s from (from + rest - from) (omega arith) ∙ z in
+    let whole : length (take 2 part ++ copy) ≡ length part = length-append (take 2 part) copy ∙ omega (arith, length-take-le 2 part (omega arith)) in
+    ap (λ (x : Bytes). set (set x 0 c) 1 rest) (copied-behind copy part ys 2 (omega arith) y ∙ over-all (take 2 part ++ copy) part whole)
+    ∙ counted part copy c rest (omega arith)
+    ∙ ap (λ (n : ℕ). c ∷ rest ∷ take n (drop from s)) z
 
 -- ---- blocks of names
 

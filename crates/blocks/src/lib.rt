@@ -47,13 +47,10 @@ fn write_entry(list: &[u8], from: usize, c: usize, rest: usize, part: &mut [u8])
     requires { ⌜ (c < 256) × (rest < 256) × (from + rest ≤ length (now list)) × (length (now part) ≡ rest + 2) ⌝ }
     ensures { λ _. ⌜ now (part .exit) ≡ c ∷ rest ∷ take rest (drop from (now (list .entry))) ⌝ }
 {
+    let to = from + rest;
+    bytes::copy(&list[from..to], &mut part[2..]);
     part[0] = c as u8;
     part[1] = rest as u8;
-    let mut i: usize = 0;
-    while i < rest {
-        part[i + 2] = list[from + i];
-        i += 1;
-    }
 }
 
 // The same, with the entries at the front of the room.
