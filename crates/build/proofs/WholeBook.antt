@@ -16,7 +16,7 @@ use mir.Val.{Fits}
 use mir.Syntax.{w64}
 use borrow.Author.Tests.{le-leb, lt-leb}
 use Rattle.words.specs.Words.{Bytes, Words, pick, plain, word}
-use Rattle.format.specs.Book.{blockPart, book, entryPart, longestBook, mark, nodePart, numbers, trailer}
+use Rattle.format.specs.Book.{blockPart, book, entryPart, longestBook, mark, nodePart, nodeSize, numbers, trailer}
 use Rattle.format.specs.Nodes.{table}
 use Rattle.format.specs.Records.{readList}
 use Rattle.format.proofs.Book.{book-length, book-parts, nodes-length, records, trailerAt, trailerNumbers}
@@ -49,11 +49,11 @@ module _ {s : Bytes} {n : ℕ} {lens steps : List ℕ} {k : ℕ} (a : BuildAsk s
         go zero e = omega (arith, nodes-are, ap length (table-empty (words s) (omega (arith, words-length s, a .ready .total))))
         go (suc i) e = omega (arith, nodes-are, table-few (words s) (ready-rises (a .ready)) (omega (arith, words-length s, a .ready .total)), words-length s, a .ready .total, a .ready .few)
 
-    pub nodes-fit : Fits w64 (10 * m)
+    pub nodes-fit : Fits w64 (m * nodeSize)
     nodes-fit = omega (arith, nodes-few)
 
     module _ {c e : ℕ} (t : SumsAre s k c e) where
-      pub sizes-are : Sized s k e (e + 2 * c) m (e + 2 * c + 10 * m + 16)
+      pub sizes-are : Sized s k e (e + 2 * c) m (e + 2 * c + m * nodeSize + 16)
       sizes-are = record {
         blocks-start = t .size-is;
         nodes-start = omega (arith, t .count-is);
@@ -62,10 +62,10 @@ module _ {s : Bytes} {n : ℕ} {lens steps : List ℕ} {k : ℕ} (a : BuildAsk s
         few = omega (arith, t .small, t .few, nodes-few);
       }
 
-      pub tables-fit : Fits w64 (e + 2 * c + 10 * m)
+      pub tables-fit : Fits w64 (e + 2 * c + m * nodeSize)
       tables-fit = omega (arith, sizes-are .few)
 
-      pub book-fits : Fits w64 (e + 2 * c + 10 * m + 16)
+      pub book-fits : Fits w64 (e + 2 * c + m * nodeSize + 16)
       book-fits = omega (arith, sizes-are .few)
 
   names-words : map (word plain) (names s) ≡ words s
@@ -121,16 +121,16 @@ module _ {s : Bytes} {n : ℕ} {lens steps : List ℕ} {k : ℕ} (a : BuildAsk s
       l₁₂ : length (x ++ y) ≡ nodes
       l₁₂ = length-append x y ∙ omega (arith, l₁, l₂, z .nodes-start)
 
-      pub nodes-part : length (take (total - 16 - nodes) (drop nodes (put (put room 0 blocks x) blocks nodes y))) ≡ 10 * count
+      nodes-part : length (take (total - 16 - nodes) (drop nodes (put (put room 0 blocks x) blocks nodes y))) ≡ count * nodeSize
       nodes-part =
           part-length r₂ nodes (total - 16 - nodes) (omega (arith, ap length p₂ ∙ over-length (x ++ y) room (omega (arith, l₁₂, z .whole)), z .whole)) ∙ omega (arith, z .whole)
 
-      module _ (w v : Bytes) {m : ℕ} (q : NodesPut s w count m) (v-is : v ≡ trailer n k blocks nodes count total) where
+      module _ (w v : Bytes) {m : ℕ} (q : NodesPut s (take (total - 16 - nodes) (drop nodes (put (put room 0 blocks x) blocks nodes y))) w m) (v-is : v ≡ trailer n k blocks nodes count total) where
         abbrev r₃ : Bytes
         r₃ = put r₂ nodes (total - 16) w
 
         w-is : w ≡ nodePart (table (words s))
-        w-is = q .put (z .number)
+        w-is = q .put (nodes-part ∙ ap (λ (i : ℕ). i * nodeSize) (z .number))
 
         l₃ : length w ≡ total - 16 - nodes
         l₃ = ap length w-is ∙ omega (arith, nodes-length (table (words s)), z .number, z .whole)

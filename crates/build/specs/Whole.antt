@@ -10,7 +10,7 @@ use lib.ListN.{length}
 use Rattle.words.specs.Words.{Bytes, plain}
 use Rattle.format.specs.Nodes.{table}
 use Rattle.format.specs.Records.{Names, readList}
-use Rattle.format.specs.Book.{entryPart, blockPart}
+use Rattle.format.specs.Book.{entryPart, blockPart, nodeSize}
 use Rattle.format.specs.Outcomes.{Written, given, refused}
 use Rattle.records.specs.Lists.{names, words}
 use Rattle.records.specs.Lists.{Ready}
@@ -27,7 +27,7 @@ pub record Sized (s : Bytes) (k blocks nodes count total : ℕ) : Type 0 where
   pub blocks-start : blocks ≡ length (entryPart k (names s))
   pub nodes-start : nodes ≡ blocks + length (blockPart k (names s))
   pub number : count ≡ length (table (words s))
-  pub whole : total ≡ nodes + 10 * count + 16
+  pub whole : total ≡ nodes + count * nodeSize + 16
   pub few : total ≤ 1000000
 
 abbrev pub shownBuilt : Built → Bytes → Written

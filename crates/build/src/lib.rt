@@ -31,7 +31,7 @@ fn sizes_of(list: &[u8], n: usize, lens: &[u8], steps: &[u8], k: usize) -> Sizes
         blocks: survey.size,
         nodes,
         count,
-        total: nodes + 10 * count + 16,
+        total: nodes + count * fields::SIZE + 16,
     }
 }
 
@@ -56,7 +56,7 @@ fn write_book(list: &[u8], n: usize, lens: &[u8], steps: &[u8], k: usize, s: Siz
     let end = total - 16;
     blocks::write_entries(list, n, steps, k, &mut room[0..blocks]);
     blocks::write_table(list, n, steps, k, &mut room[blocks..nodes]);
-    nodes::write_nodes(list, n, lens, steps, s.count, &mut room[nodes..end]);
+    nodes::write_nodes(list, n, lens, steps, &mut room[nodes..end]);
     put_trailer(&mut room[end..total], n, k, s);
 }
 

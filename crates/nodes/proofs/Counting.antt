@@ -1,25 +1,28 @@
--- Laws of counting the nodes. It is the writer's own walk, in a room with no place: what the writer keeps beside the depths, and the
--- records that it would have written, are there and nobody holds them.
+-- Laws of counting the nodes. It is the writer's own walk, in a room with no place: the frames of which only the depths are kept, and
+-- the records that would have been written, are there and nobody holds them.
 --     Deeper: deeper-start, deeper-some, deeper-less, deeper-more, deeper-done     frame after frame
---     Unwound                       the frames above number r are closed
+--     SameDepths, Unwound           a row of depths and the frames that have them; the frames above number r are closed
 --     Uncounted, Counting: counting-start .. counting-all             the walk over all names
 -- Assumes nothing.
 use Prim.Native.Nat.{ℕ, zero, suc, _+_, _-_, _*_, _≤_, _<_, zero-le}
 use native.Mathlib.Nat.{lt-irrefl}
 use native.Mathlib.Decide.{ℕ-discrete}
 use native.Mathlib.Omega.{arith}
-use mathlib.Core.Path.{_≡_, refl, ap, _∙_, subst}
+use mathlib.Core.Path.{_≡_, refl, sym, ap, _∙_, subst}
 use mathlib.Core.List.{List, []}
-use lib.ListN.{length, getD, set, replicate}
+use lib.ListN.{length, getD, drop, length-set, replicate, set, take}
+use lib.Seq.{getD-set-other, getD-set-same}
 use mir.Val.{Fits}
 use mir.Syntax.{w8}
 use Rattle.words.specs.Words.{Bytes}
 use Rattle.records.specs.Lists.{Ready, words}
 use Rattle.records.proofs.Starts.{ready-rises}
-use Rattle.nodes.specs.Writing.{Closing, NameAt, Rowing, Shut}
+use Rattle.nodes.specs.declared.Passed.{Passed}
+use Rattle.nodes.specs.Frames.{depthIn, frameCount, frameSize, withFrame}
+use Rattle.nodes.specs.Writing.{NameAsk, NamePut, Passing, Rowing}
 use Rattle.nodes.specs.Counting.{CountAsk, Deeper, NodeCount, StaysOpen}
-use Rattle.nodes.proofs.Frames.{open-depth}
-use Rattle.nodes.proofs.Writing.{all-words, back-full, closing-more, leaf-closing, rowing-all, rowing-ask, rowing-keep, rowing-name, rowing-narrow, rowing-push, rowing-start}
+use Rattle.nodes.proofs.Frames.{depth-below, open-depth, with-depth}
+use Rattle.nodes.proofs.Writing.{all-words, back-full, leaf-put, node-put, passing-deeper, passing-on, rowing-all, rowing-closing, rowing-keep, rowing-left, rowing-name, rowing-push, rowing-room, rowing-start}
 
 -- ---- frame after frame
 
@@ -49,103 +52,113 @@ module _ {depths : List ℕ} {left top r : ℕ} (k : Deeper depths left top r) (
   pub deeper-done : x ≤ left → StaysOpen depths left top r
   deeper-done h = record { above = k; shallow = omega arith }
 
--- the frames above number top are closed, after so many records
-record Unwound (s : Bytes) (j left : ℕ) (depths ends marks : List ℕ) (top count : ℕ) : Type 0 where
-  pub end : ℕ
-  pub mark : ℕ
-  pub closing : Closing s j left depths ends marks top count end mark 0 []
+-- the frames hold these depths, up to the top one
+abbrev SameDepths : List ℕ → List ℕ → ℕ → Type 0
+SameDepths frames depths top = (t : ℕ) → t ≤ top → depthIn frames t ≡ getD depths t 0
 
-module _ {s : Bytes} {at len j left : ℕ} {depths ends marks : List ℕ} (a : NameAt s at len j left depths ends marks) where
+-- the frames above number r are closed, after so many records
+record Unwound (rest : Bytes) (skip j left : ℕ) (frames : List ℕ) (top count r total : ℕ) : Type 0 where
+  pub p : Passed
+  pub top-is : p .top ≡ r
+  pub count-is : p .count ≡ total
+  pub passing : Passing rest skip j left frames top count [] p []
+
+module _ {rest : Bytes} {skip j left : ℕ} {frames : List ℕ} {first count : ℕ} (a : NameAsk rest skip j left frames first count []) where
   -- one record for each frame
-  unwound : {first r : ℕ} → Deeper depths left first r → (m : ℕ) {top count end mark : ℕ} → top ≤ first → top ≡ r + m
-      → Closing s j left depths ends marks top count end mark 0 [] → Unwound s j left depths ends marks r (count + m)
-  unwound {r = r} d zero {top} {count} {end} {mark} l e k =
-      let t : top ≡ r = omega arith in
-      let c : count ≡ count + 0 = omega arith in
-      record { end = end; mark = mark; closing = rw (← t, ← c) k }
-  unwound {first} {r} d (suc m) {top} {count} l e k =
-      let h : left < getD depths top 0 = d .deeper top (omega arith) l in
-      let c : count + 1 + m ≡ count + suc m = omega arith in
-      let next = closing-more (back-full [] 0 count _ _ _ _ _ zero-le) s at len left top _ _ _ _ depths ends marks a k h refl refl refl refl refl refl in
-      subst (Unwound s j left depths ends marks r) c (unwound d m (omega arith) (omega arith) (next .closing))
+  unwound : {r : ℕ} (depths : List ℕ) → SameDepths frames depths first → Deeper depths left first r → (m : ℕ) {p : Passed} → p .top ≤ first → p .top ≡ r + m
+      → Passing rest skip j left frames first count [] p [] → Unwound rest skip j left frames first count r (p .count + m)
+  unwound depths same d zero {p} l e k = record { p = p; top-is = omega arith; count-is = omega arith; passing = k }
+  unwound {r} depths same d (suc m) {p} l e k =
+      let h : left < depthIn frames (p .top) = omega (arith, d .deeper (p .top) (omega arith) l, same (p .top) l) in
+      let put = node-put (passing-deeper k refl _ refl a h) (back-full [] (p .count) _ (omega arith)) _ _ refl refl refl refl refl refl in
+      let u = unwound depths same d m (omega arith) (omega arith) (passing-on k (put .onward)) in
+      record { p = u .p; top-is = u .top-is; count-is = omega (arith, u .count-is); passing = u .passing }
 
 -- ---- the walk over all names
 
 -- the writer's state where count is the number of its records, of the names that it has not yet come to and of the open nodes
 pub record Uncounted (s : Bytes) (n : ℕ) (depths : List ℕ) (top count j : ℕ) : Type 0 where
-  pub ends : List ℕ
-  pub marks : List ℕ
+  pub frames : List ℕ
+  pub same : SameDepths frames depths top
   pub written : ℕ
-  pub start : ℕ
-  pub rowing : Rowing s n depths ends marks 0 [] top written start j
+  pub end : ℕ
+  pub rowing : Rowing s n [] [] frames top written end j
   pub is : count ≡ written + j + top
   pub closed : j ≡ 0 → top ≡ 0
 
-pub record Counting (n : ℕ) (steps depths : List ℕ) (top count j : ℕ) : Type 0 where
+pub record Counting (n : ℕ) (shares depths : List ℕ) (top count j : ℕ) : Type 0 where
   pub low : j ≤ n
   pub sentinel : getD depths 0 0 ≡ 0
-  pub slots : length depths ≡ 203
-  pub slot : top < 203
-  pub few : count ≤ 2 * n + 203
-  pub state : (s : Bytes) (lens : List ℕ) → Ready s n lens steps → Uncounted s n depths top count j
+  pub slots : length depths ≡ frameCount
+  pub slot : top < frameCount
+  pub few : count ≤ 2 * n + frameCount
+  pub state : (s : Bytes) (lens : List ℕ) → Ready s n lens shares → Uncounted s n depths top count j
 
-module _ {n : ℕ} {steps : List ℕ} (a : CountAsk n steps) where
+module _ {n : ℕ} {shares : List ℕ} (a : CountAsk n shares) where
   -- what is so for every list of which this is noted is so for the one that there is
-  counting : {depths : List ℕ} {top count j : ℕ} → ((s : Bytes) (lens : List ℕ) → Ready s n lens steps → Uncounted s n depths top count j) → Counting n steps depths top count j
-  counting {depths} {top} {count} {j} state =
+  counting : {depths : List ℕ} {top count j : ℕ} → length depths ≡ frameCount → ((s : Bytes) (lens : List ℕ) → Ready s n lens shares → Uncounted s n depths top count j)
+      → Counting n shares depths top count j
+  counting {depths} {top} {count} {j} slots state =
       let o : Uncounted (a .list) n depths top count j = state (a .list) (a .lens) (a .ready) in
       record {
         low = o .rowing .low;
-        sentinel = o .rowing .sentinel;
-        slots = o .rowing .slots;
-        slot = o .rowing .slot;
-        few = omega (arith, o .is, o .rowing .written .few, all-words (a .ready));
+        sentinel = sym (o .same 0 zero-le) ∙ o .rowing .framed .sentinel;
+        slots = slots;
+        slot = o .rowing .framed .slot;
+        few = omega (arith, o .is, o .rowing .written .few, o .rowing .framed .slot, all-words (a .ready));
         state = state;
       }
 
-  pub counting-start : Counting n steps (replicate 203 0) 0 n n
-  counting-start = counting (λ s lens ready. record {
-    ends = replicate 203 0;
-    marks = replicate 203 0;
+  pub counting-start : Counting n shares (replicate frameCount 0) 0 n n
+  counting-start = counting refl (λ s lens ready. record {
+    frames = replicate (frameSize * frameCount) 0;
+    same = λ t l. let e : t ≡ 0 = omega arith in rw e refl;
     written = 0;
-    start = length s;
-    rowing = rowing-start ready [] 0 refl;
+    end = length s;
+    rowing = rowing-start ready [];
     is = omega arith;
     closed = λ e. refl;
   })
 
-  module _ {depths : List ℕ} {top count j : ℕ} (k : Counting n steps depths top count j) where
-    pub counting-all : j ≤ 0 → NodeCount n steps count
+  module _ {depths : List ℕ} {top count j : ℕ} (k : Counting n shares depths top count j) where
+    pub counting-all : j ≤ 0 → NodeCount n shares count
     unfolding NodeCount
     counting-all h s lens ready =
         let o : Uncounted s n depths top count j = k .state s lens ready in
         o .is ∙ omega (arith, o .closed (omega arith), rowing-all ready (o .rowing) h .nodes)
 
     module _ (h : 0 < j) (left : ℕ) where
-      pub counting-narrow : (j - 1 ≡ 0 → left ≡ 0) → (0 < j - 1 → left ≡ suc (getD steps (j - 1) 0)) → Fits w8 left
+      pub counting-narrow : (j - 1 ≡ 0 → left ≡ 0) → (0 < j - 1 → left ≡ suc (getD shares (j - 1) 0)) → Fits w8 left
       counting-narrow z l =
           let o : Uncounted (a .list) n depths top count j = k .state (a .list) (a .lens) (a .ready) in
-          rowing-narrow (a .ready) (o .rowing) h _ refl left z l
+          omega (arith, rowing-left (a .ready) (o .rowing) h _ refl left z l)
 
-      module _ {r : ℕ} (u : StaysOpen depths left top r) (z : j - 1 ≡ 0 → left ≡ 0) (l : 0 < j - 1 → left ≡ suc (getD steps (j - 1) 0)) (x : ℕ) (d : x ≡ getD depths r 0) where
+      module _ {r : ℕ} (u : StaysOpen depths left top r) (z : j - 1 ≡ 0 → left ≡ 0) (l : 0 < j - 1 → left ≡ suc (getD shares (j - 1) 0)) (x : ℕ) (d : x ≡ getD depths r 0) where
         -- of a list: name j - 1 has its leaf, and the frames above number r are closed
-        module _ (s : Bytes) (lens : List ℕ) (ready : Ready s n lens steps) where
+        module _ (s : Bytes) (lens : List ℕ) (ready : Ready s n lens shares) where
           o : Uncounted s n depths top count j
           o = k .state s lens ready
 
           abbrev len : ℕ
           len = getD lens (j - 1) 0
 
-          name : NameAt s (o .start - 1 - len) len (j - 1) left depths (o .ends) (o .marks)
-          name = rowing-name ready (o .rowing) h len refl left z l
+          abbrev name : Bytes
+          name = take (o .end - (o .end - len)) (drop (o .end - len) s)
 
-          closed : Unwound s (j - 1) left depths (o .ends) (o .marks) r (o .written + 1 + (top - r))
+          ask : NameAsk name 0 (j - 1) left (o .frames) top (o .written) []
+          ask = rowing-name ready (o .rowing) h len refl left z l
+
+          closed : Unwound name 0 (j - 1) left (o .frames) top (o .written) r (o .written + 1 + (top - r))
           closed =
-              unwound name (u .above) (top - r) (omega arith) (omega (arith, u .above .within))
-              (leaf-closing name _ _ _ (rowing-ask ready (o .rowing) h) refl refl refl (back-full [] 0 (o .written) _ _ _ _ _ zero-le))
+              unwound ask depths (o .same) (u .above) (top - r) (omega arith) (omega (arith, u .above .within))
+              (leaf-put (back-full [] (o .written) _ (omega arith)) ask _ _ refl refl refl .passing)
 
-          shut : Shut s (j - 1) left depths (o .ends) (o .marks) r (o .written + 1 + (top - r)) (closed .end) (closed .mark) 0 []
-          shut = record { shallow = u .shallow; closing = closed .closing }
+          -- the top frame is number r
+          top-depth : x ≡ depthIn (o .frames) (closed .p .top)
+          top-depth = d ∙ sym (o .same r (u .above .within)) ∙ ap (depthIn (o .frames)) (sym (closed .top-is))
+
+          put : NamePut name 0 (j - 1) left (o .frames) top (o .written) [] (closed .p) []
+          put = record { passing = closed .passing; shallow = omega (arith, top-depth, u .shallow) }
 
           -- frames deepen, so at the first name none is left
           bottom : j - 1 ≡ 0 → r ≡ 0
@@ -154,37 +167,50 @@ module _ {n : ℕ} {steps : List ℕ} (a : CountAsk n steps) where
                 arith,
                 z e,
                 u .shallow,
-                open-depth (words s) (ready-rises ready) depths (o .ends) (o .marks) (o .rowing .sentinel) (closed .closing .cur .open-rows),
+                top-depth,
+                closed .top-is,
+                open-depth (words s) (ready-rises ready) (o .frames) (o .rowing .framed .sentinel) (rowing-closing ready (o .rowing) h len refl left z l put .cur .open-rows),
               )
 
           kept : left ≤ x → Uncounted s n depths r count (j - 1)
           kept g = record {
-            ends = _;
-            marks = _;
-            written = _;
-            start = _;
-            rowing = rowing-keep ready (o .rowing) h len refl left z l shut x d g;
-            is = omega (arith, o .is, u .above .within);
+            frames = o .frames;
+            same = λ t b. o .same t (omega (arith, u .above .within));
+            written = closed .p .count;
+            end = o .end - len - 1;
+            rowing =
+                subst (λ (t : ℕ). Rowing s n [] [] (o .frames) t (closed .p .count) (o .end - len - 1) (j - 1)) (closed .top-is)
+                (rowing-keep ready (o .rowing) h len refl left z l put x top-depth g);
+            is = omega (arith, o .is, closed .count-is, u .above .within);
             closed = bottom;
           }
 
           pushed : x < left → Uncounted s n (set depths (r + 1) left) (r + 1) (count + 1) (j - 1)
-          pushed g = record {
-            ends = _;
-            marks = _;
-            written = _;
-            start = _;
-            rowing = rowing-push ready (o .rowing) h len refl left z l shut x d g;
-            is = omega (arith, o .is, u .above .within);
-            closed = λ e. absurd (lt-irrefl x (omega (arith, z e)));
-          }
+          pushed g =
+              let slot : r + 1 < frameCount = omega (arith, rowing-room ready (o .rowing) h len refl left z l put x top-depth g .slot, closed .top-is) in
+              record {
+                frames = withFrame (o .frames) (r + 1) left (closed .p .end) (closed .p .mark);
+                same = λ t b. elim (ℕ-discrete t (r + 1)) [
+                  | yes q ↦ rw q (with-depth (o .frames) (r + 1) left (closed .p .end) (closed .p .mark) (omega (arith, o .rowing .framed .slots))
+                      ∙ sym (getD-set-same depths (r + 1) left 0 (omega (arith, k .slots))))
+                  | no q ↦ depth-below (o .frames) (r + 1) left (closed .p .end) (closed .p .mark) t (omega arith)
+                      ∙ o .same t (omega (arith, u .above .within)) ∙ sym (getD-set-other depths (r + 1) t left 0 q)
+                ];
+                written = closed .p .count;
+                end = o .end - len - 1;
+                rowing =
+                    subst (λ (t : ℕ). Rowing s n [] [] (withFrame (o .frames) (t + 1) left (closed .p .end) (closed .p .mark)) (t + 1) (closed .p .count) (o .end - len - 1) (j - 1)) (closed .top-is)
+                    (rowing-push ready (o .rowing) h len refl left z l put x top-depth g _ refl);
+                is = omega (arith, o .is, closed .count-is, u .above .within);
+                closed = λ q. absurd (lt-irrefl x (omega (arith, z q)));
+              }
 
-        pub counting-keep : left ≤ x → Counting n steps depths r count (j - 1)
-        counting-keep g = counting (λ s lens ready. kept s lens ready g)
+        pub counting-keep : left ≤ x → Counting n shares depths r count (j - 1)
+        counting-keep g = counting (k .slots) (λ s lens ready. kept s lens ready g)
 
-        pub counting-push : x < left → Counting n steps (set depths (r + 1) left) (r + 1) (count + 1) (j - 1)
-        counting-push g = counting (λ s lens ready. pushed s lens ready g)
+        pub counting-push : x < left → Counting n shares (set depths (r + 1) left) (r + 1) (count + 1) (j - 1)
+        counting-push g = counting (length-set depths (r + 1) left ∙ k .slots) (λ s lens ready. pushed s lens ready g)
 
         -- there is a slot for one frame more
-        pub counting-slot : x < left → r + 1 < 203
+        pub counting-slot : x < left → r + 1 < frameCount
         counting-slot g = counting-push g .slot

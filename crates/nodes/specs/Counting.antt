@@ -20,10 +20,10 @@ pub record StaysOpen (depths : List ℕ) (left top r : ℕ) : Type 0 where
   pub above : Deeper depths left top r
   pub shallow : getD depths r 0 ≤ left
 
-pub record CountAsk (n : ℕ) (steps : List ℕ) : Type 0 where
+pub record CountAsk (n : ℕ) (shares : List ℕ) : Type 0 where
   pub list : Bytes
   pub lens : List ℕ
-  pub ready : Ready list n lens steps
+  pub ready : Ready list n lens shares
 
 unfoldable pub NodeCount : ℕ → List ℕ → ℕ → Type 0
-NodeCount n steps r = (s : Bytes) (lens : List ℕ) → Ready s n lens steps → r ≡ length (table (words s))
+NodeCount n shares r = (s : Bytes) (lens : List ℕ) → Ready s n lens shares → r ≡ length (table (words s))

@@ -1,86 +1,120 @@
--- What the writer of the node table asks and gives.
+-- What the writer of the node table asks and gives. Below the walk over a list nobody holds the names: what is asked is that there are
+-- words of which this is so, and what is given is given for any words of which it is so.
 --     PutBack           one record more stands in front of those at the end of a room
 --     Counted           records at the end of a room, and how many
---     NameAt            name j and its record; Asked, Closing, Closed, Shut: the name and the nodes that begin with it
+--     NameAt            a piece of name j; Behind: the names behind j; Closing: the name, and nodes that begin with it
+--     NameAsk           what is asked of a name; Passing: its leaf, and nodes in front of it; LeafPut, NamePut: none, and all of them
+--     NodeAsk, NodePut  the same of the node of one frame; Onward: of those of several
+--     PushAsk           what one frame more asks
 --     Rowing, NodesPut  the walk over all names; the whole table
 -- The laws are in proofs/. Assumes nothing: these are definitions.
 use Prim.Native.Nat.{ℕ, suc, pred, _+_, _*_, _≤_, _<_}
 use mathlib.Core.Path.{_≡_}
 use mathlib.Core.List.{List, _∷_}
-use lib.ListN.{length, getD, take, drop}
-use Rattle.words.specs.Words.{Bytes, plain, word, nth, Rises}
+use lib.ListN.{length, drop}
+use Rattle.words.specs.Words.{Bytes, Rises, Words, nth, plain, word}
 use Rattle.format.specs.Nodes.{Node, table}
-use Rattle.format.specs.Book.{nodePart}
-use Rattle.records.specs.Lists.{words, startOf}
-use Rattle.nodes.specs.Frames.{Open, Cur, Tail}
+use Rattle.format.specs.Book.{nodePart, nodeSize}
+use Rattle.records.specs.Lists.{startOf, words}
+use Rattle.nodes.specs.Frames.{Cur, Framed, Open, Tail, depthIn, frameCount, frameSize}
+use Rattle.nodes.specs.declared.Passed.{Passed}
 
-pub record PutBack (room₀ room : Bytes) (places w symbol depth first count nodes : ℕ) : Type 0 where
+pub record PutBack (room₀ room : Bytes) (w : ℕ) (node : Node) : Type 0 where
   pub kept : length room ≡ length room₀
-  pub tail : (done : List Node) → length done ≡ w → Tail places room₀ done
-      → Tail places room (record { symbol = symbol; depth = depth; first = first; names = count; nodes = nodes } ∷ done)
+  pub tail : (done : List Node) → length done ≡ w → Tail room₀ done → Tail room (node ∷ done)
 
 -- the records `done` stand at the end of the room, as many as w
-pub record Counted (n j places w : ℕ) (room : Bytes) (done : List Node) : Type 0 where
+pub record Counted (n j w : ℕ) (room : Bytes) (done : List Node) : Type 0 where
   pub counted : w ≡ length done
-  pub tail : Tail places room done
+  pub tail : Tail room done
   pub few : w + 2 * j ≤ 2 * n
 
--- name j's record begins at `at`, and stands at `left` to the one before; the frames have room for every depth
-pub record NameAt (s : Bytes) (at len j left : ℕ) (depths ends marks : List ℕ) : Type 0 where
-  pub rises : Rises (words s)
-  pub few : length (words s) ≤ 2000
-  pub fits : at + 1 + len ≤ length s
-  pub here : word plain (take len (drop (at + 1) s)) ≡ nth (words s) j
-  pub size : len ≤ 200
-  pub within : j < length (words s)
-  pub low : left ≤ 200
-  pub sentinel : getD depths 0 0 ≡ 0
-  pub slots : length depths ≡ 203
-  pub slots-ends : length ends ≡ 203
-  pub slots-marks : length marks ≡ 203
+-- `rest` is what word j has from symbol number `skip` on, and no symbol before it leads from a shifted depth of `left` or more
+pub record NameAt (ws : Words) (rest : Bytes) (skip j left : ℕ) : Type 0 where
+  pub rises : Rises ws
+  pub few : length ws ≤ 2000
+  pub within : j < length ws
+  pub piece : drop skip (nth ws j) ≡ word plain rest
+  pub whole : length (nth ws j) ≡ skip + length rest
+  pub size : skip + length rest ≤ 200
+  pub skipped : skip ≤ pred left
 
 -- The names behind j are written; the top one of the frames that hold j is number `top`.
-pub record Asked (s : Bytes) (j : ℕ) (depths ends marks : List ℕ) (top count places : ℕ) (room : Bytes) : Type 0 where
-  pub slot : top < 203
-  pub whole : length room ≡ 10 * places
+pub record Behind (ws : Words) (j : ℕ) (frames : List ℕ) (top count : ℕ) (room : Bytes) : Type 0 where
   pub done : List Node
-  pub written : Counted (length (words s)) (suc j) places count room done
-  pub rows : Open (words s) depths ends marks j top (suc j) done
+  pub written : Counted (length ws) (suc j) count room done
+  pub rows : Open ws frames j top (suc j) done
 
--- The node of names j to `end` is whole, and in front of the frames up to `top`.
-pub record Closing (s : Bytes) (j left : ℕ) (depths ends marks : List ℕ) (top count end mark places : ℕ) (room : Bytes) : Type 0 where
-  pub slot : top < 203
-  pub whole : length room ≡ 10 * places
+-- The node of names j to an end is whole, and in front of the frames that are left.
+pub record Closing (ws : Words) (j left : ℕ) (frames : List ℕ) (p : Passed) (room : Bytes) : Type 0 where
   pub done : List Node
-  pub written : Counted (length (words s)) j places count room done
-  pub cur : Cur (words s) depths ends marks j left top end mark done
+  pub written : Counted (length ws) j (p .count) room done
+  pub cur : Cur ws frames j left (p .top) (p .end) (p .mark) done
 
--- one frame less
-pub record Closed (s : Bytes) (j left : ℕ) (depths ends marks : List ℕ) (before top count end mark places : ℕ) (room : Bytes) : Type 0 where
-  pub fewer : top < before
-  pub closing : Closing s j left depths ends marks top count end mark places room
+-- ---- one name
+
+pub record NameAsk (rest : Bytes) (skip j left : ℕ) (frames : List ℕ) (top count : ℕ) (room : Bytes) : Type 0 where
+  pub framed : Framed frames top
+  pub ws : Words
+  pub name : NameAt ws rest skip j left
+  pub behind : Behind ws j frames top count room
+
+pub record Passing (rest : Bytes) (skip j left : ℕ) (frames : List ℕ) (top count : ℕ) (room₀ : Bytes) (p : Passed) (room : Bytes) : Type 0 where
+  pub kept : length room ≡ length room₀
+  pub framed : Framed frames (p .top)
+  pub closing : (ws : Words) → NameAt ws rest skip j left → Behind ws j frames top count room₀ → Closing ws j left frames p room
+
+-- no frame is closed yet
+pub record LeafPut (rest : Bytes) (skip j left : ℕ) (frames : List ℕ) (top count : ℕ) (room₀ : Bytes) (p : Passed) (room : Bytes) : Type 0 where
+  pub passing : Passing rest skip j left frames top count room₀ p room
+  pub same : p .top ≡ top
 
 -- no frame that is left is deeper than `left`
-pub record Shut (s : Bytes) (j left : ℕ) (depths ends marks : List ℕ) (top count end mark places : ℕ) (room : Bytes) : Type 0 where
-  pub shallow : getD depths top 0 ≤ left
-  pub closing : Closing s j left depths ends marks top count end mark places room
+pub record NamePut (rest : Bytes) (skip j left : ℕ) (frames : List ℕ) (top count : ℕ) (room₀ : Bytes) (p : Passed) (room : Bytes) : Type 0 where
+  pub passing : Passing rest skip j left frames top count room₀ p room
+  pub shallow : depthIn frames (p .top) ≤ left
 
--- The names from j on are written, and record j begins at `at`; the frames are those of the nodes that hold the name before j.
-pub record Rowing (s : Bytes) (n : ℕ) (depths ends marks : List ℕ) (places : ℕ) (room : Bytes) (top count at j : ℕ) : Type 0 where
+-- ---- the nodes of frames
+
+pub record NodeAsk (rest : Bytes) (skip j left : ℕ) (frames : List ℕ) (p : Passed) (room : Bytes) : Type 0 where
+  pub framed : Framed frames (p .top)
+  pub deeper : left < depthIn frames (p .top)
+  pub ws : Words
+  pub name : NameAt ws rest skip j left
+  pub closing : Closing ws j left frames p room
+
+-- from p on to q
+pub record Onward (rest : Bytes) (skip j left : ℕ) (frames : List ℕ) (p : Passed) (room₀ : Bytes) (q : Passed) (room : Bytes) : Type 0 where
+  pub kept : length room ≡ length room₀
+  pub down : q .top ≤ p .top
+  pub closing : (ws : Words) → NameAt ws rest skip j left → Closing ws j left frames p room₀ → Closing ws j left frames q room
+
+pub record NodePut (rest : Bytes) (skip j left : ℕ) (frames : List ℕ) (p : Passed) (room₀ : Bytes) (q : Passed) (room : Bytes) : Type 0 where
+  pub onward : Onward rest skip j left frames p room₀ q room
+  pub fewer : q .top < p .top
+
+-- ---- all names
+
+-- one frame more has a slot, and its numbers fit
+pub record PushAsk (frames : List ℕ) (depth : ℕ) (p : Passed) : Type 0 where
+  pub slots : length frames ≡ frameSize * frameCount
+  pub slot : p .top + 1 < frameCount
+  pub depth-fits : depth < 65536
+  pub end-fits : p .end < 65536
+  pub mark-fits : p .mark < 65536
+
+-- The names from j on are written, and the name before j ends at `end`; the frames are those of the nodes that hold it.
+pub record Rowing (s : Bytes) (n : ℕ) (room₀ room : Bytes) (frames : List ℕ) (top count end j : ℕ) : Type 0 where
   pub low : j ≤ n
-  pub here : at ≡ startOf s j
-  pub sentinel : getD depths 0 0 ≡ 0
-  pub slots : length depths ≡ 203
-  pub slots-ends : length ends ≡ 203
-  pub slots-marks : length marks ≡ 203
-  pub slot : top < 203
-  pub whole : length room ≡ 10 * places
+  pub here : end ≡ startOf s j
+  pub kept : length room ≡ length room₀
+  pub framed : Framed frames top
   pub done : List Node
-  pub written : Counted (length (words s)) j places count room done
-  pub rows : 0 < j → Open (words s) depths ends marks (pred j) top j done
+  pub written : Counted (length (words s)) j count room done
+  pub rows : 0 < j → Open (words s) frames (pred j) top j done
   pub all : j ≡ 0 → done ≡ table (words s)
 
--- r nodes; and their bytes, where the room has a place for each
-pub record NodesPut (s : Bytes) (room : Bytes) (places r : ℕ) : Type 0 where
+-- r nodes; and their bytes, where the room is as long
+pub record NodesPut (s room₀ room : Bytes) (r : ℕ) : Type 0 where
   pub nodes : r ≡ length (table (words s))
-  pub put : places ≡ length (table (words s)) → room ≡ nodePart (table (words s))
+  pub put : length room₀ ≡ length (table (words s)) * nodeSize → room ≡ nodePart (table (words s))

@@ -1,79 +1,62 @@
 // The node table, written from its end: going back over the names, each name's leaf comes first, and in front of it every node that
 // begins with that name, deepest first. So a node's record is written when all of its row stands behind it, and one pass with a stack
-// of open nodes does it, whatever the depth of the tree. With no place in the room it only counts.
+// of open nodes does it, whatever the depth of the tree. In a room that is too short it only counts. Of a name the writer takes the bytes
+// from number `skip` on: those that the name shares with the one before it lead to no node that begins with it. Only `write_nodes`
+// knows that they stand in a list.
 ghost use mathlib.Core.Path.{_≡_};
-ghost use mathlib.Core.List.{[], _∷_};
-ghost use Prim.Native.Nat.{suc, _+_, _*_, _<_, _≤_};
-ghost use lib.ListN.{length, getD, take, drop};
+ghost use Prim.Native.Nat.{suc, pred, _+_, _-_, _*_, _<_, _≤_};
+ghost use lib.ListN.{length, getD};
 ghost use Rattle.words.specs.Words.{plain, word};
-ghost use Rattle.format.specs.Book.{numbers};
-ghost use Rattle.nodes.specs.Frames.{symbolOf};
+ghost use Rattle.fields.specs.Node.{nodeOf};
 ghost use Rattle.records.specs.Lists.{Ready};
+ghost use Rattle.nodes.specs.Frames.{depthIn, endIn, frameCount, frameSize, markIn, symbolOf, withFrame};
 ghost use Rattle.nodes.specs.Counting.{CountAsk, NodeCount, StaysOpen};
-ghost use Rattle.nodes.specs.Writing.{PutBack, NameAt, Asked, Closing, Closed, Shut, NodesPut};
+ghost use Rattle.nodes.specs.Writing.{LeafPut, NameAsk, NamePut, NodeAsk, NodePut, NodesPut, PushAsk, PutBack};
 
-// Symbol number p - 1 of the name behind the length byte at `at`; 0 where p is 0, as the root's is written.
-fn symbol_of(list: &[u8], at: usize, len: usize, p: usize) -> usize
-    requires { ⌜ at + 1 + len ≤ length (now list) ⌝ }
-    ensures { λ r. ⌜ r ≡ symbolOf p (word plain (take len (drop (at + 1) (now (list .entry))))) ⌝ }
+// How many numbers a frame has: one more than its node's depth, where its names end, how many records stand behind it.
+const FRAME: usize = 3;
+
+// For how many frames there is a place.
+const FRAMES: usize = 203;
+
+// What leads to a node from a parent whose depth is p - 1: symbol number p - 1 of a name that the node holds; 0 where p is 0, for the root.
+// The end symbol is 0, too: the compiler makes one test of both, and then `symbol_at` has none left.
+fn symbol_of(rest: &[u8], skip: usize, p: usize) -> usize
+    requires { ⌜ (skip ≤ pred p) × (skip + length (now rest) ≤ 200) ⌝ }
+    ensures { λ r. ⌜ r ≡ symbolOf (p - skip) (word plain (now (rest .entry))) ⌝ }
 {
     if p == 0 {
         return 0;
     }
-    if len < p {
+    if skip + rest.len() < p {
         return 0;
     }
-    numbers::wide(list[at + p]) + 1
-}
-
-// A node's ten bytes.
-fn put_node(part: &mut [u8], symbol: usize, depth: usize, first: usize, names: usize, nodes: usize)
-    requires { ⌜ length (now part) ≡ 10 ⌝ }
-    ensures { λ _. ⌜ now (part .exit) ≡ numbers (symbol ∷ depth ∷ first ∷ names ∷ nodes ∷ []) ⌝ }
-{
-    part[0] = (symbol % 256) as u8;
-    part[1] = (symbol / 256 % 256) as u8;
-    part[2] = (depth % 256) as u8;
-    part[3] = (depth / 256 % 256) as u8;
-    part[4] = (first % 256) as u8;
-    part[5] = (first / 256 % 256) as u8;
-    part[6] = (names % 256) as u8;
-    part[7] = (names / 256 % 256) as u8;
-    part[8] = (nodes % 256) as u8;
-    part[9] = (nodes / 256 % 256) as u8;
+    symbols::symbol_at(rest, skip, p - 1)
 }
 
 // A record in front of the w records at the end of the room, where there is place for it.
-fn put_back(
-    room: &mut [u8],
-    places: usize,
-    w: usize,
-    symbol: usize,
-    depth: usize,
-    first: usize,
-    names: usize,
-    nodes: usize,
-)
-    requires { ⌜ length (now room) ≡ 10 * places ⌝ }
-    ensures { λ _. ⌜ PutBack (now (room .entry)) (now (room .exit)) places w symbol depth first names nodes ⌝ }
+fn put_back(room: &mut [u8], w: usize, node: fields::Node)
+    requires { ⌜ w ≤ 4000 ⌝ }
+    ensures { λ _. ⌜ PutBack (now (room .entry)) (now (room .exit)) w (nodeOf node) ⌝ }
 {
-    if places <= w {
+    let size = (w + 1) * fields::SIZE;
+    if room.len() < size {
         return;
     }
-    let a = 10 * (places - 1 - w);
-    let b = a + 10;
-    put_node(&mut room[a..b], symbol, depth, first, names, nodes);
+    let a = room.len() - size;
+    let b = a + fields::SIZE;
+    fields::put_node(&mut room[a..b], node);
 }
 
 // How name j stands to the one before: one more than what they share, and 0 for the first name.
-fn left_of(steps: &[u8], j: usize) -> usize
-    requires { ⌜ j < length (now steps) ⌝ }
-    ensures { λ r. ⌜ ((j ≡ 0) → (r ≡ 0)) × ((0 < j) → (r ≡ suc (getD (now (steps .entry)) j 0))) ⌝ }
+fn left_of(shares: &[u8], j: usize) -> usize
+    requires { ⌜ j < length (now shares) ⌝ }
+    ensures { λ r. ⌜ ((j ≡ 0) → (r ≡ 0)) × ((0 < j) → (r ≡ suc (getD (now (shares .entry)) j 0))) ⌝ }
 {
     if j == 0 {
         return 0;
     }
-    numbers::wide(steps[j]) + 1
+    numbers::wide(shares[j]) + 1
 }
 
 // What is left open when a name is written: the number of the top frame, how many records there are, and of the node that begins
@@ -85,36 +68,62 @@ pub struct Passed {
     pub mark: usize,
 }
 
+// The numbers of frame t.
+fn depth_in(frames: &[u16], t: usize) -> usize
+    requires { ⌜ (length (now frames) ≡ frameSize * frameCount) × (t < frameCount) ⌝ }
+    ensures { λ r. ⌜ r ≡ depthIn (now (frames .entry)) t ⌝ }
+{
+    numbers::wide16(frames[FRAME * t])
+}
+
+fn end_in(frames: &[u16], t: usize) -> usize
+    requires { ⌜ (length (now frames) ≡ frameSize * frameCount) × (t < frameCount) ⌝ }
+    ensures { λ r. ⌜ r ≡ endIn (now (frames .entry)) t ⌝ }
+{
+    numbers::wide16(frames[FRAME * t + 1])
+}
+
+fn mark_in(frames: &[u16], t: usize) -> usize
+    requires { ⌜ (length (now frames) ≡ frameSize * frameCount) × (t < frameCount) ⌝ }
+    ensures { λ r. ⌜ r ≡ markIn (now (frames .entry)) t ⌝ }
+{
+    numbers::wide16(frames[FRAME * t + 2])
+}
+
+// A frame on top of those that are left: of a node of that shifted depth, whose first node so far is the one that begins with the name.
+fn push_frame(frames: &mut [u16], depth: usize, p: Passed)
+    requires { ⌜ PushAsk (now frames) depth p ⌝ }
+    ensures { λ _. ⌜ now (frames .exit) ≡ withFrame (now (frames .entry)) (p .top + 1) depth (p .end) (p .mark) ⌝ }
+{
+    let at = FRAME * (p.top + 1);
+    frames[at] = depth as u16;
+    frames[at + 1] = p.end as u16;
+    frames[at + 2] = p.mark as u16;
+}
+
 // The leaf of name j.
 fn put_leaf(
-    list: &[u8],
-    at: usize,
-    len: usize,
+    rest: &[u8],
+    skip: usize,
     j: usize,
     left: usize,
-    depths: &[u8],
-    ends: &[u16],
-    marks: &[u16],
+    frames: &[u16],
     top: usize,
     count: usize,
-    places: usize,
     room: &mut [u8],
 ) -> Passed
-    requires { ⌜ NameAt (now list) at len j left (now depths) (now ends) (now marks) ⌝ }
-    requires { ⌜ Asked (now list) j (now depths) (now ends) (now marks) top count places (now room) ⌝ }
-    ensures { λ r. ⌜ Closing (now (list .entry)) j left (now (depths .entry)) (now (ends .entry)) (now (marks .entry)) (r .top) (r .count) (r .end) (r .mark) places (now (room .exit)) ⌝ }
+    requires { ⌜ NameAsk (now rest) skip j left (now frames) top count (now room) ⌝ }
+    ensures { λ r. ⌜ LeafPut (now (rest .entry)) skip j left (now (frames .entry)) top count (now (room .entry)) r (now (room .exit)) ⌝ }
 {
-    let p = numbers::greater(left, numbers::wide(depths[top]));
-    put_back(
-        room,
-        places,
-        count,
-        symbol_of(list, at, len, p),
-        len + 1,
-        j,
-        1,
-        1,
-    );
+    let p = numbers::greater(left, depth_in(frames, top));
+    let node = fields::Node {
+        symbol: symbol_of(rest, skip, p),
+        depth: skip + rest.len() + 1,
+        first: j,
+        names: 1,
+        nodes: 1,
+    };
+    put_back(room, count, node);
     Passed {
         top,
         count: count + 1,
@@ -125,39 +134,30 @@ fn put_leaf(
 
 // The node of the top frame, which begins with name j.
 fn close_node(
-    list: &[u8],
-    at: usize,
-    len: usize,
+    rest: &[u8],
+    skip: usize,
     j: usize,
     left: usize,
-    depths: &[u8],
-    ends: &[u16],
-    marks: &[u16],
+    frames: &[u16],
     p: Passed,
-    places: usize,
     room: &mut [u8],
 ) -> Passed
-    requires { ⌜ NameAt (now list) at len j left (now depths) (now ends) (now marks) ⌝ }
-    requires { ⌜ Closing (now list) j left (now depths) (now ends) (now marks) (p .top) (p .count) (p .end) (p .mark) places (now room) ⌝ }
-    requires { ⌜ left < getD (now depths) (p .top) 0 ⌝ }
-    ensures { λ r. ⌜ Closed (now (list .entry)) j left (now (depths .entry)) (now (ends .entry)) (now (marks .entry)) (p .top) (r .top) (r .count) (r .end) (r .mark) places (now (room .exit)) ⌝ }
+    requires { ⌜ NodeAsk (now rest) skip j left (now frames) p (now room) ⌝ }
+    ensures { λ r. ⌜ NodePut (now (rest .entry)) skip j left (now (frames .entry)) p (now (room .entry)) r (now (room .exit)) ⌝ }
 {
     let top = p.top;
     let count = p.count;
-    let depth = numbers::wide(depths[top]) - 1;
-    let end = numbers::wide16(ends[top]);
-    let mark = numbers::wide16(marks[top]);
-    let q = numbers::greater(left, numbers::wide(depths[top - 1]));
-    put_back(
-        room,
-        places,
-        count,
-        symbol_of(list, at, len, q),
-        depth,
-        j,
-        end - j,
-        count - mark + 1,
-    );
+    let end = end_in(frames, top);
+    let mark = mark_in(frames, top);
+    let q = numbers::greater(left, depth_in(frames, top - 1));
+    let node = fields::Node {
+        symbol: symbol_of(rest, skip, q),
+        depth: depth_in(frames, top) - 1,
+        first: j,
+        names: end - j,
+        nodes: count - mark + 1,
+    };
+    put_back(room, count, node);
     Passed {
         top: top - 1,
         count: count + 1,
@@ -168,91 +168,48 @@ fn close_node(
 
 // The leaf of name j, and in front of it each node that begins with j: those of the frames that are deeper than `left`.
 fn write_name(
-    list: &[u8],
-    at: usize,
-    len: usize,
+    rest: &[u8],
+    skip: usize,
     j: usize,
     left: usize,
-    depths: &[u8],
-    ends: &[u16],
-    marks: &[u16],
-    first: usize,
+    frames: &[u16],
+    top: usize,
     count: usize,
-    places: usize,
     room: &mut [u8],
 ) -> Passed
-    requires { ⌜ NameAt (now list) at len j left (now depths) (now ends) (now marks) ⌝ }
-    requires { ⌜ Asked (now list) j (now depths) (now ends) (now marks) first count places (now room) ⌝ }
-    ensures { λ r. ⌜ Shut (now (list .entry)) j left (now (depths .entry)) (now (ends .entry)) (now (marks .entry)) (r .top) (r .count) (r .end) (r .mark) places (now (room .exit)) ⌝ }
+    requires { ⌜ NameAsk (now rest) skip j left (now frames) top count (now room) ⌝ }
+    ensures { λ r. ⌜ NamePut (now (rest .entry)) skip j left (now (frames .entry)) top count (now (room .entry)) r (now (room .exit)) ⌝ }
 {
-    let mut p = put_leaf(
-        list,
-        at,
-        len,
-        j,
-        left,
-        depths,
-        ends,
-        marks,
-        first,
-        count,
-        places,
-        room,
-    );
-    let mut top = p.top;
-    while left < numbers::wide(depths[top]) {
-        p = close_node(list, at, len, j, left, depths, ends, marks, p, places, room);
-        top = p.top;
+    let mut p = put_leaf(rest, skip, j, left, frames, top, count, room);
+    let mut frame = top;
+    while left < depth_in(frames, frame) {
+        p = close_node(rest, skip, j, left, frames, p, room);
+        frame = p.top;
     }
     p
 }
 
-// The node table, where the room has a place for each node; and the number of nodes.
-pub fn write_nodes(
-    list: &[u8],
-    n: usize,
-    lens: &[u8],
-    steps: &[u8],
-    places: usize,
-    room: &mut [u8],
-) -> usize
-    requires { ⌜ Ready (now list) n (now lens) (now steps) ⌝ }
-    requires { ⌜ length (now room) ≡ 10 * places ⌝ }
-    ensures { λ r. ⌜ NodesPut (now (list .entry)) (now (room .exit)) places r ⌝ }
+// The node table, where the room is as long; and the number of nodes.
+pub fn write_nodes(list: &[u8], n: usize, lens: &[u8], shares: &[u8], room: &mut [u8]) -> usize
+    requires { ⌜ Ready (now list) n (now lens) (now shares) ⌝ }
+    ensures { λ r. ⌜ NodesPut (now (list .entry)) (now (room .entry)) (now (room .exit)) r ⌝ }
 {
-    let mut depths = [0u8; 203];
-    let mut ends = [0u16; 203];
-    let mut marks = [0u16; 203];
+    let mut frames = [0u16; FRAME * FRAMES];
     let mut top: usize = 0;
     let mut count: usize = 0;
-    let mut at = list.len();
+    let mut end = list.len();
     let mut j = n;
     while 0 < j {
         j -= 1;
-        let len = numbers::wide(lens[j]);
-        at = at - 1 - len;
-        let left = left_of(steps, j);
-        let p = write_name(
-            list,
-            at,
-            len,
-            j,
-            left,
-            &depths,
-            &ends,
-            &marks,
-            top,
-            count,
-            places,
-            room,
-        );
+        let left = left_of(shares, j);
+        let from = end - numbers::wide(lens[j]);
+        let p = write_name(&list[from..end], 0, j, left, &frames, top, count, room);
+        end = from - 1;
         top = p.top;
         count = p.count;
-        if numbers::wide(depths[top]) < left {
+        if depth_in(&frames, top) < left {
+            push_frame(&mut frames, left, p);
             top += 1;
-            depths[top] = left as u8;
-            ends[top] = p.end as u16;
-            marks[top] = p.mark as u16;
         }
     }
     count
@@ -272,17 +229,17 @@ fn close_frames(depths: &[u8], left: usize, top: usize) -> usize
 
 // How many nodes the table has, from what each name shares with the one before it alone: a leaf for each name, and a node for each
 // frame.
-pub fn count_nodes(n: usize, steps: &[u8]) -> usize
-    requires { ⌜ CountAsk n (now steps) ⌝ }
-    ensures { λ r. ⌜ NodeCount n (now (steps .entry)) r ⌝ }
+pub fn count_nodes(n: usize, shares: &[u8]) -> usize
+    requires { ⌜ CountAsk n (now shares) ⌝ }
+    ensures { λ r. ⌜ NodeCount n (now (shares .entry)) r ⌝ }
 {
-    let mut depths = [0u8; 203];
+    let mut depths = [0u8; FRAMES];
     let mut top: usize = 0;
     let mut count = n;
     let mut j = n;
     while 0 < j {
         j -= 1;
-        let left = left_of(steps, j);
+        let left = left_of(shares, j);
         top = close_frames(&depths, left, top);
         if numbers::wide(depths[top]) < left {
             top += 1;

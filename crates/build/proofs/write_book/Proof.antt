@@ -1,17 +1,9 @@
 -- `build::write_book` meets its contract: one law puts the four parts together.
 -- Assumes nothing.
-use Rattle.build.proofs.WholeBook.{book-lent, nodes-part}
+use Rattle.build.proofs.WholeBook.{book-lent}
 use borrow.Author.Needs.{needs}
 use Rattle.build.proofs.write_book.Statement.{statement}
 use Rattle.build.proofs.write_book.Tie as tie
-
-write-nodes-requires : tie.Need-write-nodes-requires
-write-nodes-requires c κs =
-    let start : tie.Start = c .before .before .before .before .before .before .before .before .before .before .before .before .before in (
-      search needs,
-      nodes-part (start .pre .0) (start .pre .1 .0) _ _ _ (start .pre .1 .1)
-          (c .before .before .before .before .before .before .before .write-entries .ensures) (c .before .before .before .write-table .ensures),
-    )
 
 returns : tie.Need-returns
 returns c =
@@ -37,7 +29,7 @@ write-book-spec =
     (λ c. search needs)
     (λ c. search needs)
     (λ c. search needs)
-    write-nodes-requires
+    (λ c κs. search needs)
     (λ c. search needs)
     (λ c. search needs)
     (λ c. search needs)

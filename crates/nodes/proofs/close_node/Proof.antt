@@ -1,36 +1,35 @@
 -- `nodes::close_node` meets its contract: the bounds and the record in front are laws of the open nodes.
 -- Assumes nothing.
-use Rattle.nodes.proofs.Writing.{closing-some, closing-end, closing-mark, closing-more}
+use Rattle.nodes.proofs.Writing.{node-some, node-end, node-mark, node-put}
 use borrow.Author.Needs.{needs}
 use Rattle.nodes.proofs.close_node.Statement.{statement}
 use Rattle.nodes.proofs.close_node.Tie as tie
 
 returns : tie.Need-returns
-returns c = search (closing-more (c .before .before .put-back .ensures))
+returns c =
+    let depth = c .before .before .before .before in
+    let greater = depth .before .before in
+    let mark = greater .before .before in
+    node-put (mark .before .before .before .before .before .pre) (c .before .before .put-back .ensures) _ _ (depth .depth-in2 .ensures) (mark .before .end-in .ensures)
+    (mark .mark-in .ensures) (greater .before .depth-in .ensures) (greater .greater .ensures) (depth .before .symbol-of .ensures)
 
 pub close-node-spec : {M : Type 1} → statement M
 close-node-spec =
     tie.close
     (tie.spec
-    (λ c. search needs)
     (λ c κs. search needs)
-    (λ c. search needs)
-    (λ c. search needs)
-    (λ c. search needs)
     (λ c κs. search needs)
-    (λ c. search needs)
-    (λ c. search needs)
-    (λ c κs. search needs)
-    (λ c. search closing-some)
-    (λ c. search needs)
+    (λ c. search node-some)
     (λ c κs. search needs)
     (λ c κs. search needs)
     (λ c κs. search needs)
-    (λ c. search closing-end)
-    (λ c. search closing-mark)
+    (λ c κs. search needs)
+    (λ c. search needs)
+    (λ c. search node-end)
+    (λ c. search node-mark)
     (λ c. search needs)
     (λ c κs. search needs)
-    (λ c. search closing-some)
+    (λ c. search node-some)
     (λ c. search needs)
     (λ c. search needs)
     returns)

@@ -7,10 +7,10 @@ use Rattle.nodes.proofs.count_nodes.Statement.{statement}
 use Rattle.nodes.proofs.count_nodes.Tie as tie
 
 abbrev Inv-loop : tie.InvT-loop
-Inv-loop n steps depths₀ top₀ count₀ j₀ depths top count j = Counting n steps depths top count j
+Inv-loop n shares depths₀ top₀ count₀ j₀ depths top count j = Counting n shares depths top count j
 
 abbrev μ-loop : tie.MeasureT-loop
-μ-loop n steps depths₀ top₀ count₀ j₀ depths top count j = j
+μ-loop n shares depths₀ top₀ count₀ j₀ depths top count j = j
 
 loop-again : tie.Need-loop-again Inv-loop μ-loop
 loop-again c =

@@ -1,6 +1,6 @@
 -- `nodes::put_leaf` meets its contract: one law says what the record in front leaves.
 -- Assumes nothing.
-use Rattle.nodes.proofs.Writing.{leaf-closing}
+use Rattle.nodes.proofs.Writing.{leaf-put}
 use borrow.Author.Needs.{needs}
 use Rattle.nodes.proofs.put_leaf.Statement.{statement}
 use Rattle.nodes.proofs.put_leaf.Tie as tie
@@ -9,13 +9,13 @@ pub put-leaf-spec : {M : Type 1} → statement M
 put-leaf-spec =
     tie.close
     (tie.spec
-    (λ c. search needs)
     (λ c κs. search needs)
     (λ c κs. search needs)
     (λ c κs. search needs)
     (λ c. search needs)
+    (λ c. search needs)
     (λ c κs. search needs)
     (λ c. search needs)
     (λ c. search needs)
     (λ c. search needs)
-    (λ c. search leaf-closing))
+    (λ c. search leaf-put))

@@ -3,27 +3,35 @@
 use native.Mathlib.Omega.{arith}
 use borrow.Author.Needs.{needs}
 use Rattle.nodes.specs.Writing.{Rowing}
-use Rattle.nodes.proofs.Writing.{rowing-start, rowing-back, rowing-back-name, rowing-narrow, rowing-name, rowing-ask, rowing-end, rowing-mark, rowing-slot, rowing-keep, rowing-push, rowing-all}
+use Rattle.nodes.proofs.Writing.{rowing-start, rowing-name-fits, rowing-back, rowing-within, rowing-name, rowing-room, rowing-keep, rowing-push, rowing-all}
 use Rattle.nodes.proofs.write_nodes.Statement.{statement}
 use Rattle.nodes.proofs.write_nodes.Tie as tie
 
 abbrev Inv-loop : tie.InvT-loop
-Inv-loop list n lens steps places room₀ depths₀ ends₀ marks₀ top₀ count₀ at₀ j₀ room depths ends marks top count at j =
-    Rowing list n depths ends marks places room top count at j
+Inv-loop list n lens shares room₀ frames₀ top₀ count₀ end₀ j₀ room frames top count end j = Rowing list n room₀ room frames top count end j
 
 abbrev μ-loop : tie.MeasureT-loop
-μ-loop list n lens steps places room₀ depths₀ ends₀ marks₀ top₀ count₀ at₀ j₀ room depths ends marks top count at j = j
+μ-loop list n lens shares room₀ frames₀ top₀ count₀ end₀ j₀ room frames top count end j = j
+
+push-frame-requires : tie.Need-push-frame-requires Inv-loop μ-loop
+push-frame-requires c κs =
+    let depth = c .before .before in
+    let name = depth .before .before .before .before in
+    let len = name .before .before .before .before in
+    let left = len .before .before in
+    let turn = left .before in
+    rowing-room (turn .before .before .before .before .before .before .pre) (turn .before .loop .inv) (turn .loop-test .taken) _ (len .wide .ensures .0)
+    _ (left .left-of .ensures .0) (left .left-of .ensures .1) (name .write-name .ensures) _ (depth .depth-in .ensures) (c .before .if1 .taken)
 
 loop-again : tie.Need-loop-again Inv-loop μ-loop
 loop-again c =
-    search (
-      rowing-push,
-      c .before .before .before .before .before .before .before .before .before .before .before .before .before .before .before .loop .inv,
-      c .before .before .before .before .before .before .before .before .before .before .before .before .before .before .before .before .before .before .before .before .pre .0,
-    )
+    let loop = c .before .before .before .before .before .before .before .before .before .before .before .before .before .before .before .before in
+    search (rowing-push (loop .before .before .before .before .before .pre) (loop .loop .inv))
 
 loop-again-2 : tie.Need-loop-again-2 Inv-loop μ-loop
-loop-again-2 c = search (rowing-keep, c .before .before .before .before .before .before .before .before .before .before .before .before .before .loop .inv)
+loop-again-2 c =
+    let loop = c .before .before .before .before .before .before .before .before .before .before .before .before .before in
+    search (rowing-keep (loop .before .before .before .before .before .pre) (loop .loop .inv))
 
 pub write-nodes-spec : {M : Type 1} → statement M
 write-nodes-spec =
@@ -33,26 +41,21 @@ write-nodes-spec =
     μ-loop
     (λ c. search rowing-start)
     (λ c. omega arith)
-    (λ c. omega arith)
-    (λ c κs. search needs)
-    (λ c. search rowing-back)
-    (λ c. search rowing-back-name)
     (λ c κs. omega arith)
+    (λ c. omega arith)
+    (λ c κs. search needs)
+    (λ c. search rowing-name-fits)
     (λ c. search needs)
     (λ c. search needs)
-    (λ c. search needs)
-    (λ c κs. (search rowing-name, search rowing-ask))
+    (λ c. search rowing-within)
+    (λ c. omega arith)
+    (λ c κs. search rowing-name)
+    (λ c. search rowing-back)
     (λ c. omega arith)
     (λ c κs. search needs)
     (λ c. omega arith)
-    (λ c. search rowing-narrow)
-    (λ c. search rowing-slot)
-    (λ c. search rowing-end)
-    (λ c. omega arith)
-    (λ c. search rowing-slot)
-    (λ c. search rowing-mark)
-    (λ c. omega arith)
-    (λ c. search rowing-slot)
+    push-frame-requires
+    (λ c. search needs)
     (λ c. omega arith)
     loop-again
     (λ c. omega arith)
