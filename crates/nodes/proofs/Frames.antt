@@ -9,7 +9,7 @@
 --     cur-close         the top frame is a whole node, with its record in front
 --     cur-push, cur-keep, cur-all    on to the name before, or to the whole table
 -- Assumes nothing.
-use Prim.Native.Nat.{ℕ, zero, suc, pred, _+_, _*_, _≤_, _<_, zero-le, min, _-_, max}
+use Prim.Native.Nat.{ℕ, zero, suc, pred, _+_, _*_, _/_, _%_, _≤_, _<_, zero-le, min, _-_, max}
 use native.Mathlib.Nat.{eq-or-lt-of-le, lt-irrefl, not-suc-le-zero}
 use native.Mathlib.Omega.{arith}
 use mathlib.Core.Path.{_≡_, refl, sym, ap, ap₂, _∙_, subst}
@@ -17,11 +17,15 @@ use mathlib.Core.Logic.{_⊎_, inl, inr}
 use mathlib.Core.List.{List, _++_, append-assoc, _∷_, [], append-nil}
 use lib.ListN.{length, getD, length-append, length-set, set}
 use lib.Seq.{getD-set-other, getD-set-same, length-sets, sets, take-length}
-use Rattle.words.specs.Words.{Rises, Words, at, nth, shared, span}
+use Rattle.words.specs.Rising.{Rises, span}
+use Rattle.words.specs.Words.{Words, at, nth, shared}
 use Rattle.words.proofs.Rising.{nth-less, nth-positive, span-length}
 use Rattle.words.proofs.Words.{between, less-parts, less-short, shared-at, shared-comm, shared-le, shared-self, shared-trans}
-use Rattle.format.specs.Nodes.{Node, deep, fork, leaf, nodeTable, rowTable, table}
-use Rattle.format.proofs.Groups.{Ranked, row-few, table-root}
+use Rattle.format.specs.Spans.{deep, rowTable, Ranked}
+use Rattle.format.specs.Nodes.{Node, fork, leaf, nodeTable, table}
+use Rattle.format.specs.Book.{number, numbers}
+use Rattle.format.proofs.Numbers.{two-bytes}
+use Rattle.format.proofs.Groups.{row-few, table-root}
 use Rattle.format.proofs.Spans.{ranked-rest, ranked-span, ranked-within, span-few, table-more, table-none, table-one, table-run}
 use Rattle.nodes.specs.Frames.{Cur, Framed, Open, depthIn, endIn, frameCount, frameSize, markIn, more, none, sharesAt, symbolOf, withFrame}
 
@@ -46,44 +50,64 @@ in-sets (v ∷ vs) l i (suc k) h g =
     ap (λ (a : ℕ). getD (sets (set l i v) (suc i) vs) a 0) z ∙ in-sets vs (set l i v) (suc i) k (omega arith) (omega (arith, length-set l i v))
 
 module _ (frames : List ℕ) (t d e m : ℕ) where
-  pub with-stored : set (set (set frames (frameSize * t) d) (frameSize * t + 1) e) (frameSize * t + 2) m ≡ withFrame frames t d e m
-  unfolding withFrame
+  -- the bytes of a frame
+  abbrev made : List ℕ
+  made = d ∷ e % 256 ∷ e / 256 % 256 ∷ m % 256 ∷ m / 256 % 256 ∷ []
+
+  with-made : sets frames (frameSize * t) made ≡ withFrame frames t d e m
+  unfolding withFrame numbers
+  with-made = refl
+
+  pub with-stored : set (set (set (set (set frames (frameSize * t) d) (frameSize * t + 1) (e % 256)) (frameSize * t + 2) (e / 256 % 256)) (frameSize * t + 3) (m % 256)) (frameSize * t + 4) (m / 256 % 256)
+      ≡ withFrame frames t d e m
+  unfolding withFrame numbers
   with-stored =
+      let o : ℕ = frameSize * t in
       let one : frameSize * t + 1 ≡ suc (frameSize * t) = omega arith in
       let two : frameSize * t + 2 ≡ suc (suc (frameSize * t)) = omega arith in
-      ap₂ (λ (a b : ℕ). set (set (set frames (frameSize * t) d) a e) b m) one two
+      let three : frameSize * t + 3 ≡ suc (suc (suc (frameSize * t))) = omega arith in
+      let four : frameSize * t + 4 ≡ suc (suc (suc (suc (frameSize * t)))) = omega arith in
+      rw (one, two, three, four) refl
 
   with-length : length (withFrame frames t d e m) ≡ length frames
-  unfolding withFrame
-  with-length = length-sets frames (frameSize * t) (d ∷ e ∷ m ∷ [])
+  with-length = ap length (sym with-made) ∙ length-sets frames (frameSize * t) made
 
   module _ (h : frameSize * suc t ≤ length frames) where
+    -- byte k of the frame
+    with-byte : (k : ℕ) → k < 5 → getD (withFrame frames t d e m) (frameSize * t + k) 0 ≡ getD made k 0
+    with-byte k l = ap (λ (s : List ℕ). getD s (frameSize * t + k) 0) (sym with-made) ∙ in-sets made frames (frameSize * t) k l (omega arith)
+
     pub with-depth : depthIn (withFrame frames t d e m) t ≡ d
-    unfolding withFrame
     with-depth =
         let z : frameSize * t ≡ frameSize * t + 0 = omega arith in
-        ap (λ (a : ℕ). getD (sets frames (frameSize * t) (d ∷ e ∷ m ∷ [])) a 0) z ∙ in-sets (d ∷ e ∷ m ∷ []) frames (frameSize * t) 0 (omega arith) (omega arith)
+        ap (λ (a : ℕ). getD (withFrame frames t d e m) a 0) z ∙ with-byte 0 (omega arith)
 
-    with-end : endIn (withFrame frames t d e m) t ≡ e
-    unfolding withFrame
-    with-end = in-sets (d ∷ e ∷ m ∷ []) frames (frameSize * t) 1 (omega arith) (omega arith)
+    with-end : e < 65536 → endIn (withFrame frames t d e m) t ≡ e
+    unfolding number
+    with-end small =
+        let z : frameSize * t + 1 + 1 ≡ frameSize * t + 2 = omega arith in
+        ap₂ (λ (a b : ℕ). a + 256 * b) (with-byte 1 (omega arith)) (ap (λ (a : ℕ). getD (withFrame frames t d e m) a 0) z ∙ with-byte 2 (omega arith)) ∙ two-bytes e small
 
-    with-mark : markIn (withFrame frames t d e m) t ≡ m
-    unfolding withFrame
-    with-mark = in-sets (d ∷ e ∷ m ∷ []) frames (frameSize * t) 2 (omega arith) (omega arith)
+    with-mark : m < 65536 → markIn (withFrame frames t d e m) t ≡ m
+    unfolding number
+    with-mark small =
+        let z : frameSize * t + 3 + 1 ≡ frameSize * t + 4 = omega arith in
+        ap₂ (λ (a b : ℕ). a + 256 * b) (with-byte 3 (omega arith)) (ap (λ (a : ℕ). getD (withFrame frames t d e m) a 0) z ∙ with-byte 4 (omega arith)) ∙ two-bytes m small
 
   module _ (i : ℕ) (h : i < t) where
+    byte-below : (a : ℕ) → a < frameSize * t → getD (withFrame frames t d e m) a 0 ≡ getD frames a 0
+    byte-below a l = ap (λ (s : List ℕ). getD s a 0) (sym with-made) ∙ before-sets made frames (frameSize * t) a l
+
     pub depth-below : depthIn (withFrame frames t d e m) i ≡ depthIn frames i
-    unfolding withFrame
-    depth-below = before-sets (d ∷ e ∷ m ∷ []) frames (frameSize * t) (frameSize * i) (omega arith)
+    depth-below = byte-below (frameSize * i) (omega arith)
 
     end-below : endIn (withFrame frames t d e m) i ≡ endIn frames i
-    unfolding withFrame
-    end-below = before-sets (d ∷ e ∷ m ∷ []) frames (frameSize * t) (frameSize * i + 1) (omega arith)
+    unfolding number
+    end-below = ap₂ (λ (a b : ℕ). a + 256 * b) (byte-below (frameSize * i + 1) (omega arith)) (byte-below (frameSize * i + 1 + 1) (omega arith))
 
     mark-below : markIn (withFrame frames t d e m) i ≡ markIn frames i
-    unfolding withFrame
-    mark-below = before-sets (d ∷ e ∷ m ∷ []) frames (frameSize * t) (frameSize * i + 2) (omega arith)
+    unfolding number
+    mark-below = ap₂ (λ (a b : ℕ). a + 256 * b) (byte-below (frameSize * i + 3) (omega arith)) (byte-below (frameSize * i + 3 + 1) (omega arith))
 
 pub framed-with : {frames : List ℕ} {t : ℕ} (d e m : ℕ) → Framed frames t → suc t < frameCount → Framed (withFrame frames (suc t) d e m) (suc t)
 framed-with {frames} {t} d e m f h = record {
@@ -288,9 +312,9 @@ module _ (ws : Words) (r : Rises ws) where
               eq5 x y z w = rw (x, y, z, w) refl
 
       -- on to the name before: a new frame, for a node that name j shares with it and with no frame yet
-      pub cur-push : 0 < j → left ≡ suc (sharesAt ws j) → depthIn frames top < left → frameSize * suc (suc top) ≤ length frames
+      pub cur-push : c < 65536 → mark < 65536 → 0 < j → left ≡ suc (sharesAt ws j) → depthIn frames top < left → frameSize * suc (suc top) ≤ length frames
           → Open ws (withFrame frames (suc top) left c mark) (pred j) (suc top) j done
-      cur-push h e l x =
+      cur-push cs ms h e l x =
           let d : ℕ = sharesAt ws j in
           let some : j < c = k .some in
           let within : c ≤ length ws = open-within (k .open-rows) in
@@ -304,7 +328,7 @@ module _ (ws : Words) (r : Rises ws) where
           ∙ ap (λ (i : List Node). nodeTable j (at (nth ws j) d) (span ws j c) ++ (i ++ k .rest)) (sym (table-none ws d c))
           ∙ join j c d c (k .rest) some (omega arith) within (ranked-within ws r d j c some within (omega (arith, beyond))) (λ m. omega (arith, k .below m)) (λ m. absurd (lt-irrefl c m)) in
           subst (Open ws (withFrame frames (suc top) left c mark) (pred j) (suc top) j) (sym whole)
-          (more (with-depth frames (suc top) left c mark x ∙ e) (with-end frames (suc top) left c mark x) (with-mark frames (suc top) left c mark x ∙ k .behind)
+          (more (with-depth frames (suc top) left c mark x ∙ e) (with-end frames (suc top) left c mark x cs) (with-mark frames (suc top) left c mark x ms ∙ k .behind)
           (omega (arith, depth-below frames (suc top) left c mark top (omega arith))) some within refl down
           (open-with (open-down j h (k .open-rows) some (omega arith)) (suc top) left c mark (omega arith)))
 

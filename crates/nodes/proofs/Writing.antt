@@ -217,7 +217,7 @@ module _ {s : Bytes} {n : ℕ} {lens shares : List ℕ} (a : Ready s n lens shar
   left-is : (j left : ℕ) → j < n → (j ≡ 0 → left ≡ 0) → (0 < j → left ≡ suc (getD shares j 0)) → left ≡ leftOf (words s) j
   left-is zero left h z l = z refl
   left-is (suc i) left h z l =
-      l (omega arith) ∙ ap suc (a .noted .shares i (omega (arith, a .total)) ∙ sym (shared-word plain plain-injective (getD (names s) i []) (getD (names s) (suc i) []))
+      l (omega arith) ∙ ap suc (a .noted .common i (omega (arith, a .total)) ∙ sym (shared-word plain plain-injective (getD (names s) i []) (getD (names s) (suc i) []))
       ∙ ap₂ shared (sym (ready-word a i)) (sym (ready-word a (suc i))))
 
   left-low : (j : ℕ) → j < n → leftOf (words s) j ≤ 200
@@ -353,7 +353,7 @@ module _ {s : Bytes} {n : ℕ} {lens shares : List ℕ} (a : Ready s n lens shar
             framed = framed-with left (p .end) (p .mark) (t .passing .framed) (omega arith);
             done = rowing-closing .done;
             written = rowing-closing .written;
-            rows = λ q. cur-push (words s) (ready-rises a) frames cur q (left-shares q) (omega arith) (omega (arith, k .framed .slots));
+            rows = λ q. cur-push (words s) (ready-rises a) frames cur (rowing-room x d g .end-fits) (rowing-room x d g .mark-fits) q (left-shares q) (omega arith) (omega (arith, k .framed .slots));
             all = λ q. absurd (lt-irrefl 0 (omega (arith, z q)));
           })
 

@@ -1,9 +1,9 @@
 -- The nodes that are open while the node table is written from its end. Going back over the names, the nodes that hold the name at
--- hand and are not yet written form a stack, deepest on top. A frame has three numbers: one more than the node's depth, where its
--- names end, and how many records stand behind its last one. Frames stand in one row of numbers and count from 1; number 0 is no node
--- and has depth 0.
+-- hand and are not yet written form a stack, deepest on top. A frame has three numbers: one more than the node's depth, in one byte,
+-- where its names end, and how many records stand behind its last one, in two each. Frames stand in one row of bytes and count from 1;
+-- number 0 is no node and has depth 0.
 --     sharesAt, leftOf          what a word shares with the one before it; the same shifted, 0 for the first word
---     frameSize, frameCount     how many numbers a frame has; for how many frames there is a place
+--     frameSize, frameCount     how many bytes a frame has; for how many frames there is a place
 --     depthIn, endIn, markIn    the numbers of frame t
 --     withFrame                 the row with frame t anew
 --     Framed                    a row of frames with one on top
@@ -17,9 +17,11 @@ use mathlib.Core.Path.{_≡_}
 use mathlib.Core.List.{List, [], _∷_, _++_}
 use lib.ListN.{length, getD, drop}
 use lib.Seq.{sets}
-use Rattle.words.specs.Words.{Bytes, Words, at, shared, nth, span}
-use Rattle.format.specs.Nodes.{Node, deep, nodeTable, rowTable}
-use Rattle.format.specs.Book.{nodePart, nodeSize}
+use Rattle.words.specs.Rising.{span}
+use Rattle.words.specs.Words.{Bytes, Words, at, shared, nth}
+use Rattle.format.specs.Spans.{deep, rowTable}
+use Rattle.format.specs.Nodes.{Node, nodeTable}
+use Rattle.format.specs.Book.{nodePart, nodeSize, number, numbers}
 
 abbrev pub sharesAt : Words → ℕ → ℕ
 sharesAt ws c = shared (nth ws (pred c)) (nth ws c)
@@ -36,23 +38,23 @@ symbolOf (suc p) w = at w p
 -- ---- the row of frames
 
 abbrev pub frameSize : ℕ
-frameSize = 3
+frameSize = 5
 
 -- more than there are depths
 abbrev pub frameCount : ℕ
 frameCount = 203
 
-abbrev pub depthIn : List ℕ → ℕ → ℕ
+abbrev pub depthIn : Bytes → ℕ → ℕ
 depthIn frames t = getD frames (frameSize * t) 0
 
-abbrev pub endIn : List ℕ → ℕ → ℕ
-endIn frames t = getD frames (frameSize * t + 1) 0
+abbrev pub endIn : Bytes → ℕ → ℕ
+endIn frames t = number frames (frameSize * t + 1)
 
-abbrev pub markIn : List ℕ → ℕ → ℕ
-markIn frames t = getD frames (frameSize * t + 2) 0
+abbrev pub markIn : Bytes → ℕ → ℕ
+markIn frames t = number frames (frameSize * t + 3)
 
-unfoldable pub withFrame : List ℕ → ℕ → ℕ → ℕ → ℕ → List ℕ
-withFrame frames t depth end mark = sets frames (frameSize * t) (depth ∷ end ∷ mark ∷ [])
+unfoldable pub withFrame : Bytes → ℕ → ℕ → ℕ → ℕ → Bytes
+withFrame frames t depth end mark = sets frames (frameSize * t) (depth ∷ numbers (end ∷ mark ∷ []))
 
 pub record Framed (frames : List ℕ) (top : ℕ) : Type 0 where
   pub sentinel : depthIn frames 0 ≡ 0

@@ -12,7 +12,8 @@ use Prim.Native.Nat.{ℕ, suc, pred, _+_, _*_, _≤_, _<_}
 use mathlib.Core.Path.{_≡_}
 use mathlib.Core.List.{List, _∷_}
 use lib.ListN.{length, drop}
-use Rattle.words.specs.Words.{Bytes, Rises, Words, nth, plain, word}
+use Rattle.words.specs.Rising.{Rises}
+use Rattle.words.specs.Words.{Bytes, Words, nth, plain, word}
 use Rattle.format.specs.Nodes.{Node, table}
 use Rattle.format.specs.Book.{nodePart, nodeSize}
 use Rattle.records.specs.Lists.{startOf, words}
@@ -99,7 +100,7 @@ pub record NodePut (rest : Bytes) (skip j left : ℕ) (frames : List ℕ) (p : P
 pub record PushAsk (frames : List ℕ) (depth : ℕ) (p : Passed) : Type 0 where
   pub slots : length frames ≡ frameSize * frameCount
   pub slot : p .top + 1 < frameCount
-  pub depth-fits : depth < 65536
+  pub depth-fits : depth < 256
   pub end-fits : p .end < 65536
   pub mark-fits : p .mark < 65536
 

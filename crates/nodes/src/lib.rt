@@ -13,8 +13,9 @@ ghost use Rattle.nodes.specs.Frames.{depthIn, endIn, frameCount, frameSi
 ghost use Rattle.nodes.specs.Counting.{CountAsk, NodeCount, StaysOpen};
 ghost use Rattle.nodes.specs.Writing.{LeafPut, NameAsk, NamePut, NodeAsk, NodePut, NodesPut, PushAsk, PutBack};
 
-// How many numbers a frame has: one more than its node's depth, where its names end, how many records stand behind it.
-const FRAME: usize = 3;
+// How many bytes a frame has: one more than its node's depth, in one; where its names end and how many records stand behind it, in two
+// each.
+const FRAME: usize = 5;
 
 // For how many frames there is a place.
 const FRAMES: usize = 203;
@@ -69,36 +70,38 @@ pub struct Passed {
 }
 
 // The numbers of frame t.
-fn depth_in(frames: &[u16], t: usize) -> usize
+fn depth_in(frames: &[u8], t: usize) -> usize
     requires { ⌜ (length (now frames) ≡ frameSize * frameCount) × (t < frameCount) ⌝ }
     ensures { λ r. ⌜ r ≡ depthIn (now (frames .entry)) t ⌝ }
 {
-    numbers::wide16(frames[FRAME * t])
+    numbers::wide(frames[FRAME * t])
 }
 
-fn end_in(frames: &[u16], t: usize) -> usize
+fn end_in(frames: &[u8], t: usize) -> usize
     requires { ⌜ (length (now frames) ≡ frameSize * frameCount) × (t < frameCount) ⌝ }
     ensures { λ r. ⌜ r ≡ endIn (now (frames .entry)) t ⌝ }
 {
-    numbers::wide16(frames[FRAME * t + 1])
+    numbers::number_at(frames, FRAME * t + 1)
 }
 
-fn mark_in(frames: &[u16], t: usize) -> usize
+fn mark_in(frames: &[u8], t: usize) -> usize
     requires { ⌜ (length (now frames) ≡ frameSize * frameCount) × (t < frameCount) ⌝ }
     ensures { λ r. ⌜ r ≡ markIn (now (frames .entry)) t ⌝ }
 {
-    numbers::wide16(frames[FRAME * t + 2])
+    numbers::number_at(frames, FRAME * t + 3)
 }
 
 // A frame on top of those that are left: of a node of that shifted depth, whose first node so far is the one that begins with the name.
-fn push_frame(frames: &mut [u16], depth: usize, p: Passed)
+fn push_frame(frames: &mut [u8], depth: usize, p: Passed)
     requires { ⌜ PushAsk (now frames) depth p ⌝ }
     ensures { λ _. ⌜ now (frames .exit) ≡ withFrame (now (frames .entry)) (p .top + 1) depth (p .end) (p .mark) ⌝ }
 {
     let at = FRAME * (p.top + 1);
-    frames[at] = depth as u16;
-    frames[at + 1] = p.end as u16;
-    frames[at + 2] = p.mark as u16;
+    frames[at] = depth as u8;
+    frames[at + 1] = (p.end % 256) as u8;
+    frames[at + 2] = (p.end / 256 % 256) as u8;
+    frames[at + 3] = (p.mark % 256) as u8;
+    frames[at + 4] = (p.mark / 256 % 256) as u8;
 }
 
 // The leaf of name j.
@@ -107,7 +110,7 @@ fn put_leaf(
     skip: usize,
     j: usize,
     left: usize,
-    frames: &[u16],
+    frames: &[u8],
     top: usize,
     count: usize,
     room: &mut [u8],
@@ -138,7 +141,7 @@ fn close_node(
     skip: usize,
     j: usize,
     left: usize,
-    frames: &[u16],
+    frames: &[u8],
     p: Passed,
     room: &mut [u8],
 ) -> Passed
@@ -172,7 +175,7 @@ fn write_name(
     skip: usize,
     j: usize,
     left: usize,
-    frames: &[u16],
+    frames: &[u8],
     top: usize,
     count: usize,
     room: &mut [u8],
@@ -194,7 +197,7 @@ pub fn write_nodes(list: &[u8], n: usize, lens: &[u8], shares: &[u8], room: &mut
     requires { ⌜ Ready (now list) n (now lens) (now shares) ⌝ }
     ensures { λ r. ⌜ NodesPut (now (list .entry)) (now (room .entry)) (now (room .exit)) r ⌝ }
 {
-    let mut frames = [0u16; FRAME * FRAMES];
+    let mut frames = [0u8; FRAME * FRAMES];
     let mut top: usize = 0;
     let mut count: usize = 0;
     let mut end = list.len();
