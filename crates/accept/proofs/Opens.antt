@@ -2,25 +2,26 @@
 --     parts-opened      bytes whose parts pass are a book: of the names and the block size that are read from them
 --     opened-parts      a book's parts pass
 -- Assumes nothing.
-use Prim.Native.Nat.{ℕ, _%_, _*_, _+_, _-_, _/_, _≤_}
+use Prim.Native.Nat.{ℕ, zero, suc, _*_, _+_, _-_, _<_, _≤_}
 use native.Mathlib.Omega.{arith}
 use mathlib.Core.Path.{_≡_, _∙_, ap, ap₂, refl, subst, sym}
 use mathlib.Core.List.{List, [], _++_, _∷_, map}
 use lib.ListN.{drop, getD, length, length-append, take, take-append-drop}
-use lib.Seq.{drop-append-le, drop-append-seam, drop-drop, drop-length, getD-drop, length-take-le, slice, take-at}
+use lib.Seq.{drop-append-le, drop-append-seam, drop-drop, getD-drop, length-take-le, slice, take-at, take-length}
 use Rattle.words.specs.Words.{Bytes, InBytes, plain, same, word}
 use Rattle.words.proofs.Words.{same-refl, same-true}
-use Rattle.format.specs.Book.{Book, blockPart, book, entryPart, mark, nodePart, number, numbers, opened, trailerSize, namesOf, wordsOf}
+use Rattle.format.specs.Spans.{wordsOf}
+use Rattle.format.specs.Book.{Book, blockPart, book, entryPart, mark, nodePart, number, numbers, opened, trailerSize, namesOf, told}
 use Rattle.format.specs.Nodes.{Node, table}
 use Rattle.format.proofs.Book.{Fits, blocksAt, book-length, book-opened, fits-parts, nodes-length, nodesAt, opened-book, parts-fits, read-field, records, trailerAt, trailerNumbers}
 use Rattle.format.proofs.Book as layout
 use Rattle.format.proofs.Records.{sound-few, sound-rising}
-use Rattle.format.proofs.Numbers.{high-byte, low-byte}
+use Rattle.format.proofs.Numbers.{numbers-are}
+use Rattle.trailer.specs.Trailer.{Trail}
 use Rattle.streams.specs.Runs.{Has}
-use Rattle.streams.proofs.Fronts.{two}
 use Rattle.streams.proofs.Walks.{ends-at, has-length, has-names, has-sound}
 use Rattle.inspect.specs.Check.{isTable}
-use Rattle.accept.specs.Parts.{Parts, Trail, told, toldNames}
+use Rattle.accept.specs.Parts.{Parts}
 
 slice-drop : (b : Bytes) (u e : ℕ) → u ≤ e → e ≤ length b → drop u b ≡ slice u e b ++ drop e b
 slice-drop b u e h k =
@@ -28,39 +29,30 @@ slice-drop b u e h k =
 
 -- ---- the trailer's bytes out of its numbers
 
-module _ (b : Bytes) (bytes : InBytes b) where
-  number-drop : (o p v : ℕ) → o + 2 ≤ length b → p ≡ o + 2 → number b o ≡ v → drop o b ≡ v % 256 ∷ v / 256 % 256 ∷ drop p b
-  unfolding number
-  number-drop o p v h e q =
-      two b o h
-      ∙ ap₂ (λ (n m : ℕ). n ∷ m ∷ drop (o + 2) b) (low-byte (getD b o 0) (getD b (o + 1) 0) v (bytes o) q)
-      (high-byte (getD b o 0) (getD b (o + 1) 0) v (bytes o) (bytes (o + 1)) q)
-      ∙ ap (λ (n : ℕ). v % 256 ∷ v / 256 % 256 ∷ drop n b) (sym e)
-
-  -- v before what stands behind it
-  before : (o p v : ℕ) (t : Bytes) → o + 2 ≤ length b → p ≡ o + 2 → number b o ≡ v → drop p b ≡ t → drop o b ≡ v % 256 ∷ v / 256 % 256 ∷ t
-  before o p v t h e q f = number-drop o p v h e q ∙ ap (λ (y : Bytes). v % 256 ∷ v / 256 % 256 ∷ y) f
-
-  trailer-is : (n k s u m t : ℕ) → Trail b → toldNames b ≡ n → told b 2 ≡ k → told b 4 ≡ s → told b 6 ≡ u → told b 8 ≡ m → told b 10 ≡ t
-      → drop (length b - trailerSize) b ≡ numbers (n ∷ k ∷ s ∷ u ∷ m ∷ t ∷ []) ++ mark
-  unfolding numbers
-  trailer-is n k s u m t h en ek es eu em et =
-      let o : ℕ = length b - trailerSize in
-      let f : o + 16 ≡ length b = omega (arith, h .long) in
-      before o (o + 2) n _ (omega arith) refl en
-      (before (o + 2) (o + 4) k _ (omega arith) (omega arith) ek
-      (before (o + 4) (o + 6) s _ (omega arith) (omega arith) es
-      (before (o + 6) (o + 8) u _ (omega arith) (omega arith) eu
-      (before (o + 8) (o + 10) m _ (omega arith) (omega arith) em
-      (before (o + 10) (o + 12) t _ (omega arith) (omega arith) et
-      (before (o + 12) (o + 14) 0x424E _ (omega arith) (omega arith) (h .front)
-      (before (o + 14) (o + 16) 0x314B _ (omega arith) (omega arith) (h .back) (ap (λ (x : ℕ). drop x b) f ∙ drop-length b))))))))
+-- the mark is two numbers more
+trailer-is : (b : Bytes) → InBytes b → (n k s u m t : ℕ) → Trail b → told b 0 ≡ n → told b 1 ≡ k → told b 2 ≡ s → told b 3 ≡ u → told b 4 ≡ m → told b 5 ≡ t
+    → drop (length b - trailerSize) b ≡ numbers (n ∷ k ∷ s ∷ u ∷ m ∷ t ∷ []) ++ mark
+unfolding numbers
+trailer-is b bytes n k s u m t h en ek es eu em et =
+    ap (drop (length b - trailerSize)) (sym (take-length b))
+    ∙ numbers-are b bytes (n ∷ k ∷ s ∷ u ∷ m ∷ t ∷ 0x424E ∷ 0x314B ∷ []) (length b - trailerSize) (length b) (omega (arith, h .long)) (omega arith) at
+  where
+    at : (j : ℕ) → j < 8 → told b j ≡ getD (n ∷ k ∷ s ∷ u ∷ m ∷ t ∷ 0x424E ∷ 0x314B ∷ []) j 0
+    at zero l = en
+    at (suc zero) l = ek
+    at (suc (suc zero)) l = es
+    at (suc (suc (suc zero))) l = eu
+    at (suc (suc (suc (suc zero)))) l = em
+    at (suc (suc (suc (suc (suc zero))))) l = et
+    at (suc (suc (suc (suc (suc (suc zero)))))) l = h .front
+    at (suc (suc (suc (suc (suc (suc (suc zero))))))) l = h .back
+    at (suc (suc (suc (suc (suc (suc (suc (suc j)))))))) l = absurd (omega arith)
 
 -- ---- parts that pass
 
 module _ (b : Bytes) (bytes : InBytes b) (p : Parts b) where
   abbrev k : ℕ
-  k = told b 2
+  k = told b 1
 
   abbrev xs : List Bytes
   xs = p .entries .names
@@ -68,31 +60,31 @@ module _ (b : Bytes) (bytes : InBytes b) (p : Parts b) where
   abbrev rs : List Node
   rs = table (map (word plain) xs)
 
-  abbrev inside : told b 4 ≤ length b
+  abbrev inside : told b 2 ≤ length b
   inside = omega (arith, p .trail .total, p .trail .order)
 
   names-here : namesOf b ≡ xs
-  names-here = has-names b k (told b 4) (told b 6) (toldNames b) inside (p .entries) (p .trail .low) refl
+  names-here = has-names b k (told b 2) (told b 3) (told b 0) inside (p .entries) (p .trail .low) refl
 
-  nodes-are : nodePart rs ≡ slice (told b 6) (length b - trailerSize) b
+  nodes-are : nodePart rs ≡ slice (told b 3) (length b - trailerSize) b
   unfolding isTable wordsOf
   nodes-are =
       ap (λ (ys : List Bytes). nodePart (table (map (word plain) ys))) (sym names-here)
-      ∙ same-true (nodePart (table (wordsOf plain b))) (slice (told b 6) (length b - trailerSize) b) (p .nodes)
+      ∙ same-true (nodePart (table (wordsOf plain b))) (slice (told b 3) (length b - trailerSize) b) (p .nodes)
 
-  table-is : drop (told b 6) b ≡ nodePart rs ++ drop (length b - trailerSize) b
+  table-is : drop (told b 3) b ≡ nodePart rs ++ drop (length b - trailerSize) b
   table-is =
-      slice-drop b (told b 6) (length b - trailerSize) (omega (arith, p .trail .total)) (omega arith)
+      slice-drop b (told b 3) (length b - trailerSize) (omega (arith, p .trail .total)) (omega arith)
       ∙ ap (λ (y : Bytes). y ++ drop (length b - trailerSize) b) (sym nodes-are)
 
   pub parts-book : book plain k xs ≡ b
   unfolding blockPart
   parts-book =
-      let l1 : blocksAt plain k xs ≡ told b 4 = has-length b k (told b 4) (told b 6) (toldNames b) inside (p .entries) in
-      let l2 : told b 4 + length (blockPart k xs) ≡ told b 6 =
-      ends-at b (blockPart k xs) (told b 4) (told b 6) inside (omega (arith, p .trail .total)) (p .entries .rest .places) in
-      let l3 : told b 6 + length (nodePart rs) ≡ length b - trailerSize =
-      ends-at b (nodePart rs) (told b 6) (length b - trailerSize) (omega (arith, p .trail .total)) (omega arith) table-is in
+      let l1 : blocksAt plain k xs ≡ told b 2 = has-length b k (told b 2) (told b 3) (told b 0) inside (p .entries) in
+      let l2 : told b 2 + length (blockPart k xs) ≡ told b 3 =
+      ends-at b (blockPart k xs) (told b 2) (told b 3) inside (omega (arith, p .trail .total)) (p .entries .rest .places) in
+      let l3 : told b 3 + length (nodePart rs) ≡ length b - trailerSize =
+      ends-at b (nodePart rs) (told b 3) (length b - trailerSize) (omega (arith, p .trail .total)) (omega arith) table-is in
       let t : drop (length b - trailerSize) b ≡ numbers (trailerNumbers plain k xs) ++ mark =
       trailer-is b bytes (length xs) k (blocksAt plain k xs) (nodesAt plain k xs) (length rs) (trailerAt plain k xs + trailerSize) (p .trail)
       (sym (p .entries .count)) refl (sym l1) (omega arith) (omega (arith, nodes-length rs, p .trail .total))
@@ -106,7 +98,7 @@ module _ (b : Bytes) (bytes : InBytes b) (p : Parts b) where
       let f : Fits plain k xs = record {
         low = p .trail .low;
         high = p .trail .high;
-        sound = has-sound b k (told b 4) (told b 6) (toldNames b) inside (p .entries) (p .trail .few);
+        sound = has-sound b k (told b 2) (told b 3) (told b 0) inside (p .entries) (p .trail .few);
         short = omega (arith, ap length parts-book, p .trail .short);
       } in
       ap (opened plain) (sym parts-book) ∙ opened-book plain k xs (parts-fits plain k xs f) ∙ ap (Book k) (sym names-here)
@@ -153,17 +145,17 @@ module _ (k : ℕ) (xs : List Bytes) (f : Fits plain k xs) where
   at-end : length B - trailerSize ≡ trailerAt plain k xs
   at-end = omega (arith, book-length plain k xs)
 
-  -- the mark, number i of the bytes of the trailer on
-  marked : (i : ℕ) → told B i ≡ number end i
-  marked i = number-at B (length B - trailerSize) i ∙ ap (λ (s : Bytes). number s i) (ap (λ (x : ℕ). drop x B) at-end ∙ from-trailer)
+  -- number j of the trailer, the mark's two among them
+  marked : (j : ℕ) → told B j ≡ number end (2 * j)
+  marked j = number-at B (length B - trailerSize) (2 * j) ∙ ap (λ (s : Bytes). number s (2 * j)) (ap (λ (x : ℕ). drop x B) at-end ∙ from-trailer)
 
-  mark-front : told B 12 ≡ 0x424E
+  mark-front : told B 6 ≡ 0x424E
   unfolding number numbers
-  mark-front = marked 12
+  mark-front = marked 6
 
-  mark-back : told B 14 ≡ 0x314B
+  mark-back : told B 7 ≡ 0x314B
   unfolding number numbers
-  mark-back = marked 14
+  mark-back = marked 7
 
   here : Has B k (blocksAt plain k xs) (nodesAt plain k xs) (length xs) (blocksAt plain k xs) 0 []
   unfolding blockPart
@@ -180,12 +172,12 @@ module _ (k : ℕ) (xs : List Bytes) (f : Fits plain k xs) where
   pub book-passes : Parts B
   unfolding isTable wordsOf here
   book-passes =
-      let tn : toldNames B ≡ length xs = (let z : length B - trailerSize ≡ length B - trailerSize + 2 * 0 = omega arith in ap (number B) z) ∙ read-field plain k xs f 0 (omega arith) in
-      let tk : told B 2 ≡ k = read-field plain k xs f 1 (omega arith) in
-      let ts : told B 4 ≡ blocksAt plain k xs = read-field plain k xs f 2 (omega arith) in
-      let tu : told B 6 ≡ nodesAt plain k xs = read-field plain k xs f 3 (omega arith) in
-      let tm : told B 8 ≡ length (records plain k xs) = read-field plain k xs f 4 (omega arith) in
-      let tt : told B 10 ≡ trailerAt plain k xs + trailerSize = read-field plain k xs f 5 (omega arith) in
+      let tn : told B 0 ≡ length xs = read-field plain k xs f 0 (omega arith) in
+      let tk : told B 1 ≡ k = read-field plain k xs f 1 (omega arith) in
+      let ts : told B 2 ≡ blocksAt plain k xs = read-field plain k xs f 2 (omega arith) in
+      let tu : told B 3 ≡ nodesAt plain k xs = read-field plain k xs f 3 (omega arith) in
+      let tm : told B 4 ≡ length (records plain k xs) = read-field plain k xs f 4 (omega arith) in
+      let tt : told B 5 ≡ trailerAt plain k xs + trailerSize = read-field plain k xs f 5 (omega arith) in
       let l : length B ≡ trailerAt plain k xs + trailerSize = book-length plain k xs in
       let nm : namesOf B ≡ xs = has-names B k (blocksAt plain k xs) (nodesAt plain k xs) (length xs) (omega arith) here (f .low) ts in
       record {
@@ -201,7 +193,7 @@ module _ (k : ℕ) (xs : List Bytes) (f : Fits plain k xs) where
           front = mark-front;
           back = mark-back;
         };
-        entries = has-at B k (told B 2) (blocksAt plain k xs) (told B 4) (nodesAt plain k xs) (told B 6) (length xs) (toldNames B) (sym tk) (sym ts) (sym tu) (sym tn) here;
+        entries = has-at B k (told B 1) (blocksAt plain k xs) (told B 2) (nodesAt plain k xs) (told B 3) (length xs) (told B 0) (sym tk) (sym ts) (sym tu) (sym tn) here;
         nodes =
             ap₂ (λ (y z : Bytes). same y z) (ap (λ (ys : List Bytes). nodePart (table (map (word plain) ys))) nm)
             (ap (λ (x : ℕ). slice x (length B - trailerSize) B) tu

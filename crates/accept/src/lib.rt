@@ -2,81 +2,53 @@
 ghost use mathlib.Core.Path.{_≡_};
 ghost use Rattle.words.specs.Words.{plain};
 ghost use Rattle.format.specs.Book.{opened};
-ghost use Rattle.format.specs.Outcomes.{checkOf};
-ghost use Rattle.accept.specs.Parts.{Trail, TrailSays, checkedNumbers};
+ghost use Rattle.trailer.specs.Trailer.{Trail};
+ghost use Rattle.accept.specs.Parts.{PartsSay, checkOn};
 
-// How many names a book has, in blocks of how many; or that the bytes are no book.
+// A book, and what its trailer tells, which no one need read again; or that the bytes are no book.
 pub enum Checked {
-    Sound(usize, usize),
+    Sound(trailer::Trailer),
     Unsound,
 }
 
-// Whether the trailer's numbers agree with each other and with the length, and the mark stands behind them.
-fn is_trailer(book: &[u8]) -> bool
-    ensures { λ r. ⌜ TrailSays (now (book .entry)) r ⌝ }
-{
-    if book.len() < 16 {
-        return false;
-    }
-    if 65535 < book.len() {
-        return false;
-    }
-    let at = book.len() - 16;
-    if 2000 < numbers::number_at(book, at) {
-        return false;
-    }
-    let k = numbers::number_at(book, at + 2);
-    if k == 0 {
-        return false;
-    }
-    if 64 < k {
-        return false;
-    }
-    let u = numbers::number_at(book, at + 6);
-    if u < numbers::number_at(book, at + 4) {
-        return false;
-    }
-    let m = numbers::number_at(book, at + 8);
-    if u + 10 * m + 16 != book.len() {
-        return false;
-    }
-    if numbers::number_at(book, at + 10) != book.len() {
-        return false;
-    }
-    if numbers::number_at(book, at + 12) != 0x424E {
-        return false;
-    }
-    if numbers::number_at(book, at + 14) != 0x314B {
-        return false;
-    }
-    true
-}
-
 // Whether bytes whose trailer passes are a book: the entries with their block table, then the node table.
-fn check_parts(book: &[u8]) -> Checked
+fn check_parts(book: &[u8]) -> bool
     requires { ⌜ Trail (now book) ⌝ }
-    ensures { λ r. ⌜ checkedNumbers r ≡ checkOf (opened plain (now (book .entry))) ⌝ }
+    ensures { λ r. ⌜ PartsSay (now (book .entry)) r ⌝ }
 {
-    let at = book.len() - 16;
-    let n = numbers::number_at(book, at);
-    let k = numbers::number_at(book, at + 2);
-    let s = numbers::number_at(book, at + 4);
-    let u = numbers::number_at(book, at + 6);
-    if !entries::check_entries(book, n, k, s, u) {
-        return Checked::Unsound;
+    let t = trailer::read(book);
+    let n = numbers::wide16(t.names);
+    let nodes_at = numbers::wide16(t.nodes);
+    if !entries::check_entries(
+        book,
+        n,
+        numbers::wide16(t.block),
+        numbers::wide16(t.blocks),
+        nodes_at,
+    ) {
+        return false;
     }
-    if !inspect::check_table(book, u, at, n) {
-        return Checked::Unsound;
-    }
-    Checked::Sound(n, k)
+    inspect::check_table(book, nodes_at, book.len() - trailer::SIZE, n)
 }
 
-// Whether bytes are a book, and of how many names in blocks of how many.
-pub fn check_book(book: &[u8]) -> Checked
-    ensures { λ r. ⌜ checkedNumbers r ≡ checkOf (opened plain (now (book .entry))) ⌝ }
+// Whether all parts of a book stand. It hands no number on: what it would keep of the trailer while it walks would lie below every level
+// of the node table.
+pub fn is_book(book: &[u8]) -> bool
+    ensures { λ r. ⌜ PartsSay (now (book .entry)) r ⌝ }
 {
-    if is_trailer(book) {
+    if trailer::is_trailer(book) {
         check_parts(book)
+    } else {
+        false
+    }
+}
+
+// Whether bytes are a book; then its trailer is read once for all who go on.
+pub fn check_book(book: &[u8]) -> Checked
+    ensures { λ r. ⌜ r ≡ checkOn (now (book .entry)) (opened plain (now (book .entry))) ⌝ }
+{
+    if is_book(book) {
+        Checked::Sound(trailer::read(book))
     } else {
         Checked::Unsound
     }

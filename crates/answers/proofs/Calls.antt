@@ -27,33 +27,33 @@ use Rattle.answers.specs.Questions.{Pair, answer}
 -- ---- what the numbers count
 
 -- where the code is 0, the number counts bytes that stand in the room
-abbrev Counted : Written → Type 0
-Counted w = w .answer .code ≡ 0 → w .answer .first ≤ length (w .room)
+abbrev FirstWithin : Written → Type 0
+FirstWithin w = w .answer .code ≡ 0 → w .answer .first ≤ length (w .room)
 
 -- the number counts bytes that stand in the room
-abbrev Within : Written → Type 0
-Within w = w .answer .first ≤ length (w .room)
+abbrev CountWithin : Written → Type 0
+CountWithin w = w .answer .first ≤ length (w .room)
 
-write-within : (room out : Bytes) → Within (write out room)
-write-within room out = picked Within (leb (length out) (length room)) (simp length-append (omega arith)) (omega arith)
+write-within : (room out : Bytes) → CountWithin (write out room)
+write-within room out = picked CountWithin (leb (length out) (length room)) (simp length-append (omega arith)) (omega arith)
 
 module _ (ρ : Rule) (list : Bytes) (k : ℕ) (room : Bytes) where
-  from-within : (r : Reading) → readList ρ list ≡ r → Counted (builtFrom ρ k room r)
+  from-within : (r : Reading) → readList ρ list ≡ r → FirstWithin (builtFrom ρ k room r)
   unfolding builtFrom
   from-within (Refused code i) p = λ e. absurd (omega (arith, read-refused ρ list code i p))
-  from-within (Names xs) p = picked Counted (leb (length (book ρ k xs)) longestBook) (λ e. write-within room (book ρ k xs)) (λ e. absurd (omega arith))
+  from-within (Names xs) p = picked FirstWithin (leb (length (book ρ k xs)) longestBook) (λ e. write-within room (book ρ k xs)) (λ e. absurd (omega arith))
 
-  pub build-within : (w : Written) → w ≡ build ρ list k room → Counted w
+  pub build-within : (w : Written) → w ≡ build ρ list k room → FirstWithin w
   unfolding build
-  build-within w p = rw p (picked Counted (goodBlock k) (from-within (readList ρ list) refl) (λ e. absurd (omega arith)))
+  build-within w p = rw p (picked FirstWithin (goodBlock k) (from-within (readList ρ list) refl) (λ e. absurd (omega arith)))
 
 module _ (ρ : Rule) (s : Bytes) (i : ℕ) (room : Bytes) where
-  read-of-within : (o : Opened) → Within (readBackOf i room o)
+  read-of-within : (o : Opened) → CountWithin (readBackOf i room o)
   unfolding readBackOf
   read-of-within NoBook = omega arith
-  read-of-within (Book k xs) = picked Within (ltb i (length xs)) (write-within room (getD xs i [])) (omega arith)
+  read-of-within (Book k xs) = picked CountWithin (ltb i (length xs)) (write-within room (getD xs i [])) (omega arith)
 
-  pub read-within : (w : Written) → w ≡ readBack ρ s i room → Within w
+  pub read-within : (w : Written) → w ≡ readBack ρ s i room → CountWithin w
   unfolding readBack
   read-within w p = rw p (read-of-within (opened ρ s))
 

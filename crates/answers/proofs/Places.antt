@@ -15,7 +15,8 @@ use mathlib.Core.List.{List, [], _∷_, _++_}
 use lib.Dec.{leb, ltb, leb·suc-suc}
 use lib.ListN.{length, getD}
 use borrow.Author.Tests.{lt-ltb, le-ltb, ltb-true, ltb-false, le-leb, lt-leb}
-use Rattle.words.specs.Words.{All, Positive, Rises, Words, at, begins, both, cons, less, pick, rise, same, shared}
+use Rattle.words.specs.Rising.{All, Positive, Rises, cons, rise}
+use Rattle.words.specs.Words.{Words, at, begins, both, less, pick, same, shared}
 use Rattle.words.proofs.Lists.{all-map}
 use Rattle.words.proofs.Rising.{Above}
 use Rattle.words.proofs.Words.{Ordered, begins-below, begins-not-less, equal, false≠true, greater, less-asym, less-irrefl, less-trans, lesser, ordered, same-refl, same-true, short-no}

@@ -68,7 +68,8 @@ ask zero q ws = (0, 0)
 ask (suc zero) q ws = exact q ws
 ask (suc (suc zero)) q ws = (place q ws, 0)
 ask (suc (suc (suc zero))) q ws = range q ws
-ask (suc (suc (suc (suc more)))) q ws = nearest q ws
+ask (suc (suc (suc (suc zero)))) q ws = nearest q ws
+ask (suc (suc (suc (suc (suc none))))) q ws = (0, 0)
 
 unfoldable pub answer : Rule → ℕ → Bytes → List Bytes → Pair
 answer ρ kind q xs = ask kind (word ρ q) (map (word ρ) xs)

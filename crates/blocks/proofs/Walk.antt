@@ -1,6 +1,6 @@
 -- Laws of the walk over blocks, which the writer of the entries, that of the block table and the survey share.
---     Blocked: blocked-start, blocked-ask, blocked-more, blocked-end, blocked-sums     the blocks before lo are done
---     Entered: entered-start, entered-part, entered-more, entered-all    their entries are written
+--     BlocksDone: blocked-start, blocked-ask, blocked-more, blocked-end, blocked-sums     the blocks before lo are done
+--     EntriesDone: entered-start, entered-part, entered-more, entered-all    their entries are written
 --     Tabled: tabled-start, tabled-more, tabled-all                      where they begin is noted
 --     number-not, number-more                                            one number more
 --     Surveying: surveying-start, surveying-enough, surveying-more, surveying-fits .. surveying-all     they are counted, by sums
@@ -82,7 +82,7 @@ offsets-length o (x ∷ xs) = ap suc (offsets-length (o + length x) xs)
 
 -- ---- the walk
 
-pub record Blocked (s : Bytes) (n k lo at size : ℕ) : Type 0 where
+pub record BlocksDone (s : Bytes) (n k lo at size : ℕ) : Type 0 where
   pub high : lo ≤ n
   pub here : at ≡ startOf s lo
   pub done : List Bytes
@@ -91,8 +91,8 @@ pub record Blocked (s : Bytes) (n k lo at size : ℕ) : Type 0 where
   pub small : size ≤ 202 * lo
   pub few : length done ≤ lo
 
-module _ {s : Bytes} {n : ℕ} {steps : List ℕ} {k : ℕ} (a : EntriesAsk s n steps k) where
-  blocked-start : Blocked s n k 0 0 0
+module _ {s : Bytes} {n : ℕ} {shares : List ℕ} {k : ℕ} (a : EntriesAsk s n shares k) where
+  blocked-start : BlocksDone s n k 0 0 0
   unfolding joined
   blocked-start = record {
     high = zero-le;
@@ -104,7 +104,7 @@ module _ {s : Bytes} {n : ℕ} {steps : List ℕ} {k : ℕ} (a : EntriesAsk s n 
     few = zero-le;
   }
 
-  module _ {lo at size : ℕ} (b : Blocked s n k lo at size) where
+  module _ {lo at size : ℕ} (b : BlocksDone s n k lo at size) where
     blocked-end : n ≤ lo → blocks k (names s) ≡ b .done
     blocked-end h =
         b .so-far
@@ -126,7 +126,7 @@ module _ {s : Bytes} {n : ℕ} {steps : List ℕ} {k : ℕ} (a : EntriesAsk s n 
         }
 
     module _ (h : lo < n) (hi : ℕ) (e : hi ≡ min (lo + k) n) where
-      pub blocked-ask : BlockAsk s steps lo at hi
+      pub blocked-ask : BlockAsk s shares lo at hi
       blocked-ask = record {
         n = n;
         lens = a .lens;
@@ -158,7 +158,7 @@ module _ {s : Bytes} {n : ℕ} {steps : List ℕ} {k : ℕ} (a : EntriesAsk s n 
             length-append (joined (b .done)) (block s lo hi),
           )
 
-      blocked-more : (r next : ℕ) → BlockSize s lo hi r next → Blocked s n k hi next (size + r)
+      blocked-more : (r next : ℕ) → BlockSize s lo hi r next → BlocksDone s n k hi next (size + r)
       blocked-more r next z = record {
         high = omega arith;
         here = z .here;
@@ -171,18 +171,18 @@ module _ {s : Bytes} {n : ℕ} {steps : List ℕ} {k : ℕ} (a : EntriesAsk s n 
 
 -- ---- entries
 
-pub record Entered (s : Bytes) (n k : ℕ) (room₀ room : Bytes) (lo at size : ℕ) : Type 0 where
-  pub walk : Blocked s n k lo at size
+pub record EntriesDone (s : Bytes) (n k : ℕ) (room₀ room : Bytes) (lo at size : ℕ) : Type 0 where
+  pub walk : BlocksDone s n k lo at size
   pub kept : length room ≡ length room₀
   pub within : size ≤ length room₀
   pub written : room ≡ over (joined (walk .done)) room₀
 
-module _ {s : Bytes} {n : ℕ} {steps : List ℕ} {k : ℕ} (a : EntriesAsk s n steps k) (room₀ : Bytes) (whole : length room₀ ≡ length (entryPart k (names s))) where
-  pub entered-start : Entered s n k room₀ room₀ 0 0 0
+module _ {s : Bytes} {n : ℕ} {shares : List ℕ} {k : ℕ} (a : EntriesAsk s n shares k) (room₀ : Bytes) (whole : length room₀ ≡ length (entryPart k (names s))) where
+  pub entered-start : EntriesDone s n k room₀ room₀ 0 0 0
   unfolding joined blocked-start
   entered-start = record { walk = blocked-start a; kept = refl; within = omega arith; written = refl }
 
-  module _ {room : Bytes} {lo at size : ℕ} (b : Entered s n k room₀ room lo at size) where
+  module _ {room : Bytes} {lo at size : ℕ} (b : EntriesDone s n k room₀ room lo at size) where
     pub entered-all : n ≤ lo → room ≡ entryPart k (names s)
     unfolding entryPart
     entered-all h =
@@ -197,7 +197,7 @@ module _ {s : Bytes} {n : ℕ} {steps : List ℕ} {k : ℕ} (a : EntriesAsk s n 
       entered-part = simp (length-take, length-drop) (omega (arith, entered-fits))
 
       pub entered-more : (r next : ℕ) (ys : Bytes) → BlockPut s lo hi (take (length room - size) (drop size room)) ys r next
-          → Entered s n k room₀ (take size room ++ (ys ++ drop (length room - size) (drop size room))) hi next (size + r)
+          → EntriesDone s n k room₀ (take size room ++ (ys ++ drop (length room - size) (drop size room))) hi next (size + r)
       unfolding blocked-more
       entered-more r next ys p =
           let part : Bytes = take (length room - size) (drop size room) in
@@ -235,12 +235,12 @@ number-more room ys i v h y =
     over-kept ns start r e l z = omega (arith, ap length e, length-append (numbers ns) (drop (length (numbers ns)) start), length-drop (length (numbers ns)) start)
 
 pub record Tabled (s : Bytes) (n k : ℕ) (room₀ room : Bytes) (lo at size count : ℕ) : Type 0 where
-  pub walk : Blocked s n k lo at size
+  pub walk : BlocksDone s n k lo at size
   pub number : count ≡ length (walk .done)
   pub kept : length room ≡ length room₀
   pub noted : 2 * count ≤ length room₀ → room ≡ over (numbers (offsets 0 (walk .done))) room₀
 
-module _ {s : Bytes} {n : ℕ} {steps : List ℕ} {k : ℕ} (a : EntriesAsk s n steps k) (room₀ : Bytes) where
+module _ {s : Bytes} {n : ℕ} {shares : List ℕ} {k : ℕ} (a : EntriesAsk s n shares k) (room₀ : Bytes) where
   pub tabled-start : Tabled s n k room₀ room₀ 0 0 0 0
   unfolding offsets blocked-start numbers
   tabled-start = record { walk = blocked-start a; number = refl; kept = refl; noted = λ h. refl }
@@ -274,19 +274,19 @@ module _ {s : Bytes} {n : ℕ} {steps : List ℕ} {k : ℕ} (a : EntriesAsk s n 
 -- ---- by sums
 
 -- the blocks before lo are counted; what their first names share is taken off `shared`
-pub record Surveying (s : Bytes) (n : ℕ) (steps : List ℕ) (k shared count lo : ℕ) : Type 0 where
+pub record Surveying (s : Bytes) (n : ℕ) (shares : List ℕ) (k shared count lo : ℕ) : Type 0 where
   pub reached : ℕ
   pub is : reached ≡ min lo n
   pub start : ℕ
   pub size : ℕ
-  pub walk : Blocked s n k reached start size
+  pub walk : BlocksDone s n k reached start size
   pub number : count ≡ length (walk .done)
-  pub sums : size + sharedTo steps reached + shared ≡ start + reached + sharedTo steps n
-  pub enough : sharedTo steps n ≤ shared + sharedTo steps reached
+  pub sums : size + sharedTo shares reached + shared ≡ start + reached + sharedTo shares n
+  pub enough : sharedTo shares n ≤ shared + sharedTo shares reached
   pub small : shared ≤ 510000
 
-module _ {s : Bytes} {n : ℕ} {steps : List ℕ} {k : ℕ} (a : EntriesAsk s n steps k) where
-  pub surveying-start : {r : ℕ} → SharedSum steps n r → Surveying s n steps k r 0 0
+module _ {s : Bytes} {n : ℕ} {shares : List ℕ} {k : ℕ} (a : EntriesAsk s n shares k) where
+  pub surveying-start : {r : ℕ} → SharedSum shares n r → Surveying s n shares k r 0 0
   unfolding blocked-start sharedTo
   surveying-start r = record {
     reached = 0;
@@ -300,32 +300,32 @@ module _ {s : Bytes} {n : ℕ} {steps : List ℕ} {k : ℕ} (a : EntriesAsk s n 
     small = omega (arith, r .small, a .ready .few);
   }
 
-  module _ {shared count lo : ℕ} (b : Surveying s n steps k shared count lo) where
-    module _ (h : lo < n) (x : ℕ) (e : x ≡ getD steps lo 0) where
+  module _ {shared count lo : ℕ} (b : Surveying s n shares k shared count lo) where
+    module _ (h : lo < n) (x : ℕ) (e : x ≡ getD shares lo 0) where
       abbrev m : ℕ
       m = b .reached
 
       m-is : m ≡ lo
       m-is = omega (arith, b .is)
 
-      first : sharedTo steps (m + 1) ≡ sharedTo steps m + x
-      first = shared-next steps m ∙ omega (arith, ap (λ (i : ℕ). getD steps i 0) m-is)
+      first : sharedTo shares (m + 1) ≡ sharedTo shares m + x
+      first = shared-next shares m ∙ omega (arith, ap (λ (i : ℕ). getD shares i 0) m-is)
 
-      grows : (i : ℕ) → m + 1 ≤ i → sharedTo steps (m + 1) ≤ sharedTo steps i
+      grows : (i : ℕ) → m + 1 ≤ i → sharedTo shares (m + 1) ≤ sharedTo shares i
       grows i l =
           let f : m + 1 + (i - (m + 1)) ≡ i = omega arith in
-          omega (arith, shared-grows steps (m + 1) (i - (m + 1)), ap (sharedTo steps) f)
+          omega (arith, shared-grows shares (m + 1) (i - (m + 1)), ap (sharedTo shares) f)
 
       pub surveying-enough : x ≤ shared
       surveying-enough = omega (arith, b .enough, first, grows n (omega (arith, m-is)))
 
-      pub surveying-more : Surveying s n steps k (shared - x) (count + 1) (lo + k)
+      pub surveying-more : Surveying s n shares k (shared - x) (count + 1) (lo + k)
       unfolding blocked-more
       surveying-more =
           let hi : ℕ = min (m + k) n in
           let l : m < n = omega (arith, m-is) in
-          let ask : BlockAsk s steps m (b .start) hi = blocked-ask a (b .walk) l hi refl in
-          let z : BlockSums s steps m (b .start) hi hi = block-sums ask (omega (arith, a .low)) in
+          let ask : BlockAsk s shares m (b .start) hi = blocked-ask a (b .walk) l hi refl in
+          let z : BlockSums s shares m (b .start) hi hi = block-sums ask (omega (arith, a .low)) in
           record {
             reached = hi;
             is = omega (arith, m-is);
@@ -348,7 +348,7 @@ module _ {s : Bytes} {n : ℕ} {steps : List ℕ} {k : ℕ} (a : EntriesAsk s n 
             arith,
             b .sums,
             at-end,
-            ap (sharedTo steps) at-end,
+            ap (sharedTo shares) at-end,
             b .walk .here ∙ ap (startOf s) at-end ∙ start-all (a .ready),
           )
 

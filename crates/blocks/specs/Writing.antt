@@ -19,8 +19,7 @@ use Rattle.words.specs.Words.{Bytes, pick}
 use Rattle.format.specs.Entries.{front}
 use Rattle.format.specs.Book.{numbers, blockPart, entryPart}
 use Rattle.format.specs.Outcomes.{over}
-use Rattle.records.specs.Lists.{names}
-use Rattle.records.specs.Lists.{Ready, startOf}
+use Rattle.records.specs.Lists.{Ready, names, startOf}
 
 abbrev pub before : ℕ → ℕ → List Bytes → Bytes
 before lo i xs = pick (eqb i lo) [] (getD xs (pred i) [])
@@ -29,13 +28,13 @@ abbrev pub block : Bytes → ℕ → ℕ → Bytes
 block s lo hi = front [] (slice lo hi (names s))
 
 abbrev pub storedCount : ℕ → ℕ → List ℕ → ℕ
-storedCount lo i steps = pick (eqb i lo) 0 (getD steps i 0)
+storedCount lo i shares = pick (eqb i lo) 0 (getD shares i 0)
 
 -- names lo to hi of a list that was judged; record lo begins at `at`
-pub record BlockAsk (s : Bytes) (steps : List ℕ) (lo at hi : ℕ) : Type 0 where
+pub record BlockAsk (s : Bytes) (shares : List ℕ) (lo at hi : ℕ) : Type 0 where
   pub n : ℕ
   pub lens : List ℕ
-  pub ready : Ready s n lens steps
+  pub ready : Ready s n lens shares
   pub order : lo ≤ hi
   pub within : hi ≤ n
   pub here : at ≡ startOf s lo
@@ -52,9 +51,9 @@ pub record BlockPut (s : Bytes) (lo hi : ℕ) (room₀ room : Bytes) (size next 
   pub put : room ≡ over (block s lo hi) room₀
 
 -- the entries of n names in blocks of k
-pub record EntriesAsk (s : Bytes) (n : ℕ) (steps : List ℕ) (k : ℕ) : Type 0 where
+pub record EntriesAsk (s : Bytes) (n : ℕ) (shares : List ℕ) (k : ℕ) : Type 0 where
   pub lens : List ℕ
-  pub ready : Ready s n lens steps
+  pub ready : Ready s n lens shares
   pub low : 1 ≤ k
   pub high : k ≤ 64
 
@@ -65,11 +64,11 @@ pub record NumberPut (room₀ room : Bytes) (i v : ℕ) : Type 0 where
 
 -- what the first i names share with the ones before them, in all
 unfoldable pub sharedTo : List ℕ → ℕ → ℕ
-sharedTo steps zero = 0
-sharedTo steps (suc i) = sharedTo steps i + getD steps i 0
+sharedTo shares zero = 0
+sharedTo shares (suc i) = sharedTo shares i + getD shares i 0
 
-pub record SharedSum (steps : List ℕ) (i r : ℕ) : Type 0 where
-  pub is : r ≡ sharedTo steps i
+pub record SharedSum (shares : List ℕ) (i r : ℕ) : Type 0 where
+  pub is : r ≡ sharedTo shares i
   pub small : r ≤ 255 * i
 
 -- how many blocks of k there are, and the size of all entries

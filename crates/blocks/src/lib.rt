@@ -3,20 +3,19 @@ ghost use mathlib.Core.Path.{_≡_};
 ghost use mathlib.Core.List.{_∷_};
 ghost use Prim.Native.Nat.{_+_, _≤_, _<_};
 ghost use lib.ListN.{length, getD, take, drop};
-ghost use Rattle.records.specs.Lists.{names};
+ghost use Rattle.records.specs.Lists.{names, startOf};
 ghost use Rattle.format.specs.Book.{entryPart};
-ghost use Rattle.records.specs.Lists.{startOf};
 ghost use Rattle.blocks.specs.Writing.{block, storedCount, BlockAsk, BlockSize, BlockPut, EntriesAsk, NumberPut, SharedSum, SumsAre, Surveyed};
 
 // The count that name i stores in a block that begins with name lo.
-fn count_of(steps: &[u8], lo: usize, i: usize) -> usize
-    requires { ⌜ i < length (now steps) ⌝ }
-    ensures { λ r. ⌜ r ≡ storedCount lo i (now (steps .entry)) ⌝ }
+fn count_of(shares: &[u8], lo: usize, i: usize) -> usize
+    requires { ⌜ i < length (now shares) ⌝ }
+    ensures { λ r. ⌜ r ≡ storedCount lo i (now (shares .entry)) ⌝ }
 {
     if i == lo {
         return 0;
     }
-    numbers::wide(steps[i])
+    numbers::wide(shares[i])
 }
 
 // A block: the size of its entries, and where the record after its names begins.
@@ -26,8 +25,8 @@ pub struct Block {
 }
 
 // Names lo to hi as one block, of which record lo begins at `at`.
-fn block_size(list: &[u8], steps: &[u8], lo: usize, at: usize, hi: usize) -> Block
-    requires { ⌜ BlockAsk (now list) (now steps) lo at hi ⌝ }
+fn block_size(list: &[u8], shares: &[u8], lo: usize, at: usize, hi: usize) -> Block
+    requires { ⌜ BlockAsk (now list) (now shares) lo at hi ⌝ }
     ensures { λ r. ⌜ BlockSize (now (list .entry)) lo hi (r .size) (r .next) ⌝ }
 {
     let mut size: usize = 0;
@@ -35,7 +34,7 @@ fn block_size(list: &[u8], steps: &[u8], lo: usize, at: usize, hi: usize) -> Blo
     let mut i = lo;
     while i < hi {
         let len = numbers::wide(list[next]);
-        size += 2 + len - count_of(steps, lo, i);
+        size += 2 + len - count_of(shares, lo, i);
         next += 1 + len;
         i += 1;
     }
@@ -54,8 +53,15 @@ fn write_entry(list: &[u8], from: usize, c: usize, rest: usize, part: &mut [u8])
 }
 
 // The same, with the entries at the front of the room.
-fn write_block(list: &[u8], steps: &[u8], lo: usize, at: usize, hi: usize, room: &mut [u8]) -> Block
-    requires { ⌜ BlockAsk (now list) (now steps) lo at hi ⌝ }
+fn write_block(
+    list: &[u8],
+    shares: &[u8],
+    lo: usize,
+    at: usize,
+    hi: usize,
+    room: &mut [u8],
+) -> Block
+    requires { ⌜ BlockAsk (now list) (now shares) lo at hi ⌝ }
     requires { ⌜ length (block (now list) lo hi) ≤ length (now room) ⌝ }
     ensures { λ r. ⌜ BlockPut (now (list .entry)) lo hi (now (room .entry)) (now (room .exit)) (r .size) (r .next) ⌝ }
 {
@@ -64,7 +70,7 @@ fn write_block(list: &[u8], steps: &[u8], lo: usize, at: usize, hi: usize, room:
     let mut i = lo;
     while i < hi {
         let len = numbers::wide(list[next]);
-        let c = count_of(steps, lo, i);
+        let c = count_of(shares, lo, i);
         let rest = len - c;
         let end = size + 2 + rest;
         write_entry(list, next + 1 + c, c, rest, &mut room[size..end]);
@@ -76,8 +82,8 @@ fn write_block(list: &[u8], steps: &[u8], lo: usize, at: usize, hi: usize, room:
 }
 
 // The entries of all names, in blocks of k.
-pub fn write_entries(list: &[u8], n: usize, steps: &[u8], k: usize, room: &mut [u8])
-    requires { ⌜ EntriesAsk (now list) n (now steps) k ⌝ }
+pub fn write_entries(list: &[u8], n: usize, shares: &[u8], k: usize, room: &mut [u8])
+    requires { ⌜ EntriesAsk (now list) n (now shares) k ⌝ }
     requires { ⌜ length (now room) ≡ length (entryPart k (names (now list))) ⌝ }
     ensures { λ _. ⌜ now (room .exit) ≡ entryPart k (names (now (list .entry))) ⌝ }
 {
@@ -86,7 +92,7 @@ pub fn write_entries(list: &[u8], n: usize, steps: &[u8], k: usize, room: &mut [
     let mut size: usize = 0;
     while lo < n {
         let hi = numbers::lesser(lo + k, n);
-        let b = write_block(list, steps, lo, at, hi, &mut room[size..]);
+        let b = write_block(list, shares, lo, at, hi, &mut room[size..]);
         size += b.size;
         at = b.next;
         lo = hi;
@@ -113,14 +119,14 @@ pub struct Survey {
 }
 
 // What the first n names share with the ones before them, in all.
-fn sum_of(steps: &[u8], n: usize) -> usize
-    requires { ⌜ (n ≤ 2000) × (n ≤ length (now steps)) ⌝ }
-    ensures { λ r. ⌜ SharedSum (now (steps .entry)) n r ⌝ }
+fn sum_of(shares: &[u8], n: usize) -> usize
+    requires { ⌜ (n ≤ 2000) × (n ≤ length (now shares)) ⌝ }
+    ensures { λ r. ⌜ SharedSum (now (shares .entry)) n r ⌝ }
 {
     let mut sum: usize = 0;
     let mut i = 0;
     while i < n {
-        sum += numbers::wide(steps[i]);
+        sum += numbers::wide(shares[i]);
         i += 1;
     }
     sum
@@ -128,15 +134,15 @@ fn sum_of(steps: &[u8], n: usize) -> usize
 
 // By sums: each name stores two bytes and what it does not share, and its record has its length byte and all of it. The first name of
 // a block stores all of it too.
-pub fn survey_blocks(list: &[u8], n: usize, steps: &[u8], k: usize) -> Survey
-    requires { ⌜ EntriesAsk (now list) n (now steps) k ⌝ }
+pub fn survey_blocks(list: &[u8], n: usize, shares: &[u8], k: usize) -> Survey
+    requires { ⌜ EntriesAsk (now list) n (now shares) k ⌝ }
     ensures { λ r. ⌜ SumsAre (now (list .entry)) k (r .count) (r .size) ⌝ }
 {
-    let mut shared = sum_of(steps, n);
+    let mut shared = sum_of(shares, n);
     let mut count: usize = 0;
     let mut lo: usize = 0;
     while lo < n {
-        shared -= numbers::wide(steps[lo]);
+        shared -= numbers::wide(shares[lo]);
         count += 1;
         lo += k;
     }
@@ -147,8 +153,8 @@ pub fn survey_blocks(list: &[u8], n: usize, steps: &[u8], k: usize) -> Survey
 }
 
 // The block table, where it fits: where each block's entries begin.
-pub fn write_table(list: &[u8], n: usize, steps: &[u8], k: usize, room: &mut [u8]) -> Survey
-    requires { ⌜ EntriesAsk (now list) n (now steps) k ⌝ }
+pub fn write_table(list: &[u8], n: usize, shares: &[u8], k: usize, room: &mut [u8]) -> Survey
+    requires { ⌜ EntriesAsk (now list) n (now shares) k ⌝ }
     ensures { λ r. ⌜ Surveyed (now (list .entry)) k (now (room .entry)) (now (room .exit)) (r .count) (r .size) ⌝ }
 {
     let mut lo: usize = 0;
@@ -158,7 +164,7 @@ pub fn write_table(list: &[u8], n: usize, steps: &[u8], k: usize, room: &mut [u8
     while lo < n {
         put_number(room, count, size);
         let hi = numbers::lesser(lo + k, n);
-        let b = block_size(list, steps, lo, at, hi);
+        let b = block_size(list, shares, lo, at, hi);
         size += b.size;
         at = b.next;
         lo = hi;

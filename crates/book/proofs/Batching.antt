@@ -17,8 +17,9 @@ use borrow.Author.Tests.{eqb-true}
 use Rattle.words.specs.Words.{Bytes, pick, plain}
 use Rattle.words.proofs.Words.{both-true}
 use Rattle.format.specs.Book.{Book, NoBook, Opened, opened}
-use Rattle.format.specs.Outcomes.{Answer as Numbers, checkOf, given, refused}
-use Rattle.answers.specs.Calls.{Batched, batch, batchOf, check, rowAnswer}
+use Rattle.format.specs.Outcomes.{Answer as Numbers, given, refused}
+use Rattle.answers.specs.Calls.{Batched, batch, batchOf, rowAnswer}
+use Rattle.accept.specs.Parts.{checkOn}
 use Rattle.shapes.specs.Shapes.{answered, rowOf}
 use Rattle.shapes.specs.declared.Answer.{Answer}
 use Rattle.shapes.specs.declared.Row.{Row}
@@ -64,7 +65,7 @@ abbrev pub gets : Bytes → Bytes → Row → Answer
 gets b buffer row = answerOf (rowAnswer plain (opened plain b) buffer (rowOf row))
 
 abbrev pub opening : Bytes → List Row → List Answer → Opening
-opening b rows old = openingOf (length rows) (takesRows (length rows) (length old)) (opened plain b)
+opening b rows old = openingOf b (length rows) (takesRows (length rows) (length old)) (opened plain b)
 
 module _ (b buffer : Bytes) (rows : List Row) (old : List Answer) where
   abbrev outcome : Batched
@@ -82,22 +83,22 @@ module _ (b buffer : Bytes) (rows : List Row) (old : List Answer) where
   unfolding batchOf openingOf
   batch-refused ne = go (takesRows (length rows) (length old)) (opened plain b) ne ∙ sym decides
     where
-      go : (t : Bool) (o : Opened) → (openingOf (length rows) t o .answer .code ≡ 0 → ⊥) → batched (openingOf (length rows) t o .answer) old ≡ decided t o
+      go : (t : Bool) (o : Opened) → (openingOf b (length rows) t o .answer .code ≡ 0 → ⊥) → batched (openingOf b (length rows) t o .answer) old ≡ decided t o
       go false NoBook h = refl
       go false (Book k xs) h = refl
       go true NoBook h = refl
       go true (Book k xs) h = absurd (h refl)
 
   pub opening-accepts : opening b rows old .answer .code ≡ 0 → Accepted b (opening b rows old) × (length rows ≡ length old)
-  unfolding openingOf check checkOf
+  unfolding openingOf checkOn
   opening-accepts z = go (takesRows (length rows) (length old)) refl (opened plain b) refl z
     where
-      go : (t : Bool) → takesRows (length rows) (length old) ≡ t → (o : Opened) → opened plain b ≡ o → openingOf (length rows) t o .answer .code ≡ 0
-          → Accepted b (openingOf (length rows) t o) × (length rows ≡ length old)
+      go : (t : Bool) → takesRows (length rows) (length old) ≡ t → (o : Opened) → opened plain b ≡ o → openingOf b (length rows) t o .answer .code ≡ 0
+          → Accepted b (openingOf b (length rows) t o) × (length rows ≡ length old)
       go false p NoBook q e = absurd (omega (arith, e))
       go false p (Book k xs) q e = absurd (omega (arith, e))
       go true p NoBook q e = absurd (omega (arith, e))
-      go true p (Book k xs) q e = (record { checked = sym (ap checkOf q) }, eqb-true (length rows) (length old) (both-true (leb (length rows) 64) (eqb (length rows) (length old)) p .1))
+      go true p (Book k xs) q e = (record { checked = sym (ap (checkOn b) q) }, eqb-true (length rows) (length old) (both-true (leb (length rows) 64) (eqb (length rows) (length old)) p .1))
 
   pub batch-answered : opening b rows old .answer .code ≡ 0 → batched (opening b rows old .answer) (filled (gets b buffer) rows old (length rows)) ≡ outcome
   unfolding batchOf openingOf
@@ -108,8 +109,8 @@ module _ (b buffer : Bytes) (rows : List Row) (old : List Answer) where
           ap (map answered) (filled-all (gets b buffer) rows old (opening-accepts z .1)) ∙ map-map answered (gets b buffer) rows
           ∙ ap (λ (x : Opened). map (λ (row : Row). rowAnswer plain x buffer (rowOf row)) rows) q ∙ sym (map-map (rowAnswer plain o buffer) rowOf rows)
 
-      go : (t : Bool) (o : Opened) → opened plain b ≡ o → openingOf (length rows) t o .answer .code ≡ 0
-          → batched (openingOf (length rows) t o .answer) (filled (gets b buffer) rows old (length rows)) ≡ decided t o
+      go : (t : Bool) (o : Opened) → opened plain b ≡ o → openingOf b (length rows) t o .answer .code ≡ 0
+          → batched (openingOf b (length rows) t o .answer) (filled (gets b buffer) rows old (length rows)) ≡ decided t o
       go false NoBook q e = absurd (omega (arith, e))
       go false (Book k xs) q e = absurd (omega (arith, e))
       go true NoBook q e = absurd (omega (arith, e))

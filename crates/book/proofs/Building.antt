@@ -45,24 +45,24 @@ module _ (s : Bytes) (k : ℕ) (room : Bytes) where
     build-good : (w : Written) → w ≡ builtFrom plain k room (readList plain s) → w ≡ build plain s k room
     build-good w p = p ∙ sym (gate true (rw (le-leb 1 k (omega arith), le-leb k 64 h) refl))
 
-    pub build-bad : (r : Answer) (code i : ℕ) → Ends r code i → (lens steps : List ℕ) (v : Verdict) → Judged s lens steps v → v ≡ Bad code i
+    pub build-bad : (r : Answer) (code i : ℕ) → Ends r code i → (lens shares : List ℕ) (v : Verdict) → Judged s lens shares v → v ≡ Bad code i
         → written r room ≡ build plain s k room
     unfolding builtFrom readingOf
-    build-bad r code i e lens steps v j u =
+    build-bad r code i e lens shares v j u =
         build-good (written r room) (ap (λ (a : Numbers). record { answer = a; room = room }) e ∙ go (readList plain s) (ap verdictNumbers (sym u) ∙ j .verdict))
       where
         go : (x : Reading) → numbered code i ≡ readingOf x → record { answer = numbered code i; room = room } ≡ builtFrom plain k room x
         go (Names xs) f = absurd (let y : code ≡ 0 = ap (λ (a : Numbers). a .code) f in omega (arith, j .refuses code i u))
         go (Refused c j) f = ap (λ (a : Numbers). record { answer = a; room = room }) f
 
-    pub judged-asks : (n : ℕ) (lens steps : List ℕ) (v : Verdict) → Judged s lens steps v → v ≡ Good n → BuildAsk s n lens steps k
+    pub judged-asks : (n : ℕ) (lens shares : List ℕ) (v : Verdict) → Judged s lens shares v → v ≡ Good n → BuildAsk s n lens shares k
     unfolding names readingOf
-    judged-asks n lens steps v j e = go (readList plain s) refl (ap verdictNumbers (sym e) ∙ j .verdict)
+    judged-asks n lens shares v j e = go (readList plain s) refl (ap verdictNumbers (sym e) ∙ j .verdict)
       where
         names-are : (xs : List Bytes) → readList plain s ≡ Names xs → names s ≡ xs
         names-are xs p = ap namesIn p
 
-        go : (x : Reading) → readList plain s ≡ x → given n 0 ≡ readingOf x → BuildAsk s n lens steps k
+        go : (x : Reading) → readList plain s ≡ x → given n 0 ≡ readingOf x → BuildAsk s n lens shares k
         go (Refused c i) p f = absurd (let y : 0 ≡ c = ap (λ (a : Numbers). a .code) f in omega (arith, read-refused plain s c i p))
         go (Names xs) p f =
             let all : names s ≡ xs = names-are xs p in

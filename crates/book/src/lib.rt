@@ -22,12 +22,12 @@ pub extern "C" fn book_build(list: &[u8], block: usize, room: &mut [u8]) -> Answ
         return shapes::refuse(8, 0);
     }
     let mut lens = [0u8; 2000];
-    let mut steps = [0u8; 2000];
-    let verdict = records::judge(list, &mut lens, &mut steps);
+    let mut shares = [0u8; 2000];
+    let verdict = records::judge(list, &mut lens, &mut shares);
     match verdict {
         records::Verdict::Bad(code, record) => shapes::refuse(code, record),
         records::Verdict::Good(n) => {
-            let built = build::build_judged(list, n, &lens, &steps, block, room);
+            let built = build::build_judged(list, n, &lens, &shares, block, room);
             match built {
                 build::Built::Refused(code) => shapes::refuse(code, 0),
                 build::Built::Written(total) => Answer {
@@ -45,14 +45,14 @@ pub extern "C" fn book_build(list: &[u8], block: usize, room: &mut [u8]) -> Answ
 pub extern "C" fn book_check(book: &[u8]) -> Answer
     ensures { λ r. ⌜ answered r ≡ check plain (now (book .entry)) ⌝ }
 {
-    let checked = accept::check_book(book);
-    match checked {
-        accept::Checked::Unsound => shapes::refuse(2, 0),
-        accept::Checked::Sound(n, k) => Answer {
-            code: 0,
-            first: n,
-            second: k,
-        },
+    if !accept::is_book(book) {
+        return shapes::refuse(2, 0);
+    }
+    let t = trailer::read(book);
+    Answer {
+        code: 0,
+        first: numbers::wide16(t.names),
+        second: numbers::wide16(t.block),
     }
 }
 
@@ -64,11 +64,11 @@ pub extern "C" fn book_read(book: &[u8], position: usize, room: &mut [u8]) -> An
     let checked = accept::check_book(book);
     match checked {
         accept::Checked::Unsound => shapes::refuse(2, 0),
-        accept::Checked::Sound(n, k) => {
-            if n <= position {
+        accept::Checked::Sound(t) => {
+            if numbers::wide16(t.names) <= position {
                 return shapes::refuse(3, 0);
             }
-            let len = names::put_name(book, k, position, room);
+            let len = names::put_name(book, t, position, room);
             if len == 0 {
                 return shapes::refuse(4, 0);
             }

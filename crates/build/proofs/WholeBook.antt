@@ -36,8 +36,8 @@ use Rattle.build.specs.Whole.{BuildAsk, Sized}
 abbrev pub put : Bytes → ℕ → ℕ → Bytes → Bytes
 put room from to x = take from room ++ (x ++ drop (to - from) (drop from room))
 
-module _ {s : Bytes} {n : ℕ} {lens steps : List ℕ} {k : ℕ} (a : BuildAsk s n lens steps k) where
-  module _ (m : ℕ) (p : NodeCount n steps m) where
+module _ {s : Bytes} {n : ℕ} {lens shares : List ℕ} {k : ℕ} (a : BuildAsk s n lens shares k) where
+  module _ (m : ℕ) (p : NodeCount n shares m) where
     nodes-are : m ≡ length (table (words s))
     unfolding NodeCount
     nodes-are = p s lens (a .ready)

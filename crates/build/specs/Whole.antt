@@ -17,9 +17,9 @@ use Rattle.records.specs.Lists.{Ready}
 use Rattle.build.specs.declared.Built.{Built}
 use Rattle.build.specs.declared.Built.the-variants.{Written as Wrote, Refused}
 
-pub record BuildAsk (s : Bytes) (n : ℕ) (lens steps : List ℕ) (k : ℕ) : Type 0 where
+pub record BuildAsk (s : Bytes) (n : ℕ) (lens shares : List ℕ) (k : ℕ) : Type 0 where
   pub read : readList plain s ≡ Names (names s)
-  pub ready : Ready s n lens steps
+  pub ready : Ready s n lens shares
   pub low : 1 ≤ k
   pub high : k ≤ 64
 

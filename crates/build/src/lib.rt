@@ -5,7 +5,7 @@ ghost use Prim.Native.Nat.{_≤_};
 ghost use lib.ListN.{length};
 ghost use Rattle.words.specs.Words.{plain};
 ghost use Rattle.format.specs.Records.{readList};
-ghost use Rattle.format.specs.Book.{trailer, book};
+ghost use Rattle.format.specs.Book.{book};
 ghost use Rattle.format.specs.Outcomes.{over};
 ghost use Rattle.answers.specs.Calls.{builtFrom};
 ghost use Rattle.records.specs.Lists.{names};
@@ -20,44 +20,43 @@ pub struct Sizes {
 }
 
 // The sizes, by counting.
-fn sizes_of(list: &[u8], n: usize, lens: &[u8], steps: &[u8], k: usize) -> Sizes
-    requires { ⌜ BuildAsk (now list) n (now lens) (now steps) k ⌝ }
+fn sizes_of(list: &[u8], n: usize, lens: &[u8], shares: &[u8], k: usize) -> Sizes
+    requires { ⌜ BuildAsk (now list) n (now lens) (now shares) k ⌝ }
     ensures { λ r. ⌜ Sized (now (list .entry)) k (r .blocks) (r .nodes) (r .count) (r .total) ⌝ }
 {
-    let survey = blocks::survey_blocks(list, n, steps, k);
-    let count = nodes::count_nodes(n, steps);
+    let survey = blocks::survey_blocks(list, n, shares, k);
+    let count = nodes::count_nodes(n, shares);
     let nodes = survey.size + 2 * survey.count;
     Sizes {
         blocks: survey.size,
         nodes,
         count,
-        total: nodes + count * fields::SIZE + 16,
+        total: nodes + count * fields::SIZE + trailer::SIZE,
     }
 }
 
-// The last 16 bytes. The mark 4E 42 4B 31 is two numbers more.
-fn put_trailer(part: &mut [u8], n: usize, k: usize, s: Sizes)
-    requires { ⌜ length (now part) ≡ 16 ⌝ }
-    ensures { λ _. ⌜ now (part .exit) ≡ trailer n k (s .blocks) (s .nodes) (s .count) (s .total) ⌝ }
-{
-    let fields = [n, k, s.blocks, s.nodes, s.count, s.total, 0x424E, 0x314B];
-    numbers::put_numbers(part, &fields);
-}
-
 // The book, each part from where the one before ended.
-fn write_book(list: &[u8], n: usize, lens: &[u8], steps: &[u8], k: usize, s: Sizes, room: &mut [u8])
-    requires { ⌜ BuildAsk (now list) n (now lens) (now steps) k ⌝ }
+fn write_book(
+    list: &[u8],
+    n: usize,
+    lens: &[u8],
+    shares: &[u8],
+    k: usize,
+    s: Sizes,
+    room: &mut [u8],
+)
+    requires { ⌜ BuildAsk (now list) n (now lens) (now shares) k ⌝ }
     requires { ⌜ Sized (now list) k (s .blocks) (s .nodes) (s .count) (s .total) × (s .total ≤ length (now room)) ⌝ }
     ensures { λ _. ⌜ now (room .exit) ≡ over (book plain k (names (now (list .entry)))) (now (room .entry)) ⌝ }
 {
     let blocks = s.blocks;
     let nodes = s.nodes;
     let total = s.total;
-    let end = total - 16;
-    blocks::write_entries(list, n, steps, k, &mut room[0..blocks]);
-    blocks::write_table(list, n, steps, k, &mut room[blocks..nodes]);
-    nodes::write_nodes(list, n, lens, steps, &mut room[nodes..end]);
-    put_trailer(&mut room[end..total], n, k, s);
+    let end = total - trailer::SIZE;
+    blocks::write_entries(list, n, shares, k, &mut room[0..blocks]);
+    blocks::write_table(list, n, shares, k, &mut room[blocks..nodes]);
+    nodes::write_nodes(list, n, lens, shares, &mut room[nodes..end]);
+    trailer::put_trailer(&mut room[end..total], n, k, blocks, nodes, s.count, total);
 }
 
 // How the building of a judged list ends.
@@ -73,14 +72,14 @@ pub fn build_judged(
     list: &[u8],
     n: usize,
     lens: &[u8],
-    steps: &[u8],
+    shares: &[u8],
     k: usize,
     room: &mut [u8],
 ) -> Built
-    requires { ⌜ BuildAsk (now list) n (now lens) (now steps) k ⌝ }
+    requires { ⌜ BuildAsk (now list) n (now lens) (now shares) k ⌝ }
     ensures { λ r. ⌜ shownBuilt r (now (room .exit)) ≡ builtFrom plain k (now (room .entry)) (readList plain (now (list .entry))) ⌝ }
 {
-    let s = sizes_of(list, n, lens, steps, k);
+    let s = sizes_of(list, n, lens, shares, k);
     let total = s.total;
     if 65535 < total {
         return Built::Refused(9);
@@ -88,6 +87,6 @@ pub fn build_judged(
     if room.len() < total {
         return Built::Refused(4);
     }
-    write_book(list, n, lens, steps, k, s, room);
+    write_book(list, n, lens, shares, k, s, room);
     Built::Written(total)
 }

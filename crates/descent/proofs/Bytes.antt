@@ -8,8 +8,10 @@ use mathlib.Core.Bool.{true}
 use mathlib.Core.List.{List, [], _∷_, _++_, map, append-assoc}
 use lib.ListN.{drop, length, length-append, length-map, take}
 use lib.Seq.{drop-at, slice, take-at}
-use Rattle.words.specs.Words.{All, Bytes, InBytes, Lawful, Rises, Rule, Words, cons, nil, nth, word}
-use Rattle.format.specs.Book.{Book, allFields, blockPart, book, entryPart, fits, mark, nodePart, numbers, opened, wordsOf}
+use Rattle.words.specs.Rising.{All, Rises, cons, nil}
+use Rattle.words.specs.Words.{Bytes, InBytes, Lawful, Rule, Words, nth, word}
+use Rattle.format.specs.Spans.{wordsOf}
+use Rattle.format.specs.Book.{Book, allFields, blockPart, book, entryPart, fits, mark, nodePart, numbers, opened, told}
 use Rattle.format.specs.Nodes.{table}
 use Rattle.format.specs.Records.{longest, mostNames, sound}
 use Rattle.format.proofs.Book.{Fits, book-length, book-opened, book-parts, fits-parts, nodesAt, read-field, read-names, records, trailerAt, trailerNumbers}
@@ -21,7 +23,7 @@ use Rattle.standing.specs.Maps.{inRows, rowsAt}
 use Rattle.standing.specs.Stands.{Stands}
 use Rattle.standing.proofs.Bytes.{bytes-stand}
 use Rattle.standing.proofs.Records.{Told, stands-at}
-use Rattle.descent.specs.Vocabulary.{NodesAt, Searchable, noNode, node, startIn}
+use Rattle.descent.specs.Vocabulary.{NodesAt, Searchable, noNode, node}
 
 -- names of bytes give words of small symbols
 modest : (ρ : Rule) → Lawful ρ → (xs : List Bytes) → All (λ x. (1 ≤ length x) × (length x ≤ longest)) xs → All (λ x. All (λ b. b < 256) x) xs
@@ -68,8 +70,8 @@ module _ (ρ : Rule) (ok : Lawful ρ) (k : ℕ) (xs : List Bytes) (fit : fits ρ
       node-at : (v : ℕ) → v < length (records ρ k xs) → Told inRows (book ρ k xs) (records ρ k xs) (nodesAt ρ k xs) v noNode
       node-at v h = stands-at inRows (book ρ k xs) (records ρ k xs) (nodesAt ρ k xs) (trailerAt ρ k xs) v noNode stood h
 
-  pub book-searchable : Searchable ρ (book ρ k xs) (rowsAt (startIn (book ρ k xs)))
-  unfolding wordsOf startIn
+  pub book-searchable : Searchable ρ (book ρ k xs) (rowsAt (told (book ρ k xs) 3))
+  unfolding wordsOf
   book-searchable =
       let names : wordsOf ρ (book ρ k xs) ≡ map (word ρ) xs = ap (map (word ρ)) (read-names ρ k xs f) in
       let size : length (wordsOf ρ (book ρ k xs)) ≡ length xs = ap length names ∙ count in
@@ -80,11 +82,11 @@ module _ (ρ : Rule) (ok : Lawful ρ) (k : ℕ) (xs : List Bytes) (fit : fits ρ
         few = omega arith;
         small = omega (arith, ap (λ (vs : Words). length (table vs)) names, table-few (map (word ρ) xs) up (omega (arith, count)), count);
         short = subst (λ (vs : Words). (i : ℕ) → length (nth vs i) ≤ longest) (sym names) (word-short ρ xs (f .sound));
-        table = subst (λ (vs : Words). NodesAt (rowsAt (startIn (book ρ k xs))) (book ρ k xs) vs) (sym names) (rw (read-field ρ k xs f 3 (omega arith)) table-at);
+        table = subst (λ (vs : Words). NodesAt (rowsAt (told (book ρ k xs) 3)) (book ρ k xs) vs) (sym names) (rw (read-field ρ k xs f 3 (omega arith)) table-at);
       }
 
 -- bytes that open as a book with names
-pub opened-searchable : (ρ : Rule) → Lawful ρ → (s : Bytes) (k : ℕ) (xs : List Bytes) → opened ρ s ≡ Book k xs → InBytes s → 0 < length xs → Searchable ρ s (rowsAt (startIn s))
+pub opened-searchable : (ρ : Rule) → Lawful ρ → (s : Bytes) (k : ℕ) (xs : List Bytes) → opened ρ s ≡ Book k xs → InBytes s → 0 < length xs → Searchable ρ s (rowsAt (told s 3))
 opened-searchable ρ ok s k xs e bytes some =
     let b = book-opened ρ s k xs e in
-    subst (λ (t : Bytes). Searchable ρ t (rowsAt (startIn t))) (b .1) (book-searchable ρ ok k xs (b .0) (subst InBytes (sym (b .1)) bytes) some)
+    subst (λ (t : Bytes). Searchable ρ t (rowsAt (told t 3))) (b .1) (book-searchable ρ ok k xs (b .0) (subst InBytes (sym (b .1)) bytes) some)

@@ -10,7 +10,8 @@ use mathlib.Core.Path.{_≡_, refl}
 use mathlib.Core.Logic.{_⊎_, inl, inr}
 use mathlib.Core.List.{List}
 use lib.ListN.{length, set, replicate}
-use Rattle.words.specs.Words.{Rises, Words, at, nth}
+use Rattle.words.specs.Rising.{Rises}
+use Rattle.words.specs.Words.{Words, at, nth}
 use Rattle.words.proofs.Words.{apart}
 use Rattle.descent.proofs.Paths.{halt-end, halt-leaf, halt-other, halt-short, passed-few, passed-on, passed-room, passed-sits, passed-start, taken}
 use Rattle.descent.proofs.Rows.{seek-end, seek-found, seek-more, seek-some, seek-start}
@@ -32,7 +33,7 @@ module _ (ws : Words) (r : Rises ws) where
 
   module _ (q : List ℕ) (short : (i : ℕ) → length (nth ws i) ≤ 200) where
     -- a descent, however its path is kept
-    pub record Descent : Type 0 where
+    pub record WholeWay : Type 0 where
       pub passed : List ℕ
       pub count : ℕ
       pub last : ℕ
@@ -55,17 +56,17 @@ module _ (ws : Words) (r : Rises ws) where
             child (inl g) (yes e) = inr (c, taken ws r q z n h k g e)
             child (inl g) (no e) = inl (halt-other ws r q z n h k g e)
 
-    go-down : (f : ℕ) (p : List ℕ) (n v : ℕ) → Passed ws q p n v → 202 ≤ n + f → Descent
+    go-down : (f : ℕ) (p : List ℕ) (n v : ℕ) → Passed ws q p n v → 202 ≤ n + f → WholeWay
     go-down zero p n v t l = on (way v (passed-sits ws r t short))
       where
-        on : Halts ws q v ⊎ ((c : ℕ) × Taken ws q v c) → Descent
+        on : Halts ws q v ⊎ ((c : ℕ) × Taken ws q v c) → WholeWay
         on (inl h) = record { passed = p; count = n; last = v; whole = record { few = passed-few ws r t short; path = t; halts = h } }
         on (inr (c, k)) = absurd (lt-irrefl n (omega (arith, passed-room ws r t short k)))
     go-down (suc f) p n v t l = on (λ p n v t l. go-down f p n v t l) (way v (passed-sits ws r t short))
       where
-        on : ((p : List ℕ) (n v : ℕ) → Passed ws q p n v → 202 ≤ n + f → Descent) → Halts ws q v ⊎ ((c : ℕ) × Taken ws q v c) → Descent
+        on : ((p : List ℕ) (n v : ℕ) → Passed ws q p n v → 202 ≤ n + f → WholeWay) → Halts ws q v ⊎ ((c : ℕ) × Taken ws q v c) → WholeWay
         on ih (inl h) = record { passed = p; count = n; last = v; whole = record { few = passed-few ws r t short; path = t; halts = h } }
         on ih (inr (c, k)) = ih (set p n c) (n + 1) c (passed-on ws r t short k) (omega arith)
 
-    pub descent-exists : 0 < length ws → Descent
+    pub descent-exists : 0 < length ws → WholeWay
     descent-exists h = go-down 201 (replicate 202 0) 1 0 (passed-start ws r q (replicate 202 0) h refl refl) (omega arith)

@@ -13,17 +13,18 @@ use mathlib.Core.Logic.{_⊎_, inl, inr}
 use mathlib.Core.List.{List}
 use lib.ListN.{length, getD, set, length-set}
 use lib.Seq.{getD-set-same, getD-set-other}
-use Rattle.words.specs.Words.{Rises, Words, at, nth, shared}
+use Rattle.words.specs.Rising.{Rises}
+use Rattle.words.specs.Words.{Words, at, nth, shared}
 use Rattle.words.proofs.Rising.{nth-less, nth-positive}
 use Rattle.words.proofs.Words.{apart, further, leaves, shared-at, shared-comm, shared-le, shared-trans}
-use Rattle.format.specs.Nodes.{deep}
+use Rattle.format.specs.Spans.{deep}
 use Rattle.format.proofs.Spans.{first-proper, span-share}
 use Rattle.answers.specs.Questions.{place, reached}
 use Rattle.answers.proofs.Nearest.{reached-most}
 use Rattle.descent.proofs.Cuts.{group-place}
 use Rattle.descent.proofs.Reach.{reach-child, reach-leaf, reach-none, reach-root, reach-short}
 use Rattle.descent.proofs.Rows.{Kid, root-sits, row-end, row-kid, several, sits-told}
-use Rattle.descent.specs.Vocabulary.{Cut, Descended, Found, Halts, Highest, In, Passed, Sits, Sought, Step, Taken, from, node, reachIn, upto}
+use Rattle.descent.specs.Vocabulary.{Cut, Descended, Found, Halts, Highest, In, Passed, Sits, Sought, ChildStep, Taken, from, node, reachIn, upto}
 
 module _ (ws : Words) where
   in-or-out : (v i : ℕ) → In ws v i ⊎ ((i < from ws v) ⊎ (upto ws v ≤ i))
@@ -265,7 +266,7 @@ module _ (ws : Words) where
             go j P a b (inl m) h = subst P (sym (old j m)) (a m)
             go j P a b (inr m) h = let e : n ≡ j = omega arith in subst P (sym new ∙ ap (λ (i : ℕ). getD (set p n c) i 0) e) b
 
-            steps : (j : ℕ) → suc j < n + 1 → (suc j < n) ⊎ (n ≤ suc j) → Step ws q (getD (set p n c) j 0) (getD (set p n c) (suc j) 0)
+            steps : (j : ℕ) → suc j < n + 1 → (suc j < n) ⊎ (n ≤ suc j) → ChildStep ws q (getD (set p n c) j 0) (getD (set p n c) (suc j) 0)
             steps j h (inl m) = rw (old j (omega arith), old (suc j) m) (t .step j m)
             steps j h (inr m) =
                 let e : n ≡ suc j = omega arith in

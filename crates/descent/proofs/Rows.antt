@@ -17,22 +17,24 @@ use mathlib.Core.Logic.{_⊎_, inl, inr}
 use mathlib.Core.List.{List, [], _∷_, _++_, append-assoc, append-nil}
 use lib.ListN.{length, getD, drop, length-append, length-drop}
 use lib.Seq.{take-length, drop-drop, drop-at}
-use Rattle.words.specs.Words.{Rises, Words, at, nth, span}
+use Rattle.words.specs.Rising.{Rises, span}
+use Rattle.words.specs.Words.{Words, at, nth}
 use Rattle.words.proofs.Rising.{span-length}
 use Rattle.words.proofs.Words.{apart}
-use Rattle.format.specs.Nodes.{Node, deep, fork, leaf, nodeTable, rowTable, table}
+use Rattle.format.specs.Spans.{deep, rowTable}
+use Rattle.format.specs.Nodes.{Node, fork, leaf, nodeTable, table}
 use Rattle.format.proofs.Groups.{table-root}
 use Rattle.format.proofs.Spans.{at-rises, ranked-rest, ranked-span, span-share, table-more, table-none, table-one, table-run}
 use Rattle.descent.specs.Vocabulary.{RowFrom, Seeking, Sits, Sought, from, noNode, node, upto}
 
 -- ---- the record at the front of what stands from v on
 
-record Headed (t : List Node) (v : ℕ) (x : Node) (rest : List Node) : Type 0 where
+record RowHead (t : List Node) (v : ℕ) (x : Node) (rest : List Node) : Type 0 where
   is : getD t v noNode ≡ x
   inside : v < length t
   tail : drop (suc v) t ≡ rest
 
-headed : (t : List Node) (v : ℕ) (x : Node) (rest : List Node) → drop v t ≡ x ∷ rest → Headed t v x rest
+headed : (t : List Node) (v : ℕ) (x : Node) (rest : List Node) → drop v t ≡ x ∷ rest → RowHead t v x rest
 headed [] zero x rest e = absurd (let z : _≡_ {A = ℕ} 0 1 = cc in omega arith)
 headed [] (suc v) x rest e = absurd (let z : _≡_ {A = ℕ} 0 1 = cc in omega arith)
 headed (y ∷ t) zero x rest e = record { is = cc; inside = omega arith; tail = cc }
@@ -160,13 +162,13 @@ module _ (ws : Words) where
         })
 
     -- where the run of names from lo on with one symbol at d ends
-    record RunTo (d lo hi m : ℕ) : Type 0 where
+    record RowRun (d lo hi m : ℕ) : Type 0 where
       past : lo < m
       upon : m ≤ hi
       same : at (nth ws (pred m)) d ≡ at (nth ws lo) d
       other : m < hi → at (nth ws m) d ≡ at (nth ws lo) d → ⊥
 
-    run-to : (d lo hi k m : ℕ) → m + k ≡ hi → lo < m → at (nth ws (pred m)) d ≡ at (nth ws lo) d → (n : ℕ) × RunTo d lo hi n
+    run-to : (d lo hi k m : ℕ) → m + k ≡ hi → lo < m → at (nth ws (pred m)) d ≡ at (nth ws lo) d → (n : ℕ) × RowRun d lo hi n
     run-to d lo hi zero m e l s = (m, record { past = l; upon = omega arith; same = s; other = λ h. absurd (lt-irrefl m (omega arith)) })
     run-to d lo hi (suc k) m e l s = elim (ℕ-discrete (at (nth ws m) d) (at (nth ws lo) d)) [
       | yes f ↦ run-to d lo hi k (suc m) (omega arith) (omega arith) f
@@ -218,7 +220,7 @@ module _ (ws : Words) where
             greater : (x : ℕ) → (x ≡ at (nth ws mid) d → ⊥) → at (nth ws mid) d ≤ x → at (nth ws mid) d < x
             greater x no-eq le = elim (ℕ-discrete x (at (nth ws mid) d)) [ yes e ↦ absurd (no-eq e) | no n ↦ omega arith ]
 
-            kid : (n : ℕ) × RunTo d mid hi n → Kid d c mid hi stop
+            kid : (n : ℕ) × RowRun d mid hi n → Kid d c mid hi stop
             kid (n, g) =
                 let s : ℕ = at (nth ws mid) d in
                 let own : List Node = nodeTable mid s (span ws mid n) in

@@ -4,23 +4,23 @@
 --     reachIn              where q ends that has come down to the names from lo up to hi
 --     RowFrom, Seeking, Sought    a place in a node's row of children; the first child whose symbol is not below s
 --     Cut                  names parted at r by their symbols at d
---     Step, Taken, Halts   from a node to the child with q's symbol; q goes no further
+--     ChildStep, Taken, Halts   from a node to the child with q's symbol; q goes no further
 --     Passed, Descended      the nodes passed so far, the last one v; the whole descent
---     Highest, Found       the highest node of a path that is deep enough; it holds the names that share reached-most with q
---     Group                the names from lo up to hi are those that share the reached-most, n symbols, with q
+--     Highest, Found       the highest node of a path that is deep enough; it holds the names that share most with q
+--     Group                the names from lo up to hi are those that share most with q, n symbols
 --     asked                the word of a question; shut, so that it can be inferred
 --     NodesAt, Searchable  bytes hold the records of a table; what every step of a search asks of its book
 -- Laws: Cuts, Reach, Rows, Paths, Bytes. Assumes nothing: these are definitions.
-use Prim.Native.Nat.{ℕ, _+_, _-_, _*_, _≤_, _<_, suc, pred}
+use Prim.Native.Nat.{ℕ, _+_, _*_, _≤_, _<_, suc, pred}
 use mathlib.Core.Path.{_≡_}
 use mathlib.Core.Logic.{_⊎_}
 use mathlib.Core.List.{List, _++_}
 use lib.ListN.{length, getD, drop}
-use Rattle.words.specs.Words.{Bytes, Rises, Rule, Words, at, nth, shared, span, word}
-use Rattle.format.specs.Book.{number, trailerSize, wordsOf}
-use Rattle.format.specs.Nodes.{Node, nodeTable, rowTable, table}
+use Rattle.words.specs.Rising.{Rises, span}
+use Rattle.words.specs.Words.{Bytes, Rule, Words, at, nth, shared, word}
+use Rattle.format.specs.Spans.{rowTable, wordsOf, Ranked}
+use Rattle.format.specs.Nodes.{Node, nodeTable, table}
 use Rattle.format.specs.Records.{longest, mostNames}
-use Rattle.format.proofs.Groups.{Ranked}
 use Rattle.standing.specs.Maps.{Map, Roomy, nodeIn, recordAt}
 use Rattle.answers.specs.Questions.{reachWithin, reached}
 
@@ -92,7 +92,7 @@ pub record Sought (ws : Words) (v s c : ℕ) : Type 0 where
 
 -- ---- the path
 
-pub record Step (ws : Words) (q : List ℕ) (u v : ℕ) : Type 0 where
+pub record ChildStep (ws : Words) (q : List ℕ) (u v : ℕ) : Type 0 where
   pub low : from ws u ≤ from ws v
   pub high : upto ws v ≤ upto ws u
   pub deeper : node ws u .depth < node ws v .depth
@@ -101,7 +101,7 @@ pub record Step (ws : Words) (q : List ℕ) (u v : ℕ) : Type 0 where
 -- q goes from v to its child c
 pub record Taken (ws : Words) (q : List ℕ) (v c : ℕ) : Type 0 where
   pub sits : Sits ws c
-  pub step : Step ws q v c
+  pub step : ChildStep ws q v c
   pub on : reachIn q ws (from ws v) (upto ws v) ≡ reachIn q ws (from ws c) (upto ws c)
 
 -- q goes no further than v: its first name is the one reached, and if a name is q itself, it is that one
@@ -119,7 +119,7 @@ pub record Passed (ws : Words) (q : List ℕ) (p : List ℕ) (n v : ℕ) : Type 
   pub root : getD p 0 0 ≡ 0
   pub sits : (j : ℕ) → j < n → Sits ws (getD p j 0)
   pub around : (j : ℕ) → j < n → (from ws (getD p j 0) ≤ from ws v) × (upto ws v ≤ upto ws (getD p j 0))
-  pub step : (j : ℕ) → suc j < n → Step ws q (getD p j 0) (getD p (suc j) 0)
+  pub step : (j : ℕ) → suc j < n → ChildStep ws q (getD p j 0) (getD p (suc j) 0)
   pub left : reached q ws ≡ reachIn q ws (from ws v) (upto ws v)
   pub kept : (i : ℕ) → i < length ws → nth ws i ≡ q → In ws v i
 
@@ -137,7 +137,7 @@ pub record Highest (ws : Words) (p : List ℕ) (n m r : ℕ) : Type 0 where
   pub above : (j : ℕ) → j < index → node ws (getD p j 0) .depth < m
   pub deep : (m ≤ node ws r .depth) ⊎ (suc index ≡ n)
 
--- ---- the group that shares reached-most
+-- ---- the group that shares most
 
 pub record Group (ws : Words) (q : List ℕ) (n lo hi : ℕ) : Type 0 where
   pub some : lo < hi
@@ -181,7 +181,3 @@ pub record Searchable (ρ : Rule) (s : Bytes) (μ : Map) : Type 0 where
   pub small : length (table (wordsOf ρ s)) < 2 * mostNames
   pub short : (i : ℕ) → length (nth (wordsOf ρ s) i) ≤ longest
   pub table : NodesAt μ s (wordsOf ρ s)
-
--- where a book's trailer says that its node table starts
-unfoldable pub startIn : Bytes → ℕ
-startIn s = number s (length s - trailerSize + 6)

@@ -1,9 +1,9 @@
 -- Laws of the code that reads and judges one block, one for each way through it.
 --     entry-not, entry-is       the last test of an entry
 --     name-read, name-size      the cursor
---     Held, held-..             the loop over a block, with its buffer
+--     BlockRead, held-..             the loop over a block, with its buffer
 --     next-..                   a block and the name before it
---     Reached                   the loop to a name that is read back
+--     ReadTo                   the loop to a name that is read back
 -- Assumes nothing.
 use Prim.Native.Nat.{ℕ, _+_, _-_, _≤_, _<_}
 use native.Mathlib.Omega.{arith}
@@ -75,23 +75,23 @@ says-false b o e name len true h = absurd (false≠true h)
 says-false b o e name len false h = λ k j. let z : len ≡ len - 0 = omega arith in k (subst (λ (x : ℕ). Step b o e (take x name)) z j)
 
 -- the loop over a block, with its buffer
-pub record Held (b : Bytes) (e o₀ m o : ℕ) (name : Bytes) (len left : ℕ) : Type 0 where
+pub record BlockRead (b : Bytes) (e o₀ m o : ℕ) (name : Bytes) (len left : ℕ) : Type 0 where
   pub size : length name ≡ 200
   pub room : len ≤ 200
   pub blocked : Blocked b e o₀ m o (take len name) left
 
-pub held-start : (b : Bytes) (e o₀ m : ℕ) (name : Bytes) → e ≤ length b → length name ≡ 200 → Held b e o₀ m o₀ name 0 m
+pub held-start : (b : Bytes) (e o₀ m : ℕ) (name : Bytes) → e ≤ length b → length name ≡ 200 → BlockRead b e o₀ m o₀ name 0 m
 held-start b e o₀ m name h s = record { size = s; room = omega arith; blocked = blocked-start b e o₀ m h }
 
 -- all that the record tells is left to it
-module _ {b : Bytes} {e o₀ m o : ℕ} {name : Bytes} {len left : ℕ} (w : Held b e o₀ m o name len left) where
+module _ {b : Bytes} {e o₀ m o : ℕ} {name : Bytes} {len left : ℕ} (w : BlockRead b e o₀ m o name len left) where
   module _ (r : Bool) (says : EntrySays b o e (take (len - 0) name) r) where
     pub held-entry : not r ≡ false → EntryAt b o len
     held-entry h =
         blocked-entry b e o₀ m o (take len name) left (w .blocked) len (omega (arith, length-take len name, w .size, w .room)) (says-true b o e name len r h says)
 
     pub held-more : (next : ℕ) (name' : Bytes) (len' : ℕ) → not r ≡ false → 0 < left → NameRead b o (take len name) next len' name'
-        → Held b e o₀ m next name' len' (left - 1)
+        → BlockRead b e o₀ m next name' len' (left - 1)
     held-more next name' len' h some k = record {
       size = k .size;
       room = k .room;
@@ -140,17 +140,17 @@ stream-next b o prev [] h s = absurd (omega arith)
 stream-next b o prev (z ∷ zs) h (entry a q s) = (a, q, subst (λ (x : Bytes). Stream b (entryEnd b o) x zs) (sym q) s)
 
 -- i names are read, the last of them is in the buffer, and the cursor stands at the next entry
-pub record Reached (b : Bytes) (start count o : ℕ) (name : Bytes) (len i : ℕ) : Type 0 where
+pub record ReadTo (b : Bytes) (start count o : ℕ) (name : Bytes) (len i : ℕ) : Type 0 where
   pub size : length name ≡ 200
   pub room : len ≤ 200
   pub ask : ReadAsk b start count
   pub upto : i ≤ count
   pub others : (xs : List Bytes) → Stream b start [] xs → count < length xs → Stream b o (take len name) (drop i xs)
 
-pub reached-start : (b : Bytes) (start count : ℕ) (name : Bytes) → ReadAsk b start count → length name ≡ 200 → Reached b start count start name 0 0
+pub reached-start : (b : Bytes) (start count : ℕ) (name : Bytes) → ReadAsk b start count → length name ≡ 200 → ReadTo b start count start name 0 0
 reached-start b start count name ask h = record { size = h; room = omega arith; ask = ask; upto = omega arith; others = λ xs s g. s }
 
-module _ {b : Bytes} {start count o : ℕ} {name : Bytes} {len i : ℕ} (w : Reached b start count o name len i) where
+module _ {b : Bytes} {start count o : ℕ} {name : Bytes} {len i : ℕ} (w : ReadTo b start count o name len i) where
   next-of : (xs : List Bytes) → Stream b start [] xs → count < length xs
       → EntryAt b o (length (take len name)) × (nameAt b o (take len name) ≡ getD (drop i xs) 0 []) × Stream b (entryEnd b o) (nameAt b o (take len name)) (drop 1 (drop i xs))
   next-of xs s h = stream-next b o (take len name) (drop i xs) (omega (arith, length-drop i xs, w .upto)) (w .others xs s h)
@@ -160,7 +160,7 @@ module _ {b : Bytes} {start count o : ℕ} {name : Bytes} {len i : ℕ} (w : Rea
       let z : length (take len name) ≡ len = omega (arith, length-take len name, w .size, w .room) in
       subst (EntryAt b o) z (next-of (w .ask .names) (w .ask .stream) (w .ask .within) .0)
 
-  pub reached-more : i < count → (next : ℕ) (name' : Bytes) (len' : ℕ) → NameRead b o (take len name) next len' name' → Reached b start count next name' len' (i + 1)
+  pub reached-more : i < count → (next : ℕ) (name' : Bytes) (len' : ℕ) → NameRead b o (take len name) next len' name' → ReadTo b start count next name' len' (i + 1)
   reached-more l next name' len' r = record {
     size = r .size;
     room = r .room;

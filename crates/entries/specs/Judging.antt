@@ -33,12 +33,12 @@ BlockSays b o e m true name len = RunTo b e o [] m (take len name)
 BlockSays b o e m false name len = (l : Bytes) → RunTo b e o [] m l → ⊥
 
 -- the block's first name is above prev
-abbrev pub Above : Bytes → ℕ → Bytes → Type 0
-Above b o prev = less (word plain prev) (word plain (nameAt b o [])) ≡ true
+abbrev pub FirstAbove : Bytes → ℕ → Bytes → Type 0
+FirstAbove b o prev = less (word plain prev) (word plain (nameAt b o [])) ≡ true
 
 abbrev pub NextSays : Bytes → ℕ → ℕ → ℕ → Bytes → Bool → Bytes → ℕ → Type 0
-NextSays b o e m prev true name len = RunTo b e o [] m (take len name) × Above b o prev
-NextSays b o e m prev false name len = (l : Bytes) → RunTo b e o [] m l → Above b o prev → ⊥
+NextSays b o e m prev true name len = RunTo b e o [] m (take len name) × FirstAbove b o prev
+NextSays b o e m prev false name len = (l : Bytes) → RunTo b e o [] m l → FirstAbove b o prev → ⊥
 
 abbrev pub WalkSays : Bytes → ℕ → ℕ → ℕ → ℕ → Bool → Type 0
 WalkSays b k s u n true = Has b k s u n s 0 []

@@ -110,15 +110,15 @@ pub fn check_block(book: &[u8], start: usize, end: usize, m: usize, name: &mut [
     Last { ok: true, len }
 }
 
-// Where the block ends whose offset stands at t: at the next offset, or, as the last one, at s.
-fn block_end(book: &[u8], k: usize, s: usize, t: usize, left: usize) -> usize
-    requires { ⌜ t + 4 ≤ length (now book) ⌝ }
-    ensures { λ r. ⌜ r ≡ endOf (now (book .entry)) k s t left ⌝ }
+// Where the block ends whose offset stands at `slot`: at the next offset, or, as the last one, where the block table starts.
+fn block_end(book: &[u8], k: usize, blocks: usize, slot: usize, left: usize) -> usize
+    requires { ⌜ slot + 4 ≤ length (now book) ⌝ }
+    ensures { λ r. ⌜ r ≡ endOf (now (book .entry)) k blocks slot left ⌝ }
 {
     if left <= k {
-        return s;
+        return blocks;
     }
-    numbers::number_at(book, t + 2)
+    numbers::number_at(book, slot + 2)
 }
 
 // Whether a block of m names stands from an offset to `end`, its first name above the first `before` bytes of the lent name, whose place
@@ -146,25 +146,26 @@ fn next_block(
     check_block(book, start, end, m, name)
 }
 
-// Whether the bytes before s are the entries of some sound list of n names in blocks of k, and those from s to u their offsets.
-pub fn check_entries(book: &[u8], n: usize, k: usize, s: usize, u: usize) -> bool
-    requires { ⌜ Frame (now book) k s u ⌝ }
-    ensures { λ r. ⌜ WalkSays (now (book .entry)) k s u n r ⌝ }
+// Whether the bytes before `blocks` are the entries of some sound list of n names in blocks of k, and those from there to `nodes` their
+// offsets.
+pub fn check_entries(book: &[u8], n: usize, k: usize, blocks: usize, nodes: usize) -> bool
+    requires { ⌜ Frame (now book) k blocks nodes ⌝ }
+    ensures { λ r. ⌜ WalkSays (now (book .entry)) k blocks nodes n r ⌝ }
 {
     let mut at: usize = 0;
-    let mut t = s;
+    let mut slot = blocks;
     let mut i: usize = 0;
     let mut name = [0u8; 200];
     let mut len: usize = 0;
     while i < n {
-        if u - t < 2 {
+        if nodes - slot < 2 {
             return false;
         }
-        if numbers::number_at(book, t) != at {
+        if numbers::number_at(book, slot) != at {
             return false;
         }
-        let end = block_end(book, k, s, t, n - i);
-        if s < end {
+        let end = block_end(book, k, blocks, slot, n - i);
+        if blocks < end {
             return false;
         }
         let m = numbers::lesser(n - i, k);
@@ -174,13 +175,13 @@ pub fn check_entries(book: &[u8], n: usize, k: usize, s: usize, u: usize) -> boo
         }
         len = last.len;
         at = end;
-        t += 2;
+        slot += 2;
         i += m;
     }
-    if at != s {
+    if at != blocks {
         return false;
     }
-    t == u
+    slot == nodes
 }
 
 // The name of entry number count, counted from 0, of a block whose first entry stands at `start`.

@@ -13,10 +13,11 @@ use lib.Dec.{leb}
 use lib.ListN.{length, getD, take, length-append}
 use lib.Seq.{take-append-seam}
 use borrow.Author.Tests.{leb-true, le-leb}
-use Rattle.words.specs.Words.{All, Bytes, Rule, both, cons, nil, pick, same, word}
+use Rattle.words.specs.Rising.{All, cons, nil}
+use Rattle.words.specs.Words.{Bytes, Rule, both, pick, same, word}
 use Rattle.words.proofs.Lists.{all-at}
 use Rattle.words.proofs.Words.{both-true, same-refl, same-true}
-use Rattle.format.specs.Book.{Book, NoBook, allFields, blockPart, book, entryPart, fits, goodBlock, longestBook, mark, namesOf, nodePart, nodeSize, number, numbers, opened, trailer, trailerSize}
+use Rattle.format.specs.Book.{Book, NoBook, allFields, blockPart, book, entryPart, fits, goodBlock, longestBook, mark, namesOf, nodePart, nodeSize, number, numbers, opened, told, trailer, trailerSize}
 use Rattle.format.specs.Entries.{decode}
 use Rattle.format.specs.Nodes.{Node, table}
 use Rattle.format.specs.Records.{sound}
@@ -99,7 +100,7 @@ module _ (ρ : Rule) (k : ℕ) (xs : List Bytes) where
         (cons {a = trailerAt + trailerSize} (omega (arith, book-length, f .short)) nil)))))
 
     -- number j of the trailer
-    pub read-field : (j : ℕ) → j < 6 → number (book ρ k xs) (length (book ρ k xs) - trailerSize + 2 * j) ≡ getD trailerNumbers j 0
+    pub read-field : (j : ℕ) → j < 6 → told (book ρ k xs) j ≡ getD trailerNumbers j 0
     read-field j h =
         let o : length (book ρ k xs) - trailerSize + 2 * j ≡ length body + 2 * j = omega (arith, book-length, body-length) in
         ap₂ number book-split o ∙ number-past body (numbers trailerNumbers ++ mark) (2 * j)
@@ -127,7 +128,7 @@ unfolding opened
 book-opened ρ s k xs e = go (both (fits ρ j ys) (same (book ρ j ys) s)) refl e
   where
     j : ℕ
-    j = number s (length s - trailerSize + 2)
+    j = told s 1
 
     ys : List Bytes
     ys = namesOf s

@@ -1,6 +1,6 @@
 -- Groups of a rising list of words, and the equations of the node table. Nothing after them looks at what counts down.
 --     depth-share, depth-last                the depth of a group, in two ways
---     Ranked, ranked-group, ranked-right                 the words of a row: they rise, and their symbols at the depth never fall
+--     ranked-group, ranked-right                 the words of a row: they rise, and their symbols at the depth never fall
 --     children                               a node's groups: not empty, in rising order, smaller than the node
 --     node-one, node-more, row-none, row-run the table's equations
 --     deeper                                 a node's depth exceeds its parent's
@@ -17,11 +17,13 @@ use mathlib.Core.List.{List, [], _∷_, _++_, append-nil}
 use lib.Dec.{eqb}
 use lib.ListN.{length, length-append}
 use borrow.Author.Tests.{eqb-true, eqb-false, eq-eqb, ne-eqb}
-use Rattle.words.specs.Words.{All, Rises, Words, at, cons, less, nil, pick, rise, shared}
+use Rattle.words.specs.Rising.{All, Rises, cons, nil, rise}
+use Rattle.words.specs.Words.{Words, at, less, pick, shared}
 use Rattle.words.proofs.Lists.{all-append, all-head, all-map, all-right, all-tail}
 use Rattle.words.proofs.Rising.{Above, rises-left, rises-right}
 use Rattle.words.proofs.Words.{between, further, less-at, less-parts, shared-comm, shared-le, shared-self, shared-trans}
-use Rattle.format.specs.Nodes.{Node, depth, first, fork, glue, groups, leaf, nodeTable, rowOf, rowTable, table, tableWithin}
+use Rattle.format.specs.Spans.{Climbs, Ranked, climb, flat, rowTable}
+use Rattle.format.specs.Nodes.{Node, depth, first, fork, glue, groups, leaf, nodeTable, rowBy, table, tableWithin}
 
 -- ---- the depth of a group
 
@@ -35,7 +37,7 @@ unfolding depth
 depth-length w [] = omega arith
 depth-length w (v ∷ vs) = omega (arith, depth-length w vs)
 
--- any two-groups words of a list share d symbols
+-- any two words of a list share d symbols
 abbrev pub Share : ℕ → Words → Type 0
 Share d ws = All (λ y. All (λ z. d ≤ shared y z) ws) ws
 
@@ -77,10 +79,6 @@ depth-last w v (u ∷ us) (rise p (cons h a) (rise q b r)) =
 
 -- ---- symbols number d never fall from word to word
 
-pub data Climbs (d : ℕ) : Words → Type 0 where
-  flat : Climbs d []
-  climb : {w : List ℕ} {ws : Words} → All (λ v. at w d ≤ at v d) ws → Climbs d ws → Climbs d (w ∷ ws)
-
 pub climbs-right : {d : ℕ} (xs ys : Words) → Climbs d (xs ++ ys) → Climbs d ys
 climbs-right [] ys c = c
 climbs-right (x ∷ xs) ys (climb a c) = climbs-right xs ys c
@@ -92,11 +90,6 @@ above-at w (v ∷ vs) d (cons h a) (cons k s) = cons (less-at w v d h k) (above-
 pub climbs : (ws : Words) (d : ℕ) → Rises ws → Share d ws → Climbs d ws
 climbs [] d r s = flat
 climbs (w ∷ ws) d (rise p a r) (cons h s) = climb (above-at w ws d a (all-tail h)) (climbs ws d r (all-map (λ y k. all-tail k) s))
-
--- the words of a row: they rise, and never fall at d
-pub record Ranked (d : ℕ) (ws : Words) : Type 0 where
-  pub rises : Rises ws
-  pub climbs : Climbs d ws
 
 pub ranked-group : (w v : List ℕ) (vs : Words) → Rises (w ∷ v ∷ vs) → Ranked (depth w (v ∷ vs)) (w ∷ v ∷ vs)
 ranked-group w v vs r = record { rises = r; climbs = climbs (w ∷ v ∷ vs) (depth w (v ∷ vs)) r (depth-share w (v ∷ vs)) }
@@ -202,10 +195,10 @@ abbrev SameTable : ℕ → ℕ → Type 0
 SameTable f e = (i s : ℕ) (g : Words) → Rises g → length g ≤ f → length g ≤ e → tableWithin f i s g ≡ tableWithin e i s g
 
 abbrev pub rowWithin : ℕ → ℕ → ℕ → List Words → List Node
-rowWithin f i d gs = rowOf (λ j t g. tableWithin f j t g) i d gs
+rowWithin f i d gs = rowBy (λ j t g. tableWithin f j t g) i d gs
 
 row-same : (f e : ℕ) → SameTable f e → (i d : ℕ) (gs : List Words) → Rises (joinedGroups gs) → Short f gs → Short e gs → rowWithin f i d gs ≡ rowWithin e i d gs
-unfolding rowOf
+unfolding rowBy
 row-same f e same i d [] r a b = refl
 row-same f e same i d (h ∷ gs) r (cons l a) (cons m b) =
     ap₂ (λ (x y : List Node). x ++ y) (same i (at (first h) d) h (rises-left h (joinedGroups gs) r) l m)
@@ -254,7 +247,7 @@ node-more i s w v vs r =
     (row-same n (suc n) (within-same n (suc n)) i d (groups d (w ∷ v ∷ vs)) (c .rises) (c .small) (shorter _ (omega arith) (c .small)))
 
 pub row-none : (i d : ℕ) → rowTable i d [] ≡ []
-unfolding rowTable rowOf groups
+unfolding rowTable rowBy groups
 row-none i d = refl
 
 -- a run of words with one symbol is one group
@@ -279,7 +272,7 @@ groups-run d w (v ∷ g) rest (cons e s) a =
 -- a row: the node of the words with its first symbol, and then the row of the others
 pub row-run : (i d : ℕ) (w : List ℕ) (g rest : Words) → Rises (w ∷ g ++ rest) → Same d w g → All (λ y. at w d < at y d) rest
     → rowTable i d (w ∷ g ++ rest) ≡ nodeTable i (at w d) (w ∷ g) ++ rowTable (i + length (w ∷ g)) d rest
-unfolding nodeTable rowTable rowOf
+unfolding nodeTable rowTable rowBy
 row-run i d w g rest r s a =
     let n : ℕ = length (w ∷ g ++ rest) in
     let l : n ≡ length (w ∷ g) + length rest = length-append (w ∷ g) rest in
@@ -305,7 +298,7 @@ Few f = (i s : ℕ) (w : List ℕ) (g : Words) → Rises (w ∷ g) → length (w
 
 rows-few : (f : ℕ) → Few f → (i d : ℕ) (gs : List Words) → Parted d gs → Rises (joinedGroups gs) → Short f gs
     → length (rowWithin f i d gs) + length gs ≤ 2 * length (joinedGroups gs)
-unfolding rowOf
+unfolding rowBy
 rows-few f few i d gs whole r a = omega arith
 rows-few f few i d gs (part {w = w} {g = g} {gs = hs} s u p) r (cons l a) =
     omega (

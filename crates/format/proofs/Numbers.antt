@@ -14,7 +14,8 @@ use mathlib.Core.Path.{_≡_, refl, sym, ap, ap₂, _∙_, subst}
 use mathlib.Core.List.{List, [], _∷_, _++_}
 use lib.ListN.{length, getD, take, drop, take-append-drop}
 use lib.Seq.{drop-append-le, getD-append-add, length-take-le, slice, slice-cons, slice-empty}
-use Rattle.words.specs.Words.{All, Bytes, InBytes, Lawful, Rule, at, cons, nil, word}
+use Rattle.words.specs.Rising.{All, cons, nil}
+use Rattle.words.specs.Words.{Bytes, InBytes, Lawful, Rule, at, word}
 use Rattle.words.proofs.Lists.{all-from, all-left}
 use Rattle.format.specs.Book.{number, numbers}
 

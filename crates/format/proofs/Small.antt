@@ -9,13 +9,14 @@ use native.Mathlib.Omega.{arith}
 use mathlib.Core.Path.{_≡_, refl, sym, ap, subst}
 use mathlib.Core.List.{List, [], _∷_, _++_}
 use lib.ListN.{length, take, drop, length-append, length-drop, take-append-drop}
-use Rattle.words.specs.Words.{All, Bytes, InBytes, Rises, Rule, Words, at, cons, nil, shared}
+use Rattle.words.specs.Rising.{All, Rises, cons, nil}
+use Rattle.words.specs.Words.{Bytes, InBytes, Rule, Words, at, shared}
 use Rattle.words.proofs.Lists.{all-append, all-head, all-left, all-right}
 use Rattle.words.proofs.Rising.{rises-left, rises-right}
 use Rattle.words.proofs.Words.{shared-comm, shared-le}
 use Rattle.format.specs.Book.{allFields, blockPart, book, entryPart, fields, joined, namesOf, nodePart, number, trailer, trailerSize}
 use Rattle.format.specs.Entries.{blocks, blocksFrom, decode, decodeFrom, entry, front}
-use Rattle.format.specs.Nodes.{Node, depth, groups, nodeTable, rowOf, table, tableWithin}
+use Rattle.format.specs.Nodes.{Node, depth, groups, nodeTable, rowBy, table, tableWithin}
 use Rattle.format.specs.Records.{longest}
 use Rattle.format.proofs.Book.{Fits, read-names}
 use Rattle.format.proofs.Entries.{by-blocks, entries-first}
@@ -40,7 +41,7 @@ fields-append (r ∷ rs) ss = ap (λ (l : List ℕ). fields r ++ l) (fields-appe
 
 row-small : (f : ℕ) → SmallTable f → (i d : ℕ) (gs : List Words) → Parted d gs → Rises (joinedGroups gs) → All Modest (joinedGroups gs) → Short f gs
     → i + length (joinedGroups gs) ≤ 2000 → Two (allFields (rowWithin f i d gs))
-unfolding rowOf allFields
+unfolding rowBy allFields
 row-small f small i d gs whole r a t n = nil
 row-small f small i d gs (part {w = w} {g = g} {gs = hs} e u p) r a (cons l t) n =
     subst Two (sym (fields-append (tableWithin f i (at w d) (w ∷ g)) (rowWithin f (i + length (w ∷ g)) d hs)))

@@ -14,12 +14,14 @@ use mathlib.Core.Logic.{_⊎_, inl, inr}
 use mathlib.Core.List.{List, [], _∷_, _++_, append-assoc}
 use lib.ListN.{length}
 use lib.Seq.{take-length, slice-empty, length-slice}
-use Rattle.words.specs.Words.{All, Rises, Words, at, cons, nil, nth, shared, span}
+use Rattle.words.specs.Rising.{All, Rises, cons, nil, span}
+use Rattle.words.specs.Words.{Words, at, nth, shared}
 use Rattle.words.proofs.Lists.{all-append}
 use Rattle.words.proofs.Rising.{nth-less, nth-positive, span-all, span-cons, span-length, span-one, span-rises, span-split, span-two}
 use Rattle.words.proofs.Words.{apart, between, less-at, less-parts, shared-comm, shared-le, shared-self, shared-trans}
-use Rattle.format.specs.Nodes.{deep, depth, fork, leaf, nodeTable, rowTable, table}
-use Rattle.format.proofs.Groups.{Climbs, Ranked, Same, Share, climbs, depth-last, last, node-few, node-more, node-one, ranked-group, ranked-right, row-none, row-run, run-end, run-same, table-root}
+use Rattle.format.specs.Spans.{deep, rowTable, Climbs, Ranked}
+use Rattle.format.specs.Nodes.{depth, fork, leaf, nodeTable, table}
+use Rattle.format.proofs.Groups.{Same, Share, climbs, depth-last, last, node-few, node-more, node-one, ranked-group, ranked-right, row-none, row-run, run-end, run-same, table-root}
 
 module _ (ws : Words) where
   last-snoc : (v : List ℕ) (vs us : Words) (z : List ℕ) → v ∷ vs ≡ us ++ (z ∷ []) → last v vs ≡ z
@@ -66,7 +68,7 @@ module _ (ws : Words) where
   pub ranked-rest : (d lo mid hi : ℕ) → lo ≤ mid → mid ≤ hi → hi ≤ length ws → Ranked d (span ws lo hi) → Ranked d (span ws mid hi)
   ranked-rest d lo mid hi a b c r = ranked-right d (span ws lo mid) (span ws mid hi) (subst (Ranked d) (span-split ws lo mid hi a b c) r)
 
-  -- a row: the node of the span ws whose words have its first symbol, and the row after it
+  -- a row: the node of the words that have its first symbol, and the row after it
   pub table-run : (d lo mid hi : ℕ) → lo < mid → mid ≤ hi → hi ≤ length ws → Ranked d (span ws lo hi)
       → at (nth ws (pred mid)) d ≡ at (nth ws lo) d → (mid < hi → at (nth ws mid) d ≡ at (nth ws lo) d → ⊥)
       → rowTable lo d (span ws lo hi) ≡ nodeTable lo (at (nth ws lo) d) (span ws lo mid) ++ rowTable mid d (span ws mid hi)

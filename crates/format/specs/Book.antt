@@ -4,7 +4,8 @@
 --     entryPart, blockPart, nodePart, trailer    the four parts
 --     book              the whole, for a block size and names
 --     fits              a book can be built from these
---     namesOf, wordsOf  the names that bytes would be the book of, and their words
+--     told              what the trailer tells
+--     namesOf           the names that bytes would be the book of
 --     opened            the block size and the names of a book, or none
 -- The laws are in proofs/Book.antt. Assumes nothing: these are definitions.
 use Prim.Native.Nat.{ℕ, _+_, _-_, _*_, _/_, _%_}
@@ -12,7 +13,7 @@ use mathlib.Core.Bool.{Bool}
 use mathlib.Core.List.{List, [], _∷_, _++_, map}
 use lib.Dec.{leb}
 use lib.ListN.{length, getD, take}
-use Rattle.words.specs.Words.{Bytes, Rule, Words, pick, both, word, same}
+use Rattle.words.specs.Words.{Bytes, Rule, pick, both, word, same}
 use Rattle.format.specs.Records.{sound}
 use Rattle.format.specs.Entries.{blocks, offsets, decode}
 use Rattle.format.specs.Nodes.{Node, table}
@@ -23,6 +24,9 @@ longestBook = 65535
 unfoldable pub numbers : List ℕ → Bytes
 numbers [] = []
 numbers (n ∷ ns) = n % 256 ∷ n / 256 % 256 ∷ numbers ns
+
+unfoldable pub number : Bytes → ℕ → ℕ
+number s o = getD s o 0 + 256 * getD s (o + 1) 0
 
 unfoldable pub joined : List Bytes → Bytes
 joined [] = []
@@ -79,23 +83,21 @@ goodBlock k = both (leb 1 k) (leb k 64)
 unfoldable pub fits : Rule → ℕ → List Bytes → Bool
 fits ρ k xs = both (goodBlock k) (both (sound ρ xs) (leb (length (book ρ k xs)) longestBook))
 
-unfoldable pub number : Bytes → ℕ → ℕ
-number s o = getD s o 0 + 256 * getD s (o + 1) 0
-
 pub data Opened : Type 0 where
   Book : ℕ → List Bytes → Opened
   NoBook : Opened
 
+-- number j of the trailer
+abbrev pub told : Bytes → ℕ → ℕ
+told s j = number s (length s - trailerSize + 2 * j)
+
 -- The trailer points back: it tells the block size and where the entries end. Their names are those that the bytes would have to be
 -- the book of; whether they are is seen by building it.
 unfoldable pub namesOf : Bytes → List Bytes
-namesOf s = decode (take (number s (length s - trailerSize + 4)) s)
-
-unfoldable pub wordsOf : Rule → Bytes → Words
-wordsOf ρ s = map (word ρ) (namesOf s)
+namesOf s = decode (take (told s 2) s)
 
 unfoldable pub opened : Rule → Bytes → Opened
 opened ρ s =
-    let k = number s (length s - trailerSize + 2) in
+    let k = told s 1 in
     let xs = namesOf s in
     pick (both (fits ρ k xs) (same (book ρ k xs) s)) (Book k xs) NoBook

@@ -3,3 +3,5 @@ pub mod Entries
 pub mod Nodes
 pub mod Book
 pub mod Outcomes
+pub mod Spans
+pub mod Example

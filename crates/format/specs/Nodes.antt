@@ -4,16 +4,14 @@
 --     groups            a row of children: one group for each symbol that follows there
 --     Node, leaf, fork  a record; that of one word; that of several
 --     nodeTable         a node's record, and then its row's
---     rowTable          the tables of a row of children, one after the other
 --     table             the whole
---     deep              the depth of the words from lo up to hi
 -- The equations, with nothing that counts down in them, and the laws are in proofs/Groups.antt and proofs/Spans.antt.
 -- Assumes nothing: these are definitions.
-use Prim.Native.Nat.{ℕ, zero, suc, _+_, min, pred}
+use Prim.Native.Nat.{ℕ, zero, suc, _+_, min}
 use mathlib.Core.List.{List, [], _∷_, _++_}
 use lib.Dec.{eqb}
 use lib.ListN.{length}
-use Rattle.words.specs.Words.{Words, pick, at, shared, nth}
+use Rattle.words.specs.Words.{Words, pick, at, shared}
 
 abbrev pub first : Words → List ℕ
 first [] = []
@@ -23,9 +21,6 @@ first (w ∷ ws) = w
 unfoldable pub depth : List ℕ → Words → ℕ
 depth w [] = length w
 depth w (v ∷ vs) = min (shared w v) (depth w vs)
-
-unfoldable pub deep : Words → ℕ → ℕ → ℕ
-deep ws lo hi = shared (nth ws lo) (nth ws (pred hi))
 
 -- w before groups of words that agree in symbol number d
 unfoldable pub glue : ℕ → List ℕ → List Words → List Words
@@ -52,9 +47,9 @@ leaf i s w = record { symbol = s; depth = suc (length w); first = i; names = 1; 
 abbrev pub fork : ℕ → ℕ → ℕ → Words → List Node → Node
 fork i s d ws row = record { symbol = s; depth = d; first = i; names = length ws; nodes = suc (length row) }
 
-unfoldable pub rowOf : (ℕ → ℕ → Words → List Node) → ℕ → ℕ → List Words → List Node
-rowOf node i d [] = []
-rowOf node i d (g ∷ gs) = node i (at (first g) d) g ++ rowOf node (i + length g) d gs
+unfoldable pub rowBy : (ℕ → ℕ → Words → List Node) → ℕ → ℕ → List Words → List Node
+rowBy node i d [] = []
+rowBy node i d (g ∷ gs) = node i (at (first g) d) g ++ rowBy node (i + length g) d gs
 
 -- A child is smaller than its group, so a count of the group's words is enough to count down.
 unfoldable pub tableWithin : ℕ → ℕ → ℕ → Words → List Node
@@ -63,14 +58,11 @@ tableWithin (suc n) i s [] = []
 tableWithin (suc n) i s (w ∷ []) = leaf i s w ∷ []
 tableWithin (suc n) i s (w ∷ v ∷ vs) =
     let d = depth w (v ∷ vs) in
-    let row = rowOf (λ j t g. tableWithin n j t g) i d (groups d (w ∷ v ∷ vs)) in
+    let row = rowBy (λ j t g. tableWithin n j t g) i d (groups d (w ∷ v ∷ vs)) in
     fork i s d (w ∷ v ∷ vs) row ∷ row
 
 unfoldable pub nodeTable : ℕ → ℕ → Words → List Node
 nodeTable i s ws = tableWithin (length ws) i s ws
-
-unfoldable pub rowTable : ℕ → ℕ → Words → List Node
-rowTable i d ws = rowOf (λ j t g. tableWithin (length ws) j t g) i d (groups d ws)
 
 -- the root's symbol is written 0
 unfoldable pub table : Words → List Node

@@ -12,14 +12,14 @@ use mathlib.Core.Bool.{Bool, false, not, true}
 use lib.ListN.{length, getD}
 use Rattle.words.specs.Words.{Bytes, at, nth, plain, shared, word}
 use Rattle.words.proofs.Words.{false≠true}
-use Rattle.format.specs.Book.{namesOf, nodeSize, number, trailerSize, wordsOf}
-use Rattle.format.specs.Nodes.{deep}
+use Rattle.format.specs.Book.{namesOf, nodeSize, trailerSize, told}
+use Rattle.format.specs.Spans.{deep, wordsOf}
 use Rattle.format.specs.Records.{longest}
 use Rattle.streams.specs.Streams.{Here, InBlocks, Known, entryEnd, lengthAt, offsetFrom, restAt}
 use Rattle.streams.proofs.Here.{here-fits, here-next, here-rises, here-symbol, name-short, words-count}
 use Rattle.standing.specs.Maps.{Roomy, inRows, recordAt}
 use Rattle.standing.specs.Stands.{Child, GroupAt, NodeAt}
-use Rattle.standing.proofs.Walk.{Ahead, Walk, deep-short, group-end, node-head, walk-done, walk-more, walk-next, walk-start}
+use Rattle.standing.proofs.Walk.{Expected, Walk, deep-short, group-end, node-head, walk-done, walk-more, walk-next, walk-start}
 use Rattle.neighbours.specs.Neighbours.{MeetAsk}
 use Rattle.neighbours.proofs.Meeting.{meet-low}
 use Rattle.inspect.specs.Check.{Ask, ForkSays, LeafSays, LedSays, LedTo, MayBeFork, NodeAsk, NodeSays, RowAsk, RowSays}
@@ -27,7 +27,7 @@ use Rattle.inspect.proofs.Nodes.{leaf-not, leaf-stands, says-no, says-y
 
 pub record Rows (b : Bytes) (lo₀ n d o₀ e o lo a : ℕ) : Type 0 where
   pub known : Known b
-  pub blocks : InBlocks b (number b (length b - trailerSize + 2)) (number b (length b - trailerSize + 4))
+  pub blocks : InBlocks b (told b 1) (told b 2)
   pub long : e + trailerSize ≤ length b
   pub several : 2 ≤ n
   pub within : lo₀ + n ≤ length (namesOf b)
@@ -84,7 +84,7 @@ module _ (b : Bytes) (lo₀ n d o₀ e : ℕ) where
     fit : Rows b lo₀ n d o₀ e o lo a → lo₀ + n ≤ length (wordsOf plain b)
     fit r = omega (arith, r .within, words-count b)
 
-    ahead : Rows b lo₀ n d o₀ e o lo a → GroupAt inRows b (wordsOf plain b) lo₀ (lo₀ + n) d o₀ e → Ahead inRows b (wordsOf plain b) lo₀ (lo₀ + n) d lo o e
+    ahead : Rows b lo₀ n d o₀ e o lo a → GroupAt inRows b (wordsOf plain b) lo₀ (lo₀ + n) d o₀ e → Expected inRows b (wordsOf plain b) lo₀ (lo₀ + n) d lo o e
     ahead r g = walk-next inRows b (wordsOf plain b) (r .known .rises) lo₀ (lo₀ + n) d o₀ (two r) (fit r) lo o (r .walk) e g
 
     -- ---- up to the child
@@ -146,7 +146,7 @@ module _ (b : Bytes) (lo₀ n d o₀ e : ℕ) where
         -- ---- several names
 
         -- several words share less than any name can have
-        shallow : Ahead inRows b (wordsOf plain b) lo₀ (lo₀ + n) d lo o e → 1 < recordAt inRows b o .names → recordAt inRows b o .depth < longest
+        shallow : Expected inRows b (wordsOf plain b) lo₀ (lo₀ + n) d lo o e → 1 < recordAt inRows b o .names → recordAt inRows b o .depth < longest
         shallow k many =
             let end : lo + recordAt inRows b o .names ≤ length (wordsOf plain b) = omega (arith, fit r, k .upto, r .upto) in
             let hd = node-head inRows b (wordsOf plain b) (r .known .rises) _ lo (lo + recordAt inRows b o .names) o (o + recordAt inRows b o .nodes * nodeSize) (omega (arith, k .some)) end (k .node) in

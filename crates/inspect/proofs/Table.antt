@@ -14,10 +14,12 @@ use lib.Dec.{eqb}
 use lib.ListN.{length, getD, take, drop, length-append, length-take, length-drop, length-map, take-append-drop}
 use lib.Seq.{slice, slice-empty, length-slice, take-length}
 use borrow.Author.Tests.{eqb-true, eqb-false, eq-eqb}
-use Rattle.words.specs.Words.{All, Bytes, InBytes, Words, cons, nil, plain, same, span, word}
+use Rattle.words.specs.Rising.{All, cons, nil, span}
+use Rattle.words.specs.Words.{Bytes, InBytes, Words, plain, same, word}
 use Rattle.words.proofs.Lists.{all-append, all-right}
 use Rattle.words.proofs.Words.{false≠true, plain-lawful, same-refl, same-true}
-use Rattle.format.specs.Book.{allFields, namesOf, nodePart, nodeSize, numbers, wordsOf}
+use Rattle.format.specs.Spans.{wordsOf}
+use Rattle.format.specs.Book.{allFields, namesOf, nodePart, nodeSize, numbers}
 use Rattle.format.specs.Nodes.{Node, nodeTable, table, tableWithin}
 use Rattle.format.specs.Records.{longest}
 use Rattle.format.proofs.Groups.{table-root}
@@ -35,16 +37,16 @@ use Rattle.inspect.proofs.Nodes.{leaf-not, leaf-stands}
 
 -- ---- names out of bytes are modest
 
-abbrev Small : Bytes → Type 0
-Small x = All (λ c. c < 256) x
+abbrev OnlyBytes : Bytes → Type 0
+OnlyBytes x = All (λ c. c < 256) x
 
-drop-bytes : (n : ℕ) (s : Bytes) → Small s → Small (drop n s)
-drop-bytes n s a = all-right (take n s) (drop n s) (subst Small (sym (take-append-drop n s)) a)
+drop-bytes : (n : ℕ) (s : Bytes) → OnlyBytes s → OnlyBytes (drop n s)
+drop-bytes n s a = all-right (take n s) (drop n s) (subst OnlyBytes (sym (take-append-drop n s)) a)
 
-pub stream-modest : {b prev : Bytes} {o : ℕ} {xs : List Bytes} → Small b → Small prev → Stream b o prev xs → All Modest (map (word plain) xs)
+pub stream-modest : {b prev : Bytes} {o : ℕ} {xs : List Bytes} → OnlyBytes b → OnlyBytes prev → Stream b o prev xs → All Modest (map (word plain) xs)
 stream-modest hb hp done = nil
 stream-modest {b} {prev} {o} hb hp (entry {x = x} a e t) =
-    let hx : Small x = subst Small e (all-append (take-bytes (getD b o 0) prev hp) (take-bytes (getD b (o + 1) 0) (drop (o + 2) b) (drop-bytes (o + 2) b hb))) in
+    let hx : OnlyBytes x = subst OnlyBytes e (all-append (take-bytes (getD b o 0) prev hp) (take-bytes (getD b (o + 1) 0) (drop (o + 2) b) (drop-bytes (o + 2) b hb))) in
     let l : length x ≤ longest = subst (λ (y : Bytes). length y ≤ longest) e (simp (length-append, length-take, length-drop) (omega (arith, a .short))) in
     cons {a = word plain x} (record { short = omega (arith, length-map x plain); symbols = λ d. word-high plain plain-lawful x hx d }) (stream-modest hb hx t)
 

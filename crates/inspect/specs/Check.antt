@@ -14,7 +14,8 @@ use mathlib.Core.Bool.{Bool, false, true}
 use lib.ListN.{getD, length}
 use lib.Seq.{slice}
 use Rattle.words.specs.Words.{Bytes, at, plain, same, word}
-use Rattle.format.specs.Book.{namesOf, nodePart, nodeSize, number, trailerSize, wordsOf}
+use Rattle.format.specs.Spans.{wordsOf}
+use Rattle.format.specs.Book.{namesOf, nodePart, nodeSize, trailerSize, told}
 use Rattle.format.specs.Nodes.{table}
 use Rattle.format.specs.Records.{longest}
 use Rattle.streams.specs.Streams.{Here, InBlocks, Known, restAt}
@@ -58,7 +59,7 @@ ForkSays b o e n d left false = MayBeFork b o e n d left → ⊥
 -- the n names from number lo on, one at least, are known, and the first one's entry stands at a
 pub record Ask (b : Bytes) (lo n a : ℕ) : Type 0 where
   pub known : Known b
-  pub blocks : InBlocks b (number b (length b - trailerSize + 2)) (number b (length b - trailerSize + 4))
+  pub blocks : InBlocks b (told b 1) (told b 2)
   pub some : 1 ≤ n
   pub within : lo + n ≤ length (namesOf b)
   pub here : Here b lo a
@@ -97,7 +98,7 @@ RowSays b o e lo n d r = Says (GroupAt inRows b (wordsOf plain b) lo (lo + n) d 
 
 pub record TableAsk (b : Bytes) (start end n : ℕ) : Type 0 where
   pub known : Known b
-  pub blocks : InBlocks b (number b (length b - trailerSize + 2)) (number b (length b - trailerSize + 4))
+  pub blocks : InBlocks b (told b 1) (told b 2)
   pub count : n ≡ length (namesOf b)
   pub order : start ≤ end
   pub long : end + trailerSize ≤ length b

@@ -127,7 +127,7 @@ fn check_row(book: &[u8], o: usize, end: usize, lo: usize, n: usize, d: usize, a
             return entry;
         }
         entry = neighbours::next_entry(book, entry);
-        if neighbours::meet(book, entry, first) != d {
+        if neighbours::shared_before(book, entry, first) != d {
             return 0;
         }
     }

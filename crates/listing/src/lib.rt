@@ -1,8 +1,7 @@
 // The listing of a book, on standard output: a line of numbers, then a line for each name. Whatever bytes come, it is safe and ends.
 // The book is checked once, by `accept::check_book`; then each name is read by `names::read_name`, which trusts what the check has
 // shown. What an entry stores is not told with its name, so the stored count is made of the name before.
-ghost use Prim.Native.Nat.{ℕ, _<_, _≤_};
-ghost use lib.ListN.{length};
+ghost use Prim.Native.Nat.{ℕ, _<_};
 ghost use Rattle.names.specs.Names.{PositionAsk};
 use libc::STDOUT_FILENO;
 
@@ -44,26 +43,13 @@ fn say_name(name: &[u8]) {
     }
 }
 
-// How many leading bytes two names share.
-fn shared(a: &[u8], b: &[u8]) -> usize {
-    let least = numbers::lesser(a.len(), b.len());
-    let mut i: usize = 0;
-    while i < least {
-        if a[i] != b[i] {
-            return i;
-        }
-        i += 1;
-    }
-    least
-}
-
 // A name's line: position, block, stored shared count, full length, name. The count of a block's first name is 0.
 fn say_line(position: usize, k: usize, before: &[u8], name: &[u8])
     requires { ⌜ 0 < k ⌝ }
 {
     let mut count: usize = 0;
     if position % k != 0 {
-        count = shared(before, name);
+        count = symbols::shared_symbols(before, name);
     }
     say(b"", position);
     say(b" ", position / k);
@@ -74,15 +60,17 @@ fn say_line(position: usize, k: usize, before: &[u8], name: &[u8])
     io::write_all(STDOUT_FILENO, b"\n");
 }
 
-// The lines of n names in blocks of k.
-fn say_lines(book: &[u8], n: usize, k: usize)
-    requires { ⌜ ((i : ℕ) → i < n → PositionAsk (now book) k i) ⌝ }
+// The lines of all names.
+fn say_lines(book: &[u8], t: trailer::Trailer)
+    requires { ⌜ ((i : ℕ) → i < t .names → PositionAsk (now book) t i) ⌝ }
 {
+    let n = numbers::wide16(t.names);
+    let k = numbers::wide16(t.block);
     let mut before = [0u8; 200];
     let mut before_len: usize = 0;
     let mut i: usize = 0;
     while i < n {
-        let entry = names::read_name(book, k, i);
+        let entry = names::read_name(book, t, i);
         let name = entry.name;
         let len = entry.len;
         say_line(i, k, &before[..before_len], &name[..len]);
@@ -92,14 +80,12 @@ fn say_lines(book: &[u8], n: usize, k: usize)
     }
 }
 
-// The first line: names, block size, nodes, bytes. The number of nodes stands in the trailer.
-fn say_head(book: &[u8], n: usize, k: usize)
-    requires { ⌜ 16 ≤ length (now book) ⌝ }
-{
-    say(b"names ", n);
-    say(b" block ", k);
-    say(b" nodes ", numbers::number_at(book, book.len() - 8));
-    say(b" bytes ", book.len());
+// The first line: names, block size, nodes, bytes.
+fn say_head(t: trailer::Trailer, bytes: usize) {
+    say(b"names ", numbers::wide16(t.names));
+    say(b" block ", numbers::wide16(t.block));
+    say(b" nodes ", numbers::wide16(t.count));
+    say(b" bytes ", bytes);
     io::write_all(STDOUT_FILENO, b"\n");
 }
 
@@ -107,9 +93,9 @@ fn say_head(book: &[u8], n: usize, k: usize)
 pub fn list(book: &[u8]) {
     let checked = accept::check_book(book);
     match checked {
-        accept::Checked::Sound(n, k) => {
-            say_head(book, n, k);
-            say_lines(book, n, k);
+        accept::Checked::Sound(t) => {
+            say_head(t, book.len());
+            say_lines(book, t);
         }
         accept::Checked::Unsound => {
             io::write_all(STDOUT_FILENO, b"refused 2\n");

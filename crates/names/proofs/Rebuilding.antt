@@ -1,7 +1,7 @@
 -- A name that is read back and put into a room.
---     position-ask      an accepting check lets each position be asked
+--     position-..       an accepting check lets each position be asked
 --     block-none        the block of a position where k is 0
---     Found, found, found-asks, found-name      where the block of a position starts, and what streams from there
+--     BlockFound, found, found-asks, found-name      where the block of a position starts, and what streams from there
 --     put-short, put-all            the room is too short; it holds the name
 -- Assumes nothing.
 use Prim.Native.Nat.{ℕ, _*_, _+_, _-_, _/_, _<_, _≤_}
@@ -13,26 +13,33 @@ use lib.ListN.{drop, getD, length, length-drop, take}
 use lib.Seq.{getD-drop, length-take-le}
 use borrow.Author.Tests.{le-leb, lt-leb}
 use Rattle.words.specs.Words.{Bytes, plain}
-use Rattle.format.specs.Book.{number, opened, namesOf}
-use Rattle.format.specs.Outcomes.{checkOf, over}
+use Rattle.format.specs.Book.{number, opened, namesOf, told}
+use Rattle.format.specs.Outcomes.{over}
 use Rattle.numbers.proofs.Parts.{Copied, Held, copied}
 use Rattle.streams.specs.Runs.{Rest}
 use Rattle.streams.proofs.Rereading.{block-from}
 use Rattle.streams.proofs.Walks.{has-names}
 use Rattle.entries.specs.Judging.{NameIs, ReadAsk}
-use Rattle.accept.specs.Parts.{checkedNumbers, told, toldNames}
+use Rattle.trailer.specs.declared.Trailer.{Trailer}
+use Rattle.accept.specs.Parts.{checkOn}
 use Rattle.accept.specs.declared.Checked.{Checked}
 use Rattle.accept.specs.declared.Checked.the-variants.{Sound}
-use Rattle.accept.proofs.Judging.{checked-sound}
+use Rattle.accept.proofs.Judging.{SoundBook, checked-sound}
 use Rattle.names.specs.Names.{Named, PositionAsk, Put}
 
 -- ---- what can be asked
 
-pub position-ask : (b : Bytes) (n k position : ℕ) → Held b → (v : Checked) → checkedNumbers v ≡ checkOf (opened plain b) → v ≡ Sound n k → position < n
-    → PositionAsk b k position
-position-ask b n k position held v s u h =
-    let t = checked-sound b n k held v s u in
-    record { parts = t .parts; block = t .block; within = omega (arith, t .count) }
+pub position-sound : {b : Bytes} {t : Trailer} {position : ℕ} → SoundBook b t → position < t .names → PositionAsk b t position
+position-sound f h = record {
+  parts = f .parts;
+  block = ap (λ (x : Trailer). x .block) (f .told);
+  table = ap (λ (x : Trailer). x .blocks) (f .told);
+  within = omega (arith, f .count);
+}
+
+pub position-ask : (b : Bytes) (t : Trailer) (position : ℕ) → Held b → (v : Checked) → v ≡ checkOn b (opened plain b) → v ≡ Sound t
+    → (n : ℕ) → n ≡ t .names → position < n → PositionAsk b t position
+position-ask b t position held v s u n ne h = position-sound (checked-sound b t held v s u) (omega arith)
 
 -- ---- where a position's block starts
 
@@ -40,7 +47,7 @@ position-ask b n k position held v s u h =
 pub block-none : (position : ℕ) {k : ℕ} → k ≡ 0 → 0 ≡ position / k
 block-none position e = sym (ap (λ (n : ℕ). position / n) e ∙ div-zero position)
 
-pub record Found (b : Bytes) (k position table block : ℕ) : Type 0 where
+pub record BlockFound (b : Bytes) (k position table block : ℕ) : Type 0 where
   pub room : table + 2 * block + 2 ≤ length b
   pub few : position ≤ 2000
   pub below : block ≤ position
@@ -49,17 +56,18 @@ pub record Found (b : Bytes) (k position table block : ℕ) : Type 0 where
   pub gives : (name : Bytes) (len : ℕ) → NameIs b (number b (table + 2 * block)) (position - block * k) name len
       → Named (getD (namesOf b) position []) len name
 
-found-told : (b : Bytes) (k position : ℕ) → PositionAsk b k position → Found b k position (told b 4) (position / k)
-found-told b k position a =
+found-told : (b : Bytes) (t : Trailer) (position : ℕ) → PositionAsk b t position → BlockFound b (t .block) position (told b 2) (position / t .block)
+found-told b t position a =
+    let k : ℕ = t .block in
     let p = a .parts in
     let has = p .entries in
-    let inside : told b 4 ≤ length b = omega (arith, p .trail .total, p .trail .order) in
-    let ns : namesOf b ≡ has .names = has-names b (told b 2) (told b 4) (told b 6) (toldNames b) inside has (p .trail .low) refl in
+    let inside : told b 2 ≤ length b = omega (arith, p .trail .total, p .trail .order) in
+    let ns : namesOf b ≡ has .names = has-names b (told b 1) (told b 2) (told b 3) (told b 0) inside has (p .trail .low) refl in
     let within : position < length (has .names) = subst (λ (xs : List Bytes). position < length xs) ns (a .within) in
     let first : position / k * k ≤ position = omega (arith, div-add-mod' position k) in
-    let r = subst (λ (n : ℕ). Rest b n (told b 4) (told b 6) (told b 4) 0 [] (has .names)) (sym (a .block)) (has .rest) in
-    let f = block-from b k (told b 4) (told b 6) (omega (arith, a .block, p .trail .low)) (p .trail .short) inside (omega (arith, p .trail .total))
-    (position / k) (position / k * k) (told b 4) 0 [] (has .names) (omega arith) inside r refl (omega arith) in
+    let r = subst (λ (n : ℕ). Rest b n (told b 2) (told b 3) (told b 2) 0 [] (has .names)) (sym (a .block)) (has .rest) in
+    let f = block-from b k (told b 2) (told b 3) (omega (arith, a .block, p .trail .low)) (p .trail .short) inside (omega (arith, p .trail .total))
+    (position / k) (position / k * k) (told b 2) 0 [] (has .names) (omega arith) inside r refl (omega arith) in
     let d : position / k * k + (position - position / k * k) ≡ position = omega arith in
     let u : position - position / k * k < length (drop (position / k * k) (has .names)) = omega (arith, length-drop (position / k * k) (has .names)) in
     record {
@@ -77,12 +85,14 @@ found-told b k position a =
       };
     }
 
-pub found : {b : Bytes} {k position table block : ℕ} → PositionAsk b k position → table ≡ told b 4 → block ≡ position / k → Found b k position table block
-found {b} {k} {position} {table} a e f =
-    subst (Found b k position table) (sym f) (subst (λ (t : ℕ). Found b k position t (position / k)) (sym e) (found-told b k position a))
+pub found : {b : Bytes} {t : Trailer} {k position table block : ℕ} → PositionAsk b t position → k ≡ t .block → table ≡ t .blocks → block ≡ position / k → BlockFound b k position table block
+found {b} {t} {k} {position} {table} a ke te f =
+    subst (BlockFound b k position table) (sym f)
+    (subst (λ (n : ℕ). BlockFound b n position table (position / n)) (sym ke)
+    (subst (λ (o : ℕ). BlockFound b (t .block) position o (position / t .block)) (sym (te ∙ a .table)) (found-told b t position a)))
 
 -- with the offset that the code has read
-module _ {b : Bytes} {k position table block start : ℕ} (f : Found b k position table block) (e : start ≡ number b (table + 2 * block)) where
+module _ {b : Bytes} {k position table block start : ℕ} (f : BlockFound b k position table block) (e : start ≡ number b (table + 2 * block)) where
   pub found-asks : ReadAsk b start (position - block * k)
   found-asks = subst (λ (n : ℕ). ReadAsk b n (position - block * k)) (sym e) (f .reads)
 

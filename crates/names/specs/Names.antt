@@ -1,5 +1,5 @@
 -- What reading a name back asks of the bytes, and what it gives.
---     PositionAsk       the parts of a book with blocks of k names have passed, and it has a name at the position
+--     PositionAsk       the parts of a book have passed, its trailer was read, and it has a name at the position
 --     Named             the front of an array of 200 bytes is the name
 --     Put               the name stands at the front of the room, where it fits
 -- Assumes nothing: these are definitions.
@@ -10,12 +10,14 @@ use lib.ListN.{length, take}
 use Rattle.words.specs.Words.{Bytes, pick}
 use Rattle.format.specs.Records.{longest}
 use Rattle.format.specs.Outcomes.{over}
-use Rattle.format.specs.Book.{namesOf}
-use Rattle.accept.specs.Parts.{Parts, told}
+use Rattle.format.specs.Book.{namesOf, told}
+use Rattle.trailer.specs.declared.Trailer.{Trailer}
+use Rattle.accept.specs.Parts.{Parts}
 
-pub record PositionAsk (b : Bytes) (k position : ℕ) : Type 0 where
+pub record PositionAsk (b : Bytes) (t : Trailer) (position : ℕ) : Type 0 where
   pub parts : Parts b
-  pub block : k ≡ told b 2
+  pub block : t .block ≡ told b 1
+  pub table : t .blocks ≡ told b 2
   pub within : position < length (namesOf b)
 
 pub record Named (x : Bytes) (len : ℕ) (name : Bytes) : Type 0 where

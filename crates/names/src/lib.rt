@@ -17,24 +17,24 @@ fn block_of(k: usize, position: usize) -> usize
     position / k
 }
 
-// The name at a position of a book with blocks of k names.
-pub fn read_name(book: &[u8], k: usize, position: usize) -> entries::Entry
-    requires { ⌜ PositionAsk (now book) k position ⌝ }
+// The name at a position of a book, by what its trailer tells.
+pub fn read_name(book: &[u8], t: trailer::Trailer, position: usize) -> entries::Entry
+    requires { ⌜ PositionAsk (now book) t position ⌝ }
     ensures { λ r. ⌜ Named (getD (namesOf (now (book .entry))) position []) (r .len) (r .name) ⌝ }
 {
-    let at = book.len() - 16;
-    let table = numbers::number_at(book, at + 4);
+    let k = numbers::wide16(t.block);
+    let table = numbers::wide16(t.blocks);
     let block = block_of(k, position);
     let start = numbers::number_at(book, table + 2 * block);
     entries::name_of(book, start, position - block * k)
 }
 
 // The name at a position at the front of the room, and its length; or 0, and nothing is written, where the room is shorter.
-pub fn put_name(book: &[u8], k: usize, position: usize, room: &mut [u8]) -> usize
-    requires { ⌜ PositionAsk (now book) k position ⌝ }
+pub fn put_name(book: &[u8], t: trailer::Trailer, position: usize, room: &mut [u8]) -> usize
+    requires { ⌜ PositionAsk (now book) t position ⌝ }
     ensures { λ r. ⌜ Put (getD (namesOf (now (book .entry))) position []) (now (room .entry)) r (now (room .exit)) ⌝ }
 {
-    let entry = read_name(book, k, position);
+    let entry = read_name(book, t, position);
     let name = entry.name;
     let len = entry.len;
     if room.len() < len {

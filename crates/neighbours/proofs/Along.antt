@@ -15,7 +15,8 @@ use borrow.Author.Tests.{le-ltb, lt-ltb}
 use Rattle.words.specs.Words.{Bytes, less, nth, plain, shared}
 use Rattle.words.proofs.Rising.{nth-less}
 use Rattle.words.proofs.Words.{Sides, apart, before, behind, less-short, level, plain-injective, shared-append, shared-comm, shared-front, shared-trans, shared-two, shared-word, sides}
-use Rattle.format.specs.Book.{namesOf, wordsOf}
+use Rattle.format.specs.Spans.{wordsOf}
+use Rattle.format.specs.Book.{namesOf}
 use Rattle.streams.specs.Streams.{Here, Known, entryEnd, offsetAt, prevOf, restAt}
 use Rattle.streams.proofs.Here.{comes, here-fits, here-next, here-only, here-rises, words-count, words-nth}
 use Rattle.neighbours.specs.Neighbours.{AlongAsk, AlongSays, NextAsk, RestAsk, sharedNext}

@@ -14,17 +14,18 @@ use mir.Val.{Fits}
 use mir.Syntax.{w64}
 use Rattle.words.specs.Words.{Bytes, nth, plain, shared}
 use Rattle.words.proofs.Words.{apart, plain-injective, shared-word}
-use Rattle.format.specs.Book.{number, namesOf, wordsOf}
+use Rattle.format.specs.Spans.{wordsOf}
+use Rattle.format.specs.Book.{number, namesOf, told}
 use Rattle.streams.specs.Streams.{offsetAt}
 use Rattle.streams.proofs.Here.{here-fits, words-nth}
-use Rattle.neighbours.specs.Neighbours.{AlongAsk, AlongSays, MeetAsk, trailerAt}
+use Rattle.neighbours.specs.Neighbours.{AlongAsk, AlongSays, MeetAsk}
 
 module _ (b : Bytes) (a i : ℕ) (m : MeetAsk b a i) where
-  abbrev Met : ℕ → Type 0
-  Met r = r ≡ shared (nth (wordsOf plain b) (pred i)) (nth (wordsOf plain b) i)
+  abbrev SharesBefore : ℕ → Type 0
+  SharesBefore r = r ≡ shared (nth (wordsOf plain b) (pred i)) (nth (wordsOf plain b) i)
 
   -- in bytes
-  met : (r : ℕ) → r ≡ shared (getD (namesOf b) (pred i) []) (getD (namesOf b) i []) → Met r
+  met : (r : ℕ) → r ≡ shared (getD (namesOf b) (pred i) []) (getD (namesOf b) i []) → SharesBefore r
   met r e =
       e ∙ sym (ap₂ (λ (x y : List ℕ). shared x y) (words-nth b (pred i)) (words-nth b i)
       ∙ shared-word plain plain-injective (getD (namesOf b) (pred i) []) (getD (namesOf b) i []))
@@ -36,7 +37,7 @@ module _ (b : Bytes) (a i : ℕ) (m : MeetAsk b a i) where
     here-count : c ≡ getD b (offsetAt b i) 0
     here-count = ce ∙ ap (λ (o : ℕ). getD b o 0) (m .here)
 
-    module _ (k : ℕ) (ke : k ≡ number b (trailerAt b + 2)) where
+    module _ (k : ℕ) (ke : k ≡ told b 1) where
       split : i / k * k + i % k ≡ i
       split = div-add-mod' i k
 
@@ -59,19 +60,19 @@ module _ (b : Bytes) (a i : ℕ) (m : MeetAsk b a i) where
           here-count ∙ ap (λ (n : ℕ). getD b (offsetAt b n) 0) (sym s) ∙ r
           ∙ ap₂ (λ (x y : ℕ). shared (getD (namesOf b) x []) (getD (namesOf b) y [])) p s
 
-      pub meet-none : c ≤ 0 → (i % k ≡ 0 → ⊥) → Met 0
+      pub meet-none : c ≤ 0 → (i % k ≡ 0 → ⊥) → SharesBefore 0
       meet-none h n = go (i % k) refl
         where
-          go : (q : ℕ) → i % k ≡ q → Met 0
+          go : (q : ℕ) → i % k ≡ q → SharesBefore 0
           go zero e = absurd (n e)
           go (suc q) e = let z : 0 ≡ c = omega arith in met 0 (z ∙ inner q e)
 
-      count-first : (q : ℕ) → i % k ≡ q → 0 < c → Met c
+      count-first : (q : ℕ) → i % k ≡ q → 0 < c → SharesBefore c
       count-first zero e h = absurd (lt-irrefl 0 (omega (arith, first 0 e refl)))
       count-first (suc q) e h = met c (inner q e)
 
-    pub meet-stored : 0 < c → Met c
-    meet-stored h = count-first (number b (trailerAt b + 2)) refl (i % number b (trailerAt b + 2)) refl h
+    pub meet-stored : 0 < c → SharesBefore c
+    meet-stored h = count-first (told b 1) refl (i % told b 1) refl h
 
   -- a stored count is never more
   pub meet-low : getD b a 0 ≤ shared (nth (wordsOf plain b) (pred i)) (nth (wordsOf plain b) i)
@@ -83,7 +84,7 @@ module _ (b : Bytes) (a i : ℕ) (m : MeetAsk b a i) where
 
   -- ---- a block's first name
 
-  module _ (k s : ℕ) (ke : k ≡ number b (trailerAt b + 2)) (se : s ≡ number b (trailerAt b + 4)) (z : i % k ≡ 0) where
+  module _ (k s : ℕ) (ke : k ≡ told b 1) (se : s ≡ told b 2) (z : i % k ≡ 0) where
     record Before (t : ℕ) : Type 0 where
       later : 1 ≤ t
       ends : (t - 1) * k + k ≡ i
@@ -100,7 +101,7 @@ module _ (b : Bytes) (a i : ℕ) (m : MeetAsk b a i) where
     some-names : 1 ≤ k
     some-names = omega (arith, ke, m .blocks .one)
 
-    within : (i / k - 1) * number b (trailerAt b + 2) < length (namesOf b)
+    within : (i / k - 1) * told b 1 < length (namesOf b)
     within = subst (λ (n : ℕ). (i / k - 1) * n < length (namesOf b)) ke (omega (arith, m .within, at-block .ends))
 
     pub meet-later : 1 ≤ i / k
@@ -131,10 +132,10 @@ module _ (b : Bytes) (a i : ℕ) (m : MeetAsk b a i) where
           whole = omega arith;
         }
 
-  pub meet-counted : (r : ℕ) → AlongSays b a r → Met r
+  pub meet-counted : (r : ℕ) → AlongSays b a r → SharesBefore r
   meet-counted r says = met r (says i (m .some) (m .within) (m .here))
 
 -- the first premise shows the most
-pub meet-asks : (b : Bytes) (a i k s start c : ℕ) → start ≡ number b (s + 2 * (i / k - 1)) → MeetAsk b a i → k ≡ number b (trailerAt b + 2) → s ≡ number b (trailerAt b + 4)
+pub meet-asks : (b : Bytes) (a i k s start c : ℕ) → start ≡ number b (s + 2 * (i / k - 1)) → MeetAsk b a i → k ≡ told b 1 → s ≡ told b 2
     → i % k ≡ 0 → c ≡ getD b a 0 → c ≤ 0 → AlongAsk b start a
 meet-asks b a i k s start c st m ke se z ce h = asks b a i m k s ke se z c ce h start st

@@ -2,15 +2,15 @@
 --     RestAsk               two entries stand, and the second one's name goes on where the first one's rest parts from it
 --     NextAsk, sharedNext   one entry further along a block
 --     AlongAsk, AlongSays   a block whose end is the entry at a; what the name there shares with the one before
---     trailerAt, MeetAsk    where the trailer stands; name i is not the first, and stands at a
+--     MeetAsk               name i is not the first, and stands at a
 -- The laws are in proofs/. Assumes nothing: these are definitions.
-use Prim.Native.Nat.{ℕ, pred, _+_, _-_, _≤_, _<_}
+use Prim.Native.Nat.{ℕ, pred, _+_, _≤_, _<_}
 use mathlib.Core.Path.{_≡_}
 use mathlib.Core.List.{[]}
 use lib.Dec.{ltb}
 use lib.ListN.{drop, getD, length}
 use Rattle.words.specs.Words.{Bytes, pick, shared}
-use Rattle.format.specs.Book.{number, trailerSize, namesOf}
+use Rattle.format.specs.Book.{trailerSize, namesOf, told}
 use Rattle.streams.specs.Streams.{Here, InBlocks, Known, entryEnd, restAt}
 
 pub record RestAsk (b : Bytes) (at a c : ℕ) : Type 0 where
@@ -43,13 +43,10 @@ pub record AlongAsk (b : Bytes) (start a : ℕ) : Type 0 where
 abbrev pub AlongSays : Bytes → ℕ → ℕ → Type 0
 AlongSays b a r = (i : ℕ) → 0 < i → i < length (namesOf b) → Here b i a → r ≡ shared (getD (namesOf b) (pred i) []) (getD (namesOf b) i [])
 
-abbrev pub trailerAt : Bytes → ℕ
-trailerAt b = length b - trailerSize
-
 pub record MeetAsk (b : Bytes) (a i : ℕ) : Type 0 where
   pub known : Known b
   pub long : trailerSize ≤ length b
-  pub blocks : InBlocks b (number b (trailerAt b + 2)) (number b (trailerAt b + 4))
+  pub blocks : InBlocks b (told b 1) (told b 2)
   pub some : 0 < i
   pub within : i < length (namesOf b)
   pub here : Here b i a

@@ -4,7 +4,7 @@ ghost use mathlib.Core.Path.{_≡_};
 ghost use Prim.Native.Nat.{pred, _≤_};
 ghost use lib.ListN.{drop, length};
 ghost use Rattle.words.specs.Words.{nth, plain, shared};
-ghost use Rattle.format.specs.Book.{wordsOf};
+ghost use Rattle.format.specs.Spans.{wordsOf};
 ghost use Rattle.streams.specs.Streams.{entryEnd, restAt};
 ghost use Rattle.neighbours.specs.Neighbours.{AlongAsk, AlongSays, MeetAsk, NextAsk, RestAsk, sharedNext};
 
@@ -64,7 +64,7 @@ fn count_along(book: &[u8], start: usize, a: usize) -> usize
 
 // How many symbols name number i, whose entry stands at a, shares with the name before it. Only where it stores 0 is it asked whether it
 // is a block's first.
-pub fn meet(book: &[u8], a: usize, i: usize) -> usize
+pub fn shared_before(book: &[u8], a: usize, i: usize) -> usize
     requires { ⌜ MeetAsk (now book) a i ⌝ }
     ensures { λ r. ⌜ r ≡ shared (nth (wordsOf plain (now (book .entry))) (pred i)) (nth (wordsOf plain (now (book .entry))) i) ⌝ }
 {
@@ -72,12 +72,10 @@ pub fn meet(book: &[u8], a: usize, i: usize) -> usize
     if 0 < c {
         return c;
     }
-    let trailer = book.len() - 16;
-    let k = numbers::number_at(book, trailer + 2);
+    let k = trailer::block(book);
     if i % k != 0 {
         return 0;
     }
-    let table = numbers::number_at(book, trailer + 4);
-    let start = numbers::number_at(book, table + 2 * (i / k - 1));
+    let start = numbers::number_at(book, trailer::blocks_at(book) + 2 * (i / k - 1));
     count_along(book, start, a)
 }

@@ -12,16 +12,18 @@ use mathlib.Core.List.{List, [], _∷_}
 use lib.ListN.{length}
 use Rattle.words.specs.Words.{Bytes, InBytes, plain, word}
 use Rattle.words.proofs.Words.{plain-lawful}
-use Rattle.format.specs.Book.{Book, namesOf, opened, wordsOf}
+use Rattle.format.specs.Spans.{wordsOf}
+use Rattle.format.specs.Book.{Book, namesOf, opened, told}
 use Rattle.format.specs.Records.{longest}
-use Rattle.format.specs.Outcomes.{checkOf, given, refused}
-use Rattle.answers.specs.Calls.{check, question, questionOf}
+use Rattle.format.specs.Outcomes.{given, refused}
+use Rattle.answers.specs.Calls.{question, questionOf}
 use Rattle.answers.proofs.Calls.{question-given, question-long, question-none}
 use Rattle.answers.specs.Questions.{Pair, answer, ask, count, exact, exactFrom, place, range}
-use Rattle.descent.specs.Vocabulary.{asked, startIn}
+use Rattle.descent.specs.Vocabulary.{asked}
 use Rattle.descent.proofs.Bytes.{opened-searchable}
 use Rattle.numbers.proofs.Parts.{Held, held-bytes}
-use Rattle.accept.specs.Parts.{checkedNumbers}
+use Rattle.trailer.specs.declared.Trailer.{Trailer}
+use Rattle.accept.specs.Parts.{checkOn}
 use Rattle.accept.specs.declared.Checked.{Checked}
 use Rattle.accept.specs.declared.Checked.the-variants.{Unsound}
 use Rattle.accept.proofs.Judging.{SoundBook, sound-book}
@@ -31,7 +33,7 @@ use Rattle.shapes.specs.declared.Answer.{Answer}
 use Rattle.questions.specs.Asking.{Asking, KindNumber}
 use Rattle.questions.proofs.Checks.{no-book}
 
-pub ask-unsound : (kind : ℕ) (b q : Bytes) (r : Answer) → answered r ≡ refused 2 → (v : Checked) → checkedNumbers v ≡ checkOf (opened plain b) → v ≡ Unsound
+pub ask-unsound : (kind : ℕ) (b q : Bytes) (r : Answer) → answered r ≡ refused 2 → (v : Checked) → v ≡ checkOn b (opened plain b) → v ≡ Unsound
     → answered r ≡ question plain kind b q
 unfolding question questionOf
 ask-unsound kind b q r e v s u = e ∙ sym (ap (questionOf plain kind q) (no-book b v s u))
@@ -45,14 +47,19 @@ none-found (suc (suc zero)) h n q = refl
 none-found (suc (suc (suc zero))) h n q = refl
 none-found (suc (suc (suc (suc kind)))) h n q = absurd (n (omega (arith, h .high)))
 
-module _ (b q : Bytes) (n k kind : ℕ) (held : Held b) (s : Asking b n k kind) where
+module _ (b q : Bytes) (t : Trailer) (kind : ℕ) (held : Held b) (s : Asking b t kind) where
+  abbrev n : ℕ
+  n = t .names
+
+  abbrev k : ℕ
+  k = t .block
+
   bytes : InBytes b
   bytes = held-bytes b held
 
   -- what the check has shown
-  shown : SoundBook b n k
-  unfolding check
-  shown = sound-book b n k bytes (s .checked)
+  shown : SoundBook b t
+  shown = sound-book b t bytes (s .checked)
 
   asks : question plain kind b q ≡ questionOf plain kind q (Book k (namesOf b))
   unfolding question
@@ -82,17 +89,19 @@ module _ (b q : Bytes) (n k kind : ℕ) (held : Held b) (s : Asking b n k kind) 
         none (x ∷ xs) l = absurd (lt-irrefl 0 (omega arith))
 
     module _ (some : n ≡ 0 → ⊥) where
-      pub askable : KindAsk b k kind
-      unfolding startIn
+      pub askable : KindAsk b t kind
       askable =
           let f = shown in
           record {
             askable = record {
               parts = f .parts;
-              block = f .block;
+              block = ap (λ (x : Trailer). x .block) (f .told);
+              table = ap (λ (x : Trailer). x .blocks) (f .told);
+              nodes = ap (λ (x : Trailer). x .nodes) (f .told);
               searchable = opened-searchable plain plain-lawful b k (namesOf b) (f .book) bytes (omega (arith, names));
             };
-            some = s .number .low;
+            low = s .number .low;
+            high = s .number .high;
           }
 
       pub ask-some : (x y : ℕ) → (x, y) ≡ ask kind (asked plain q) (wordsOf plain b) → given x y ≡ question plain kind b q

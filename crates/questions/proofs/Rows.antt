@@ -1,11 +1,11 @@
 -- How a batch opens and what a row gets, by the ways that the functions go.
 --     closed-is                  an opening that refuses
---     crowded, unsound-opens, sound-opens      too many rows, or unequal numbers; no book; a book of n names in blocks of k
+--     crowded, unsound-opens, sound-opens      too many rows, or unequal numbers; no book; a book
 --     row-refused, row-answered  a row that can't be asked, and one that can
 -- Assumes nothing.
 use Prim.Native.Nat.{ℕ, _+_, _-_, _≤_}
 use native.Mathlib.Omega.{arith}
-use mathlib.Core.Path.{_≡_, _∙_, ap, ap₂, refl, sym}
+use mathlib.Core.Path.{_≡_, _∙_, ap, refl, sym}
 use mathlib.Core.Bool.{Bool, false, true}
 use lib.Dec.{eqb, leb}
 use lib.ListN.{drop, take}
@@ -13,53 +13,56 @@ use borrow.Author.Tests.{eq-eqb, eqb-true, le-leb, leb-true}
 use Rattle.words.specs.Words.{Bytes, plain}
 use Rattle.words.proofs.Words.{both-true}
 use Rattle.format.specs.Book.{Book, NoBook, Opened, opened}
-use Rattle.format.specs.Outcomes.{Answer as Numbers, checkOf, given, refused}
+use Rattle.format.specs.Outcomes.{Answer as Numbers, refused}
 use Rattle.answers.specs.Calls.{Row as Question, question, questionOf, rowAnswer}
 use Rattle.answers.proofs.Calls.{GoodRow, row-bad, row-good}
-use Rattle.accept.specs.Parts.{checkedNumbers}
+use Rattle.trailer.specs.Trailer.{trailerIn}
+use Rattle.trailer.specs.declared.Trailer.{Trailer}
+use Rattle.accept.specs.Parts.{checkOn}
 use Rattle.accept.specs.declared.Checked.{Checked}
 use Rattle.accept.specs.declared.Checked.the-variants.{Sound, Unsound}
+use Rattle.accept.proofs.Judging.{sound≠unsound}
 use Rattle.shapes.specs.Shapes.{answered}
 use Rattle.shapes.specs.declared.Answer.{Answer}
 use Rattle.shapes.proofs.Shapes.{answerOf}
-use Rattle.questions.specs.Asking.{closedBy, openingOf, takesRows}
+use Rattle.questions.specs.Asking.{closedBy, noTrailer, openingOf, takesRows}
 use Rattle.questions.specs.declared.Opening.{Opening}
 use Rattle.questions.proofs.Checks.{no-book}
 
 -- ---- how a batch opens
 
 -- an opening that refuses nothing
-abbrev accepting : ℕ → ℕ → ℕ → Opening
-accepting rows n k = record { answer = record { code = 0; first = rows; second = 0 }; names = n; block = k }
+abbrev accepting : ℕ → Trailer → Opening
+accepting rows t = record { answer = record { code = 0; first = rows; second = 0 }; trailer = t }
 
-pub closed-is : (r : Answer) (code : ℕ) → answered r ≡ refused code → record { answer = r; names = 0; block = 0 } ≡ closedBy code
-closed-is r code e = ap (λ (a : Numbers). record { answer = answerOf a; names = 0; block = 0 }) e
+pub closed-is : (r : Answer) (code : ℕ) → answered r ≡ refused code → record { answer = r; trailer = noTrailer } ≡ closedBy code
+closed-is r code e = ap (λ (a : Numbers). record { answer = answerOf a; trailer = noTrailer }) e
 
 module _ (b : Bytes) (rows places : ℕ) where
-  pub crowded : (r : Opening) → r ≡ closedBy 12 → (rows ≤ 64 → rows ≡ places → ⊥) → r ≡ openingOf rows (takesRows rows places) (opened plain b)
+  pub crowded : (r : Opening) → r ≡ closedBy 12 → (rows ≤ 64 → rows ≡ places → ⊥) → r ≡ openingOf b rows (takesRows rows places) (opened plain b)
   unfolding openingOf
   crowded r e h = e ∙ go (takesRows rows places) refl (opened plain b)
     where
-      go : (t : Bool) → takesRows rows places ≡ t → (o : Opened) → closedBy 12 ≡ openingOf rows t o
+      go : (t : Bool) → takesRows rows places ≡ t → (o : Opened) → closedBy 12 ≡ openingOf b rows t o
       go true p o = let f = both-true (leb rows 64) (eqb rows places) p in absurd (h (leb-true rows 64 (f .0)) (eqb-true rows places (f .1)))
       go false p NoBook = refl
       go false p (Book k xs) = refl
 
   module _ (few : rows ≤ 64) (equal : rows ≡ places) where
-    taken : openingOf rows (takesRows rows places) (opened plain b) ≡ openingOf rows true (opened plain b)
+    taken : openingOf b rows (takesRows rows places) (opened plain b) ≡ openingOf b rows true (opened plain b)
     taken = rw (le-leb rows 64 few, eq-eqb rows places equal) refl
 
-    pub unsound-opens : (r : Opening) → r ≡ closedBy 2 → (v : Checked) → checkedNumbers v ≡ checkOf (opened plain b) → v ≡ Unsound → r ≡ openingOf rows (takesRows rows places) (opened plain b)
+    pub unsound-opens : (r : Opening) → r ≡ closedBy 2 → (v : Checked) → v ≡ checkOn b (opened plain b) → v ≡ Unsound → r ≡ openingOf b rows (takesRows rows places) (opened plain b)
     unfolding openingOf
-    unsound-opens r e v s u = e ∙ sym (taken ∙ ap (openingOf rows true) (no-book b v s u))
+    unsound-opens r e v s u = e ∙ sym (taken ∙ ap (openingOf b rows true) (no-book b v s u))
 
-    pub sound-opens : (n k : ℕ) (v : Checked) → checkedNumbers v ≡ checkOf (opened plain b) → v ≡ Sound n k → accepting rows n k ≡ openingOf rows (takesRows rows places) (opened plain b)
-    unfolding openingOf checkOf
-    sound-opens n k v s u = go (opened plain b) (ap checkedNumbers (sym u) ∙ s) ∙ sym taken
+    pub sound-opens : (t : Trailer) (v : Checked) → v ≡ checkOn b (opened plain b) → v ≡ Sound t → accepting rows t ≡ openingOf b rows (takesRows rows places) (opened plain b)
+    unfolding openingOf checkOn
+    sound-opens t v s u = go (opened plain b) (sym u ∙ s) ∙ sym taken
       where
-        go : (o : Opened) → given n k ≡ checkOf o → accepting rows n k ≡ openingOf rows true o
-        go NoBook q = absurd (let z : _≡_ {A = ℕ} 0 2 = ap (λ (a : Numbers). a .code) q in omega arith)
-        go (Book j xs) q = ap₂ (λ (x y : ℕ). accepting rows x y) (ap (λ (a : Numbers). a .first) q) (ap (λ (a : Numbers). a .second) q)
+        go : (o : Opened) → Sound t ≡ checkOn b o → accepting rows t ≡ openingOf b rows true o
+        go NoBook q = absurd (sound≠unsound q)
+        go (Book j xs) q = let is : t ≡ trailerIn b = cc in ap (accepting rows) is
 
 -- ---- what a row gets
 

@@ -9,22 +9,22 @@ ghost use Rattle.answers.specs.Calls.{question as askedOf, rowAnswer};
 ghost use Rattle.shapes.specs.Shapes.{answered, rowOf};
 ghost use Rattle.questions.specs.Asking.{Accepted, Asking, KindNumber, closedBy, openingOf, takesRows};
 
-// A question of a kind from 1 to 4 to a book of n names in blocks of k that the check has accepted: whoever has many questions checks
+// A question of a kind from 1 to 4 to a book that the check has accepted, by what its trailer tells: whoever has many questions checks
 // once. Refusals: 1, 10.
-pub fn ask(book: &[u8], n: usize, k: usize, kind: usize, question: &[u8]) -> Answer
-    requires { ⌜ Asking (now book) n k kind ⌝ }
+pub fn ask(book: &[u8], t: trailer::Trailer, kind: usize, question: &[u8]) -> Answer
+    requires { ⌜ Asking (now book) t kind ⌝ }
     ensures { λ r. ⌜ answered r ≡ askedOf plain kind (now (book .entry)) (now (question .entry)) ⌝ }
 {
     if 200 < question.len() {
         return shapes::refuse(1, 0);
     }
-    if n == 0 {
+    if t.names == 0 {
         if kind == 4 {
             return shapes::refuse(10, 0);
         }
         return shapes::refuse(0, 0);
     }
-    let pair = search::answer(book, k, kind, question);
+    let pair = search::answer(book, t, kind, question);
     Answer {
         code: 0,
         first: pair.first,
@@ -40,15 +40,14 @@ pub fn ask_alone(book: &[u8], kind: usize, question: &[u8]) -> Answer
     let checked = accept::check_book(book);
     match checked {
         accept::Checked::Unsound => shapes::refuse(2, 0),
-        accept::Checked::Sound(n, k) => ask(book, n, k, kind, question),
+        accept::Checked::Sound(t) => ask(book, t, kind, question),
     }
 }
 
-// How a batch opens: its answer; and where that is no refusal, how many names the book has, in blocks of how many.
+// How a batch opens: its answer; and where that is no refusal, what the book's trailer tells.
 pub struct Opening {
     pub answer: Answer,
-    pub names: usize,
-    pub block: usize,
+    pub trailer: trailer::Trailer,
 }
 
 // A batch that is refused.
@@ -56,16 +55,19 @@ fn closed(code: usize) -> Opening
     ensures { λ r. ⌜ r ≡ closedBy code ⌝ }
 {
     let answer = shapes::refuse(code, 0);
-    Opening {
-        answer,
+    let trailer = trailer::Trailer {
         names: 0,
         block: 0,
-    }
+        blocks: 0,
+        nodes: 0,
+        count: 0,
+    };
+    Opening { answer, trailer }
 }
 
 // Whether a batch of so many rows, with so many places for answers, can be asked of these bytes. Refusals: 12, 2.
 pub fn open_batch(book: &[u8], rows: usize, places: usize) -> Opening
-    ensures { λ r. ⌜ r ≡ openingOf rows (takesRows rows places) (opened plain (now (book .entry))) ⌝ }
+    ensures { λ r. ⌜ r ≡ openingOf (now (book .entry)) rows (takesRows rows places) (opened plain (now (book .entry))) ⌝ }
 {
     if 64 < rows {
         return closed(12);
@@ -76,17 +78,13 @@ pub fn open_batch(book: &[u8], rows: usize, places: usize) -> Opening
     let checked = accept::check_book(book);
     match checked {
         accept::Checked::Unsound => closed(2),
-        accept::Checked::Sound(n, k) => {
+        accept::Checked::Sound(trailer) => {
             let answer = Answer {
                 code: 0,
                 first: rows,
                 second: 0,
             };
-            Opening {
-                answer,
-                names: n,
-                block: k,
-            }
+            Opening { answer, trailer }
         }
     }
 }
@@ -110,11 +108,5 @@ pub fn answer_row(book: &[u8], opening: Opening, questions: &[u8], row: Row) -> 
     }
     let start = row.start;
     let end = start + row.length;
-    ask(
-        book,
-        opening.names,
-        opening.block,
-        row.kind,
-        &questions[start..end],
-    )
+    ask(book, opening.trailer, row.kind, &questions[start..end])
 }

@@ -3,7 +3,7 @@
 --     ReadUpTo                   so many names are read, and noted: reading-start
 --     StandsAt, stands-at        the next record begins here, with this length
 --     Comparing                  it is of good length, and its name agrees with the last so far: comparing-start, byte-same
---     Parted                     and no further: one-ends, bytes-differ
+--     ComesApart                     and no further: one-ends, bytes-differ
 --     NewAbove                   its name is above the last: old-ends, byte-above; reading-more, list-falls
 --     good-list                  how a list is judged that reads well
 --     no-name, long-name, cut-name, new-ends, byte-below, too-many     and one that is refused
@@ -50,18 +50,18 @@ module _ (s : Bytes) (from size : ℕ) (inside : from + size ≤ length s) where
 
 -- ---- what is noted
 
-noted-none : (lens steps : List ℕ) → Noted [] lens steps
-noted-none lens steps = record {
+noted-none : (lens shares : List ℕ) → Noted [] lens shares
+noted-none lens shares = record {
   lens-room = zero-le;
-  steps-room = zero-le;
+  shares-room = zero-le;
   sizes = λ i h. absurd (not-suc-le-zero h);
   first = λ h. absurd (not-suc-le-zero h);
-  shares = λ i h. absurd (not-suc-le-zero h);
+  common = λ i h. absurd (not-suc-le-zero h);
 }
 
 -- one name more, of m bytes, that shares k with the last
-module _ (xs : List Bytes) (x : Bytes) (lens steps : List ℕ) (n m k : ℕ) (noted : Noted xs lens steps) (counted : length xs ≡ n)
-    (in-lens : n < length lens) (in-steps : n < length steps) (size : length x ≡ m)
+module _ (xs : List Bytes) (x : Bytes) (lens shares : List ℕ) (n m k : ℕ) (noted : Noted xs lens shares) (counted : length xs ≡ n)
+    (in-lens : n < length lens) (in-shares : n < length shares) (size : length x ≡ m)
     (alone : n ≡ 0 → k ≡ 0) (next : (i : ℕ) → suc i ≡ n → k ≡ shared (getD xs i []) x) where
   longer : length (xs ++ (x ∷ [])) ≡ suc n
   longer = length-append xs (x ∷ []) ∙ omega arith
@@ -72,21 +72,21 @@ module _ (xs : List Bytes) (x : Bytes) (lens steps : List ℕ) (n m k : ℕ) (no
   old-at : (i : ℕ) → i < n → getD (xs ++ (x ∷ [])) i [] ≡ getD xs i []
   old-at i h = List·getD-append xs (x ∷ []) [] i (omega arith)
 
-  noted-more : Noted (xs ++ (x ∷ [])) (set lens n m) (set steps n k)
+  noted-more : Noted (xs ++ (x ∷ [])) (set lens n m) (set shares n k)
   noted-more = record {
     lens-room = omega (arith, longer, length-set lens n m);
-    steps-room = omega (arith, longer, length-set steps n k);
+    shares-room = omega (arith, longer, length-set shares n k);
     sizes = λ i h. elim (ℕ-discrete i n) [
       | yes e ↦ rw (e, getD-set-same lens n m 0 in-lens, new-at n refl) (sym size)
       | no o ↦ getD-set-other lens n i m 0 o ∙ noted .sizes i (omega (arith, longer)) ∙ ap length (sym (old-at i (omega (arith, longer))))
     ];
     first = λ h. elim (ℕ-discrete 0 n) [
-      | yes e ↦ rw (← e, getD-set-same steps 0 k 0 (omega arith)) (alone (sym e))
-      | no o ↦ getD-set-other steps n 0 k 0 o ∙ noted .first (omega arith)
+      | yes e ↦ rw (← e, getD-set-same shares 0 k 0 (omega arith)) (alone (sym e))
+      | no o ↦ getD-set-other shares n 0 k 0 o ∙ noted .first (omega arith)
     ];
-    shares = λ i h. elim (ℕ-discrete (suc i) n) [
-      | yes e ↦ rw (old-at i (omega arith), new-at (suc i) e, ← e, getD-set-same steps (suc i) k 0 (omega arith)) (next i e)
-      | no o ↦ getD-set-other steps n (suc i) k 0 o ∙ noted .shares i (omega (arith, longer))
+    common = λ i h. elim (ℕ-discrete (suc i) n) [
+      | yes e ↦ rw (old-at i (omega arith), new-at (suc i) e, ← e, getD-set-same shares (suc i) k 0 (omega arith)) (next i e)
+      | no o ↦ getD-set-other shares n (suc i) k 0 o ∙ noted .common i (omega (arith, longer))
           ∙ ap₂ shared (sym (old-at i (omega (arith, longer)))) (sym (old-at (suc i) (omega (arith, longer))))
     ];
   }
@@ -107,28 +107,28 @@ onto-after xs x (Names ys) = ap Names (sym (append-assoc xs (x ∷ []) ys))
 onto-after xs x (Refused code record-number) = refl
 
 -- n names are read, which are noted; the next record begins at o, and the last name has m bytes at p
-pub record ReadUpTo (s : Bytes) (lens steps : List ℕ) (o p m n : ℕ) : Type 0 where
+pub record ReadUpTo (s : Bytes) (lens shares : List ℕ) (o p m n : ℕ) : Type 0 where
   pub within : o ≤ length s
   pub inside : p + m ≤ length s
   pub few : n ≤ 2000
   pub lens-size : length lens ≡ 2000
-  pub steps-size : length steps ≡ 2000
+  pub shares-size : length shares ≡ 2000
   pub done : List Bytes
   pub counted : length done ≡ n
   pub alone : n ≡ 0 → m ≡ 0
   pub last : (i : ℕ) → suc i ≡ n → getD done i [] ≡ part s p m
-  pub noted : Noted done lens steps
+  pub noted : Noted done lens shares
   pub so-far : readList plain s ≡ onto done (readFrom plain n (part s p m) 0 (drop o s))
 
 -- a record begins at o, with the length len
-pub record StandsAt (s : Bytes) (lens steps : List ℕ) (o p m n len : ℕ) : Type 0 where
-  pub read : ReadUpTo s lens steps o p m n
+pub record StandsAt (s : Bytes) (lens shares : List ℕ) (o p m n len : ℕ) : Type 0 where
+  pub read : ReadUpTo s lens shares o p m n
   pub here : o < length s
   pub byte : len ≡ getD s o 0
 
 -- all of it is there, and its name agrees with the last in the first i bytes
-pub record Comparing (s : Bytes) (lens steps : List ℕ) (o p m n len i : ℕ) : Type 0 where
-  pub stands : StandsAt s lens steps o p m n len
+pub record Comparing (s : Bytes) (lens shares : List ℕ) (o p m n len i : ℕ) : Type 0 where
+  pub stands : StandsAt s lens shares o p m n len
   pub some : 0 < len
   pub short : len ≤ 200
   pub whole : o + 1 + len ≤ length s
@@ -136,54 +136,54 @@ pub record Comparing (s : Bytes) (lens steps : List ℕ) (o p m n len i : ℕ) :
   pub in-new : i ≤ len
   pub agree : i ≤ shared (part s p m) (part s (o + 1) len)
 
-module _ {s : Bytes} {lens steps : List ℕ} {o p m n len i : ℕ} where
+module _ {s : Bytes} {lens shares : List ℕ} {o p m n len i : ℕ} where
   -- and in no more
-  pub record Parted (k : Comparing s lens steps o p m n len i) : Type 0 where
-    pub shares : i ≡ shared (part s p m) (part s (o + 1) len)
+  pub record ComesApart (k : Comparing s lens shares o p m n len i) : Type 0 where
+    pub common : i ≡ shared (part s p m) (part s (o + 1) len)
 
-  pub record NewAbove (k : Comparing s lens steps o p m n len i) : Type 0 where
-    pub parted : Parted k
+  pub record NewAbove (k : Comparing s lens shares o p m n len i) : Type 0 where
+    pub parted : ComesApart k
     pub above : less (word plain (part s p m)) (word plain (part s (o + 1) len)) ≡ true
 
-pub reading-start : (s : Bytes) (lens steps : List ℕ) → length lens ≡ 2000 → length steps ≡ 2000 → ReadUpTo s lens steps 0 0 0 0
+pub reading-start : (s : Bytes) (lens shares : List ℕ) → length lens ≡ 2000 → length shares ≡ 2000 → ReadUpTo s lens shares 0 0 0 0
 unfolding readList
-reading-start s lens steps l k = record {
+reading-start s lens shares l k = record {
   within = zero-le;
   inside = zero-le;
   few = zero-le;
   lens-size = l;
-  steps-size = k;
+  shares-size = k;
   done = [];
   counted = refl;
   alone = λ e. refl;
   last = λ i e. refl;
-  noted = noted-none lens steps;
+  noted = noted-none lens shares;
   so-far = onto-none (readFrom plain 0 [] 0 s);
 }
 
-pub good-list : {s : Bytes} {lens steps : List ℕ} {o p m n : ℕ} → ReadUpTo s lens steps o p m n → o ≡ length s → Judged s lens steps (Good n)
+pub good-list : {s : Bytes} {lens shares : List ℕ} {o p m n : ℕ} → ReadUpTo s lens shares o p m n → o ≡ length s → Judged s lens shares (Good n)
 unfolding readFrom names readingOf
-good-list {s} {lens} {steps} {o} r h =
+good-list {s} {lens} {shares} {o} r h =
     let e : readList plain s ≡ Names (r .done) = r .so-far ∙ rw (drop-of-length-le s {i = o} (omega arith)) (ap Names (append-nil (r .done))) in
     record {
       verdict = rw e (ap (λ (n : ℕ). given n 0) (sym (r .counted)));
       refuses = λ code i q. absurd (let z : _≡_ {A = ℕ} 0 1 = cc in omega arith);
-      noted = subst (λ (x : Reading). Noted (namesIn x) lens steps) (sym e) (r .noted);
+      noted = subst (λ (x : Reading). Noted (namesIn x) lens shares) (sym e) (r .noted);
     }
 
-refused : (s : Bytes) (lens steps : List ℕ) (code n : ℕ) → readList plain s ≡ Refused code n → Judged s lens steps (Bad code n)
+refused : (s : Bytes) (lens shares : List ℕ) (code n : ℕ) → readList plain s ≡ Refused code n → Judged s lens shares (Bad code n)
 unfolding names readingOf
-refused s lens steps code n e = record {
+refused s lens shares code n e = record {
   verdict = rw e refl;
   refuses = λ c i q. let same : code ≡ c = cc in omega (arith, read-refused plain s code n e);
-  noted = subst (λ (x : Reading). Noted (namesIn x) lens steps) (sym e) (noted-none lens steps);
+  noted = subst (λ (x : Reading). Noted (namesIn x) lens shares) (sym e) (noted-none lens shares);
 }
 
 -- question 5, as the reading asks it
 abbrev wellSized : Bytes → ℕ → ℕ → Bool
 wellSized s o len = both (goodLength len) (leb len (length (drop (o + 1) s)))
 
-module _ {s : Bytes} {lens steps : List ℕ} {o p m n len : ℕ} (r : StandsAt s lens steps o p m n len) where
+module _ {s : Bytes} {lens shares : List ℕ} {o p m n len : ℕ} (r : StandsAt s lens shares o p m n len) where
   -- a record is asked 5, then 6, then 7
   asked : (a b c : Bool) → wellSized s o len ≡ a → less (word plain (part s p m)) (word plain (part s (o + 1) len)) ≡ b → ltb n mostNames ≡ c
       → readList plain s ≡ onto (r .read .done) (pick a (pick b (pick c
@@ -193,25 +193,25 @@ module _ {s : Bytes} {lens steps : List ℕ} {o p m n len : ℕ} (r : StandsAt s
       let opened : drop o s ≡ len ∷ drop (o + 1) s = drop-cons s o 0 (r .here) ∙ ap₂ (λ (l k : ℕ). l ∷ drop k s) (sym (r .byte)) (sym (add-one o)) in
       r .read .so-far ∙ rw (opened, ea, eb, ec)
 
-  bad-length : wellSized s o len ≡ false → Judged s lens steps (Bad 5 n)
-  bad-length e = refused s lens steps 5 n (asked false _ _ e refl refl)
+  bad-length : wellSized s o len ≡ false → Judged s lens shares (Bad 5 n)
+  bad-length e = refused s lens shares 5 n (asked false _ _ e refl refl)
 
 -- where the list has not ended, and its next length byte is read
-module _ {s : Bytes} {lens steps : List ℕ} {o p m n len : ℕ} (r : ReadUpTo s lens steps o p m n) (more : o ≡ length s → ⊥) (byte : len ≡ getD s o 0) where
-  pub stands-at : StandsAt s lens steps o p m n len
+module _ {s : Bytes} {lens shares : List ℕ} {o p m n len : ℕ} (r : ReadUpTo s lens shares o p m n) (more : o ≡ length s → ⊥) (byte : len ≡ getD s o 0) where
+  pub stands-at : StandsAt s lens shares o p m n len
   stands-at = record { read = r; here = omega (arith, r .within); byte = byte }
 
-  pub no-name : len ≡ 0 → Judged s lens steps (Bad 5 n)
+  pub no-name : len ≡ 0 → Judged s lens shares (Bad 5 n)
   no-name e = bad-length stands-at (rw (le-ltb 0 len (omega arith)))
 
-  pub long-name : 200 < len → Judged s lens steps (Bad 5 n)
+  pub long-name : 200 < len → Judged s lens shares (Bad 5 n)
   long-name l = bad-length stands-at (rw (lt-ltb 0 len (omega arith), lt-leb len 200 l))
 
   module _ (some : len ≡ 0 → ⊥) (l : len ≤ 200) where
-    pub cut-name : length s - (o + 1) < len → Judged s lens steps (Bad 5 n)
+    pub cut-name : length s - (o + 1) < len → Judged s lens shares (Bad 5 n)
     cut-name f = bad-length stands-at (rw (lt-ltb 0 len (omega arith), le-leb len 200 l, length-drop (o + 1) s, lt-leb len (length s - (o + 1)) f))
 
-    pub comparing-start : len ≤ length s - (o + 1) → Comparing s lens steps o p m n len 0
+    pub comparing-start : len ≤ length s - (o + 1) → Comparing s lens shares o p m n len 0
     comparing-start f = record {
       stands = stands-at;
       some = omega arith;
@@ -222,7 +222,7 @@ module _ {s : Bytes} {lens steps : List ℕ} {o p m n len : ℕ} (r : ReadUpTo s
       agree = zero-le;
     }
 
-module _ {s : Bytes} {lens steps : List ℕ} {o p m n len i : ℕ} (k : Comparing s lens steps o p m n len i) where
+module _ {s : Bytes} {lens shares : List ℕ} {o p m n len i : ℕ} (k : Comparing s lens shares o p m n len i) where
   sized : wellSized s o len ≡ true
   sized = rw (lt-ltb 0 len (k .some), le-leb len 200 (k .short), length-drop (o + 1) s, le-leb len (length s - (o + 1)) (omega (arith, k .whole)))
 
@@ -245,12 +245,12 @@ module _ {s : Bytes} {lens steps : List ℕ} {o p m n len i : ℕ} (k : Comparin
 
   -- the bytes are compared up to the end of the shorter name
   module _ {most : ℕ} (least : most ≡ min len m) where
-    pub one-ends : i ≡ most → Parted k
+    pub one-ends : i ≡ most → ComesApart k
     one-ends e =
         let in-old : shared (part s p m) (part s (o + 1) len) ≤ m = omega (arith, shared-le (part s p m) (part s (o + 1) len), old-length) in
         let in-new : shared (part s p m) (part s (o + 1) len) ≤ len =
         omega (arith, shared-le (part s (o + 1) len) (part s p m), shared-comm (part s p m) (part s (o + 1) len), new-length) in
-        record { shares = omega arith }
+        record { common = omega arith }
 
     module _ (left : i ≡ most → ⊥) where
       old-left : i < m
@@ -259,12 +259,12 @@ module _ {s : Bytes} {lens steps : List ℕ} {o p m n len i : ℕ} (k : Comparin
       new-left : i < len
       new-left = omega arith
 
-      pub bytes-differ : (getD s (p + i) 0 ≡ getD s (o + 1 + i) 0 → ⊥) → Parted k
+      pub bytes-differ : (getD s (p + i) 0 ≡ getD s (o + 1 + i) 0 → ⊥) → ComesApart k
       bytes-differ d = record {
-        shares = sym (part-at (part s p m) (part s (o + 1) len) i (k .agree) (λ e. d (sym (old-byte old-left) ∙ e ∙ new-byte new-left)));
+        common = sym (part-at (part s p m) (part s (o + 1) len) i (k .agree) (λ e. d (sym (old-byte old-left) ∙ e ∙ new-byte new-left)));
       }
 
-      pub byte-same : getD s (p + i) 0 ≡ getD s (o + 1 + i) 0 → Comparing s lens steps o p m n len (i + 1)
+      pub byte-same : getD s (p + i) 0 ≡ getD s (o + 1 + i) 0 → Comparing s lens shares o p m n len (i + 1)
       byte-same e = record {
         stands = k .stands;
         some = k .some;
@@ -276,20 +276,20 @@ module _ {s : Bytes} {lens steps : List ℕ} {o p m n len i : ℕ} (k : Comparin
       }
 
 -- where they part, their symbols tell which name is less
-module _ {s : Bytes} {lens steps : List ℕ} {o p m n len i : ℕ} {k : Comparing s lens steps o p m n len i} (q : Parted k) where
+module _ {s : Bytes} {lens shares : List ℕ} {o p m n len i : ℕ} {k : Comparing s lens shares o p m n len i} (q : ComesApart k) where
   order : less (word plain (part s p m)) (word plain (part s (o + 1) len)) ≡ ltb (symbol s p m i) (symbol s (o + 1) len i)
   order =
       let e : shared (word plain (part s p m)) (word plain (part s (o + 1) len)) ≡ i =
-      shared-word plain plain-injective (part s p m) (part s (o + 1) len) ∙ sym (q .shares) in
+      shared-word plain plain-injective (part s p m) (part s (o + 1) len) ∙ sym (q .common) in
       less-by (word plain (part s p m)) (word plain (part s (o + 1) len)) i e
 
-  not-less : symbol s (o + 1) len i ≤ symbol s p m i → Judged s lens steps (Bad 6 n)
-  not-less l = refused s lens steps 6 n (asked (k .stands) true false _ (sized k) (order ∙ le-ltb (symbol s p m i) (symbol s (o + 1) len i) l) refl)
+  not-less : symbol s (o + 1) len i ≤ symbol s p m i → Judged s lens shares (Bad 6 n)
+  not-less l = refused s lens shares 6 n (asked (k .stands) true false _ (sized k) (order ∙ le-ltb (symbol s p m i) (symbol s (o + 1) len i) l) refl)
 
   is-less : symbol s p m i < symbol s (o + 1) len i → NewAbove k
   is-less l = record { parted = q; above = order ∙ lt-ltb (symbol s p m i) (symbol s (o + 1) len i) l }
 
-  pub new-ends : i ≡ len → Judged s lens steps (Bad 6 n)
+  pub new-ends : i ≡ len → Judged s lens shares (Bad 6 n)
   new-ends e = not-less (omega (arith, symbol-past s (o + 1) len (k .whole) i (omega arith)))
 
   module _ (left : i ≡ len → ⊥) where
@@ -306,24 +306,24 @@ module _ {s : Bytes} {lens steps : List ℕ} {o p m n len i : ℕ} {k : Comparin
       old-symbol : symbol s p m i ≡ suc (getD s (p + i) 0)
       old-symbol = symbol-in s p m (k .stands .read .inside) i h
 
-      pub byte-below : getD s (o + 1 + i) 0 < getD s (p + i) 0 → Judged s lens steps (Bad 6 n)
+      pub byte-below : getD s (o + 1 + i) 0 < getD s (p + i) 0 → Judged s lens shares (Bad 6 n)
       byte-below l = not-less (omega (arith, old-symbol, new-symbol))
 
       pub byte-above : getD s (p + i) 0 ≤ getD s (o + 1 + i) 0 → NewAbove k
       byte-above l =
-          let differ : getD s (p + i) 0 ≡ getD s (o + 1 + i) 0 → ⊥ = λ e. omega (arith, one-more k h some-left e, q .shares) in
+          let differ : getD s (p + i) 0 ≡ getD s (o + 1 + i) 0 → ⊥ = λ e. omega (arith, one-more k h some-left e, q .common) in
           is-less (omega (arith, old-symbol, new-symbol))
 
-module _ {s : Bytes} {lens steps : List ℕ} {o p m n len i : ℕ} {k : Comparing s lens steps o p m n len i} (a : NewAbove k) where
-  pub too-many : 2000 ≤ n → Judged s lens steps (Bad 7 n)
-  too-many h = refused s lens steps 7 n (asked (k .stands) true true false (sized k) (a .above) (le-ltb n mostNames h))
+module _ {s : Bytes} {lens shares : List ℕ} {o p m n len i : ℕ} {k : Comparing s lens shares o p m n len i} (a : NewAbove k) where
+  pub too-many : 2000 ≤ n → Judged s lens shares (Bad 7 n)
+  too-many h = refused s lens shares 7 n (asked (k .stands) true true false (sized k) (a .above) (le-ltb n mostNames h))
 
   pub list-falls : length s - (o + 1 + len) < length s - o
   list-falls = omega (arith, k .whole)
 
-  pub reading-more : n < 2000 → ReadUpTo s (set lens n len) (set steps n i) (o + 1 + len) (o + 1) len (n + 1)
+  pub reading-more : n < 2000 → ReadUpTo s (set lens n len) (set shares n i) (o + 1 + len) (o + 1) len (n + 1)
   reading-more h =
-      let r : ReadUpTo s lens steps o p m n = k .stands .read in
+      let r : ReadUpTo s lens shares o p m n = k .stands .read in
       let x : Bytes = part s (o + 1) len in
       let rest : Bytes = drop (o + 1 + len) s in
       let skipped : readFrom plain (suc n) x len (drop (o + 1) s) ≡ readFrom plain (n + 1) x 0 rest =
@@ -333,14 +333,14 @@ module _ {s : Bytes} {lens steps : List ℕ} {o p m n len i : ℕ} {k : Comparin
         inside = k .whole;
         few = omega arith;
         lens-size = length-set lens n len ∙ r .lens-size;
-        steps-size = length-set steps n i ∙ r .steps-size;
+        shares-size = length-set shares n i ∙ r .shares-size;
         done = r .done ++ (x ∷ []);
         counted = length-append (r .done) (x ∷ []) ∙ ap (λ (c : ℕ). c + 1) (r .counted);
         alone = λ e. absurd (omega arith);
         last = λ j e. getD-at (r .done) x [] [] j (r .counted ∙ omega arith);
-        noted = noted-more (r .done) x lens steps n len i (r .noted) (r .counted) (omega (arith, r .lens-size)) (omega (arith, r .steps-size)) (new-length k)
+        noted = noted-more (r .done) x lens shares n len i (r .noted) (r .counted) (omega (arith, r .lens-size)) (omega (arith, r .shares-size)) (new-length k)
             (λ e. omega (arith, k .in-old, r .alone e))
-            (λ j e. a .parted .shares ∙ ap (λ (y : Bytes). shared y x) (sym (r .last j e)));
+            (λ j e. a .parted .common ∙ ap (λ (y : Bytes). shared y x) (sym (r .last j e)));
         so-far =
             asked (k .stands) true true true (sized k) (a .above) (lt-ltb n mostNames h)
             ∙ ap (λ (y : Reading). onto (r .done) (after x y)) skipped

@@ -11,14 +11,14 @@ use mathlib.Core.Path.{_≡_, refl, sym, ap, _∙_}
 use mathlib.Core.List.{List, [], _∷_, _++_, append-assoc, append-nil}
 use lib.ListN.{length, getD, take, drop, length-append, length-map, take-append-drop}
 use lib.Seq.{getD-drop, take-suc, drop-drop, drop-cons, drop-at, take-at, take-all}
-use Rattle.words.specs.Words.{Bytes, Rises, nth, plain, word}
+use Rattle.words.specs.Rising.{Rises}
+use Rattle.words.specs.Words.{Bytes, nth, plain, word}
 use Rattle.words.proofs.Lists.{all-at}
 use Rattle.words.proofs.Rising.{nth-word}
 use Rattle.words.proofs.Words.{plain-lawful}
 use Rattle.format.specs.Records.{encode, sound}
 use Rattle.format.proofs.Records.{rising-sizes, sound-rises, sound-rising}
-use Rattle.records.specs.Lists.{names, words}
-use Rattle.records.specs.Lists.{Ready, startOf}
+use Rattle.records.specs.Lists.{Ready, names, startOf, words}
 
 encode-append : (xs ys : List Bytes) → encode (xs ++ ys) ≡ encode xs ++ encode ys
 unfolding encode
@@ -37,7 +37,7 @@ pub words-length : (s : Bytes) → length (words s) ≡ length (names s)
 unfolding words
 words-length s = length-map (names s) (word plain)
 
-module _ {s : Bytes} {n : ℕ} {lens steps : List ℕ} (a : Ready s n lens steps) where
+module _ {s : Bytes} {n : ℕ} {lens shares : List ℕ} (a : Ready s n lens shares) where
   pub ready-rises : Rises (words s)
   unfolding words
   ready-rises = sound-rises plain plain-lawful (names s) (a .sound)

@@ -30,25 +30,25 @@ names s = namesIn (readList plain s)
 unfoldable pub words : Bytes → Words
 words s = map (word plain) (names s)
 
-pub record Noted (xs : List Bytes) (lens steps : List ℕ) : Type 0 where
+pub record Noted (xs : List Bytes) (lens shares : List ℕ) : Type 0 where
   pub lens-room : length xs ≤ length lens
-  pub steps-room : length xs ≤ length steps
+  pub shares-room : length xs ≤ length shares
   pub sizes : (i : ℕ) → i < length xs → getD lens i 0 ≡ length (getD xs i [])
-  pub first : 0 < length xs → getD steps 0 0 ≡ 0
-  pub shares : (i : ℕ) → suc i < length xs → getD steps (suc i) 0 ≡ shared (getD xs i []) (getD xs (suc i) [])
+  pub first : 0 < length xs → getD shares 0 0 ≡ 0
+  pub common : (i : ℕ) → suc i < length xs → getD shares (suc i) 0 ≡ shared (getD xs i []) (getD xs (suc i) [])
 
-pub record Judged (s : Bytes) (lens steps : List ℕ) (r : Verdict) : Type 0 where
+pub record Judged (s : Bytes) (lens shares : List ℕ) (r : Verdict) : Type 0 where
   pub verdict : verdictNumbers r ≡ readingOf (readList plain s)
   pub refuses : (code i : ℕ) → r ≡ Bad code i → 5 ≤ code
-  pub noted : Noted (names s) lens steps
+  pub noted : Noted (names s) lens shares
 
 -- a list of n names has been judged
-pub record Ready (s : Bytes) (n : ℕ) (lens steps : List ℕ) : Type 0 where
+pub record Ready (s : Bytes) (n : ℕ) (lens shares : List ℕ) : Type 0 where
   pub bytes : encode (names s) ≡ s
   pub total : n ≡ length (names s)
   pub few : n ≤ 2000
   pub sound : sound plain (names s) ≡ true
-  pub noted : Noted (names s) lens steps
+  pub noted : Noted (names s) lens shares
 
 -- where record number i begins
 abbrev pub startOf : Bytes → ℕ → ℕ

@@ -15,9 +15,9 @@ pub enum Verdict {
 }
 
 // Reads the list. The name before stands at `prev` and has `before` bytes: at first there is none.
-pub fn judge(list: &[u8], lens: &mut [u8], steps: &mut [u8]) -> Verdict
-    requires { ⌜ (length (now lens) ≡ 2000) × (length (now steps) ≡ 2000) ⌝ }
-    ensures { λ r. ⌜ Judged (now (list .entry)) (now (lens .exit)) (now (steps .exit)) r ⌝ }
+pub fn judge(list: &[u8], lens: &mut [u8], shares: &mut [u8]) -> Verdict
+    requires { ⌜ (length (now lens) ≡ 2000) × (length (now shares) ≡ 2000) ⌝ }
+    ensures { λ r. ⌜ Judged (now (list .entry)) (now (lens .exit)) (now (shares .exit)) r ⌝ }
 {
     let mut at: usize = 0;
     let mut prev: usize = 0;
@@ -61,7 +61,7 @@ pub fn judge(list: &[u8], lens: &mut [u8], steps: &mut [u8]) -> Verdict
             break 'records Verdict::Bad(7, n);
         }
         lens[n] = len as u8;
-        steps[n] = i as u8;
+        shares[n] = i as u8;
         prev = start;
         before = len;
         at = start + len;

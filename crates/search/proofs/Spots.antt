@@ -1,10 +1,11 @@
 -- The node that is found, and the answers there.
---     Climbing, climb-..   the loop of `highest`, from the end of the path
+--     Upwards, climb-..   the loop of `highest`, from the end of the path
 --     end-.., met-..       the last node of the path; the name that is reached, and how it stands to the question
+--     starts               the node table, where the trailer tells
 --     spot                 the highest node that is deep enough is the one with the names that share most
 --     seat-..              the place there: before or after the edge, a child, the end of the row
 --     range-.., nearest-is, exact-..   the other answers
---     table-at, by-..      where the table starts; an answer by the number of its kind
+--     by-..                an answer by the number of its kind
 -- Assumes nothing.
 use Prim.Native.Nat.{ℕ, suc, _+_, _-_, _≤_, _<_}
 use native.Mathlib.Nat.{lt-irrefl}
@@ -13,7 +14,8 @@ use mathlib.Core.Path.{_≡_, _∙_, ap, ap₂, subst, sym}
 use mathlib.Core.Logic.{_⊎_, inl, inr}
 use mathlib.Core.List.{List, []}
 use lib.ListN.{getD, length, length-map, take}
-use Rattle.words.specs.Words.{Bytes, Positive, Words, at, begins, nth, plain, shared, word}
+use Rattle.words.specs.Rising.{Positive}
+use Rattle.words.specs.Words.{Bytes, Words, at, begins, nth, plain, shared, word}
 use Rattle.words.proofs.Rising.{nth-positive, nth-word}
 use Rattle.words.proofs.Words.{apart, at-past, plain-lawful, shared-le, shared-parts, shared-self, word-positive}
 use Rattle.format.specs.Nodes.{table}
@@ -23,24 +25,25 @@ use Rattle.descent.specs.Vocabulary.{Descended, Highest, Reached, Searchable, S
 use Rattle.standing.specs.Maps.{rowsAt}
 use Rattle.descent.proofs.Cuts.{exact-here, exact-nowhere, range-none, whole-range}
 use Rattle.descent.proofs.Paths.{edge-after, edge-before, fork-child, fork-end, fork-wide, found, only-reached, passed-deepens, passed-sits, reached-is}
-use Rattle.format.specs.Book.{namesOf, wordsOf}
-use Rattle.accept.specs.Parts.{told}
+use Rattle.format.specs.Spans.{wordsOf}
+use Rattle.format.specs.Book.{namesOf}
+use Rattle.trailer.specs.declared.Trailer.{Trailer}
 use Rattle.names.specs.Names.{Named, PositionAsk}
-use Rattle.search.specs.Asks.{Askable, AtFork, AtSpot, MetSays, Numbered, OnPath, SpotSays}
+use Rattle.search.specs.Asks.{Askable, AtFork, AtSpot, MetSays, NodeNumber, OnPath, SpotSays}
 use Rattle.search.proofs.Ways.{asked-at, asked-length}
 
 -- ---- `highest`
 
 -- from the end of the path to j no node but the last is less deep than m
-pub record Climbing (b : Bytes) (start : ℕ) (p : List ℕ) (n m j : ℕ) : Type 0 where
+pub record Upwards (b : Bytes) (start : ℕ) (p : List ℕ) (n m j : ℕ) : Type 0 where
   pub nodes : OnPath b start p n
   pub within : j < n
   pub deep : (m ≤ node (wordsOf plain b) (getD p j 0) .depth) ⊎ (suc j ≡ n)
 
-pub climb-start : {b : Bytes} {start : ℕ} {p : List ℕ} {n m : ℕ} → OnPath b start p n → Climbing b start p n m (n - 1)
+pub climb-start : {b : Bytes} {start : ℕ} {p : List ℕ} {n m : ℕ} → OnPath b start p n → Upwards b start p n m (n - 1)
 climb-start t = record { nodes = t; within = omega (arith, t .some); deep = inr (omega (arith, t .some)) }
 
-module _ {b : Bytes} {start : ℕ} {p : List ℕ} {n m j : ℕ} (k : Climbing b start p n m j) where
+module _ {b : Bytes} {start : ℕ} {p : List ℕ} {n m j : ℕ} (k : Upwards b start p n m j) where
   -- node r of the path is the highest, if those above it are less deep
   climbed : {r : ℕ} → r ≡ getD p j 0 → ((i : ℕ) → i < j → node (wordsOf plain b) (getD p i 0) .depth < m) → Highest (wordsOf plain b) p n m r
   climbed {r} e a = record {
@@ -58,7 +61,7 @@ module _ {b : Bytes} {start : ℕ} {p : List ℕ} {n m j : ℕ} (k : Climbing b 
 
   -- v is the node before, d its depth
   module _ (h : 0 < j) {v : ℕ} (e : v ≡ getD p (j - 1) 0) where
-    pub climb-numbered : Numbered b start v
+    pub climb-numbered : NodeNumber b start v
     climb-numbered = record {
       searchable = k .nodes .searchable;
       inside = subst (λ (u : ℕ). u < length (table (wordsOf plain b))) (sym e) (k .nodes .sits (j - 1) (omega (arith, k .within)) .inside);
@@ -68,7 +71,7 @@ module _ {b : Bytes} {start : ℕ} {p : List ℕ} {n m j : ℕ} (k : Climbing b 
       depth-is : d ≡ node (wordsOf plain b) (getD p (j - 1) 0) .depth
       depth-is = de ∙ ap (λ (u : ℕ). node (wordsOf plain b) u .depth) e
 
-      pub climb-more : m ≤ d → Climbing b start p n m (j - 1)
+      pub climb-more : m ≤ d → Upwards b start p n m (j - 1)
       climb-more l = record { nodes = k .nodes; within = omega (arith, k .within); deep = inl (omega (arith, depth-is)) }
 
       pub climb-found : d < m → {r : ℕ} → r ≡ getD p j 0 → Highest (wordsOf plain b) p n m r
@@ -80,7 +83,7 @@ module _ {b : Bytes} {start : ℕ} {p : List ℕ} {n m j : ℕ} (k : Climbing b 
               let g : j - 1 ≡ i = omega arith in
               subst (λ (a : ℕ). node (wordsOf plain b) (getD p a 0) .depth < m) g (omega (arith, depth-is))
 
--- ---- `meet`
+-- ---- `compare`
 
 -- the front of the array is the name at the position
 module _ (b : Bytes) (position : ℕ) {len : ℕ} (q name : Bytes) (n : Named (getD (namesOf b) position []) len name) where
@@ -104,7 +107,7 @@ module _ (b q : Bytes) {start : ℕ} (o : Searchable plain b (rowsAt start)) {p 
   ends : Sits (wordsOf plain b) last
   ends = passed-sits (wordsOf plain b) (o .rises) (t .path) (o .short)
 
-  pub end-numbered : Numbered b start last
+  pub end-numbered : NodeNumber b start last
   end-numbered = record { searchable = o; inside = ends .inside }
 
   pub end-path : OnPath b start p n
@@ -130,19 +133,24 @@ module _ (b q : Bytes) {start : ℕ} (o : Searchable plain b (rowsAt start)) {p 
           next = e .next ∙ ap (λ (i : ℕ). at (nth (wordsOf plain b) i) m) is;
         }
 
+-- the table starts where the trailer tells
+pub starts : {b : Bytes} {t : Trailer} {start : ℕ} → Askable b t → start ≡ t .nodes → Searchable plain b (rowsAt start)
+starts {b} a e = subst (λ (o : ℕ). Searchable plain b (rowsAt o)) (sym (e ∙ a .nodes)) (a .searchable)
+
 -- the name that is reached can be read
-pub name-ask : {b : Bytes} {k start r : ℕ} (q : List ℕ) → Askable b k start → Reached (wordsOf plain b) q r → PositionAsk b k r
+pub name-ask : {b : Bytes} {t : Trailer} {r : ℕ} (q : List ℕ) → Askable b t → Reached (wordsOf plain b) q r → PositionAsk b t r
 unfolding wordsOf
-name-ask {b} {k} {start} {r} q a o = record {
+name-ask {b} q a o = record {
   parts = a .parts;
   block = a .block;
+  table = a .table;
   within = omega (arith, o .within, length-map (namesOf b) (word plain));
 }
 
 -- at the end of a path
-pub end-ask : {b : Bytes} (q : Bytes) {k start r : ℕ} {p : List ℕ} {n last : ℕ} → Askable b k start → Descended (wordsOf plain b) (asked plain q) p n last
-    → r ≡ node (wordsOf plain b) last .first → PositionAsk b k r
-end-ask {b} q a t f = name-ask (asked plain q) a (end-reached b q (a .searchable) t f)
+pub end-ask : {b : Bytes} (q : Bytes) {t : Trailer} {r : ℕ} {p : List ℕ} {n last : ℕ} → Askable b t → Descended (wordsOf plain b) (asked plain q) p n last
+    → r ≡ node (wordsOf plain b) last .first → PositionAsk b t r
+end-ask {b} q a way f = name-ask (asked plain q) a (end-reached b q (a .searchable) way f)
 
 -- ---- `seat`
 
@@ -238,9 +246,6 @@ module _ {b : Bytes} {start : ℕ} (q : Bytes) (o : Searchable plain b (rowsAt s
 
 -- ---- by the number of the kind
 
-pub table-at : {b : Bytes} {k start : ℕ} → Askable b k (told b 6) → start ≡ told b 6 → Askable b k start
-table-at {b} {k} a e = subst (Askable b k) (sym e) a
-
 module _ (q : List ℕ) (ws : Words) {p : Numbers} (kind : ℕ) where
   by-kind : (j : ℕ) → kind ≡ j → p ≡ ask j q ws → p ≡ ask kind q ws
   by-kind j e f = subst (λ (i : ℕ). p ≡ ask i q ws) (sym e) f
@@ -257,7 +262,6 @@ module _ (q : List ℕ) (ws : Words) {p : Numbers} (kind : ℕ) where
   unfolding ask
   by-range e f = by-kind 3 e f
 
-  -- the last kind is what is left
-  pub by-nearest : 4 ≤ kind → p ≡ nearest q ws → p ≡ ask kind q ws
+  pub by-nearest : kind ≡ 4 → p ≡ nearest q ws → p ≡ ask kind q ws
   unfolding ask
-  by-nearest h f = by-kind (suc (suc (suc (suc (kind - 4))))) (omega arith) f
+  by-nearest e f = by-kind 4 e f

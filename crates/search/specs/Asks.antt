@@ -1,11 +1,11 @@
 -- What the functions of the search ask and give.
---     Numbered, FieldAsk    a record of the node table; one of its fields
+--     NodeNumber, FieldAsk    a record of the node table; one of its fields
 --     AtNode, AtFork        a node; a node of several names
 --     WayOf                 where a question goes from a node
 --     OnPath                the front of an array holds nodes, each deeper than the one before
 --     MetSays               how a name stands to a question
 --     SpotSays, AtSpot      the node whose names share most with a question
---     Askable, KindAsk      what an accepted book with names is to a search; the kind has a number from 1 on
+--     Askable, KindAsk      what an accepted book with names is to a search; the kind has a number from 1 to 4
 --     pairOf                an answer's two numbers
 -- Assumes nothing: these are definitions.
 use Prim.Native.Nat.{ℕ, _<_, _≤_}
@@ -16,21 +16,23 @@ use Rattle.words.specs.Words.{Bytes, Words, at, nth, plain, shared}
 use Rattle.format.specs.Nodes.{table}
 use Rattle.answers.specs.Questions.{Pair as Numbers, reached}
 use Rattle.descent.specs.Vocabulary.{Halts, Located, Searchable, Sits, Taken, asked, node}
-use Rattle.format.specs.Book.{fieldCount, wordsOf}
+use Rattle.format.specs.Spans.{wordsOf}
+use Rattle.format.specs.Book.{fieldCount, told}
 use Rattle.standing.specs.Maps.{rowsAt}
-use Rattle.accept.specs.Parts.{Parts, told}
+use Rattle.trailer.specs.declared.Trailer.{Trailer}
+use Rattle.accept.specs.Parts.{Parts}
 use Rattle.search.specs.declared.Pair.{Pair}
 use Rattle.search.specs.declared.Way.{Way}
 use Rattle.search.specs.declared.Way.the-variants.{Down, Stay}
 
 -- ---- the table of nodes, which starts at `start`
 
-pub record Numbered (b : Bytes) (start v : ℕ) : Type 0 where
+pub record NodeNumber (b : Bytes) (start v : ℕ) : Type 0 where
   pub searchable : Searchable plain b (rowsAt start)
   pub inside : v < length (table (wordsOf plain b))
 
 pub record FieldAsk (b : Bytes) (start v j : ℕ) : Type 0 where
-  pub numbered : Numbered b start v
+  pub numbered : NodeNumber b start v
   pub field : j < fieldCount
 
 pub record AtNode (b : Bytes) (start v : ℕ) : Type 0 where
@@ -75,14 +77,17 @@ pub record AtSpot (b : Bytes) (start : ℕ) (q : Bytes) (v m s : ℕ) : Type 0 w
 
 -- ---- the questions
 
-pub record Askable (b : Bytes) (k start : ℕ) : Type 0 where
+pub record Askable (b : Bytes) (t : Trailer) : Type 0 where
   pub parts : Parts b
-  pub block : k ≡ told b 2
-  pub searchable : Searchable plain b (rowsAt start)
+  pub block : t .block ≡ told b 1
+  pub table : t .blocks ≡ told b 2
+  pub nodes : t .nodes ≡ told b 3
+  pub searchable : Searchable plain b (rowsAt (told b 3))
 
-pub record KindAsk (b : Bytes) (k kind : ℕ) : Type 0 where
-  pub askable : Askable b k (told b 6)
-  pub some : 1 ≤ kind
+pub record KindAsk (b : Bytes) (t : Trailer) (kind : ℕ) : Type 0 where
+  pub askable : Askable b t
+  pub low : 1 ≤ kind
+  pub high : kind ≤ 4
 
 abbrev pub pairOf : Pair → Numbers
 pairOf r = (r .first, r .second)

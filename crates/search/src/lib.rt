@@ -4,12 +4,13 @@ ghost use mathlib.Core.Path.{_≡_};
 ghost use Prim.Native.Nat.{_≤_};
 ghost use lib.ListN.{getD};
 ghost use Rattle.words.specs.Words.{plain};
-ghost use Rattle.format.specs.Book.{fields, wordsOf};
+ghost use Rattle.format.specs.Spans.{wordsOf};
+ghost use Rattle.format.specs.Book.{fields};
 ghost use Rattle.standing.specs.Maps.{rowsAt};
 ghost use Rattle.answers.specs.Questions.{ask, exact, nearest, place, range};
 ghost use Rattle.descent.specs.Vocabulary.{Descended, Highest, Located, Reached, Searchable, Sought, asked, node};
 ghost use Rattle.names.specs.Names.{PositionAsk};
-ghost use Rattle.search.specs.Asks.{AtFork, AtNode, AtSpot, Askable, FieldAsk, KindAsk, MetSays, Numbered, OnPath, SpotSays, WayOf, pairOf};
+ghost use Rattle.search.specs.Asks.{AtFork, AtNode, AtSpot, Askable, FieldAsk, KindAsk, MetSays, NodeNumber, OnPath, SpotSays, WayOf, pairOf};
 
 // An answer's two numbers.
 pub struct Pair {
@@ -43,99 +44,99 @@ pub struct Spot {
     pub symbol: usize,
 }
 
-// Field number j of node v, in the table at `nodes`.
-fn field(book: &[u8], nodes: usize, v: usize, j: usize) -> usize
-    requires { ⌜ FieldAsk (now book) nodes v j ⌝ }
+// Field number j of node v, in the table from `start` on.
+fn field(book: &[u8], start: usize, v: usize, j: usize) -> usize
+    requires { ⌜ FieldAsk (now book) start v j ⌝ }
     ensures { λ r. ⌜ r ≡ getD (fields (node (wordsOf plain (now (book .entry))) v)) j 0 ⌝ }
 {
-    fields::field(book, nodes + v * fields::SIZE, j)
+    fields::field(book, start + v * fields::SIZE, j)
 }
 
-fn symbol_of(book: &[u8], nodes: usize, v: usize) -> usize
-    requires { ⌜ Numbered (now book) nodes v ⌝ }
+fn symbol_of(book: &[u8], start: usize, v: usize) -> usize
+    requires { ⌜ NodeNumber (now book) start v ⌝ }
     ensures { λ r. ⌜ r ≡ node (wordsOf plain (now (book .entry))) v .symbol ⌝ }
 {
-    field(book, nodes, v, 0)
+    field(book, start, v, 0)
 }
 
-fn depth_of(book: &[u8], nodes: usize, v: usize) -> usize
-    requires { ⌜ Numbered (now book) nodes v ⌝ }
+fn depth_of(book: &[u8], start: usize, v: usize) -> usize
+    requires { ⌜ NodeNumber (now book) start v ⌝ }
     ensures { λ r. ⌜ r ≡ node (wordsOf plain (now (book .entry))) v .depth ⌝ }
 {
-    field(book, nodes, v, 1)
+    field(book, start, v, 1)
 }
 
-fn first_of(book: &[u8], nodes: usize, v: usize) -> usize
-    requires { ⌜ Numbered (now book) nodes v ⌝ }
+fn first_of(book: &[u8], start: usize, v: usize) -> usize
+    requires { ⌜ NodeNumber (now book) start v ⌝ }
     ensures { λ r. ⌜ r ≡ node (wordsOf plain (now (book .entry))) v .first ⌝ }
 {
-    field(book, nodes, v, 2)
+    field(book, start, v, 2)
 }
 
-fn names_of(book: &[u8], nodes: usize, v: usize) -> usize
-    requires { ⌜ Numbered (now book) nodes v ⌝ }
+fn names_of(book: &[u8], start: usize, v: usize) -> usize
+    requires { ⌜ NodeNumber (now book) start v ⌝ }
     ensures { λ r. ⌜ r ≡ node (wordsOf plain (now (book .entry))) v .names ⌝ }
 {
-    field(book, nodes, v, 3)
+    field(book, start, v, 3)
 }
 
-fn nodes_of(book: &[u8], nodes: usize, v: usize) -> usize
-    requires { ⌜ Numbered (now book) nodes v ⌝ }
+fn nodes_of(book: &[u8], start: usize, v: usize) -> usize
+    requires { ⌜ NodeNumber (now book) start v ⌝ }
     ensures { λ r. ⌜ r ≡ node (wordsOf plain (now (book .entry))) v .nodes ⌝ }
 {
-    field(book, nodes, v, 4)
+    field(book, start, v, 4)
 }
 
 // The first child of v whose symbol is not below s, or the end of v's row where there is none.
-fn seek(book: &[u8], nodes: usize, v: usize, s: usize) -> usize
-    requires { ⌜ AtFork (now book) nodes v ⌝ }
+fn seek(book: &[u8], start: usize, v: usize, s: usize) -> usize
+    requires { ⌜ AtFork (now book) start v ⌝ }
     ensures { λ r. ⌜ Sought (wordsOf plain (now (book .entry))) v s r ⌝ }
 {
-    let end = v + nodes_of(book, nodes, v);
+    let end = v + nodes_of(book, start, v);
     let mut c = v + 1;
     while c < end {
-        if s <= symbol_of(book, nodes, c) {
+        if s <= symbol_of(book, start, c) {
             return c;
         }
-        c += nodes_of(book, nodes, c);
+        c += nodes_of(book, start, c);
     }
     c
 }
 
 // Where the question goes from v: to the child with its symbol at v's depth. It stays at a leaf, where the depth exceeds its length, and
 // where no child fits.
-fn child(book: &[u8], nodes: usize, question: &[u8], v: usize) -> Way
-    requires { ⌜ AtNode (now book) nodes v ⌝ }
+fn child(book: &[u8], start: usize, question: &[u8], v: usize) -> Way
+    requires { ⌜ AtNode (now book) start v ⌝ }
     ensures { λ r. ⌜ WayOf (wordsOf plain (now (book .entry))) (asked plain (now (question .entry))) v r ⌝ }
 {
-    if names_of(book, nodes, v) == 1 {
+    if names_of(book, start, v) == 1 {
         return Way::Stay;
     }
-    let d = depth_of(book, nodes, v);
+    let d = depth_of(book, start, v);
     if question.len() < d {
         return Way::Stay;
     }
     let s = symbols::symbol_at(question, 0, d);
-    let c = seek(book, nodes, v, s);
-    if v + nodes_of(book, nodes, v) <= c {
+    let c = seek(book, start, v, s);
+    if v + nodes_of(book, start, v) <= c {
         return Way::Stay;
     }
-    if symbol_of(book, nodes, c) != s {
+    if symbol_of(book, start, c) != s {
         return Way::Stay;
     }
     Way::Down(c)
 }
 
 // The way down from the root.
-fn descend(book: &[u8], nodes: usize, question: &[u8]) -> Descent
-    requires { ⌜ Searchable plain (now book) (rowsAt nodes) ⌝ }
+fn descend(book: &[u8], start: usize, question: &[u8]) -> Descent
+    requires { ⌜ Searchable plain (now book) (rowsAt start) ⌝ }
     ensures { λ r. ⌜ Descended (wordsOf plain (now (book .entry))) (asked plain (now (question .entry))) (r .path) (r .len) (r .last) ⌝ }
 {
     let mut path = [0u16; 202];
     let mut n: usize = 1;
     let mut v: usize = 0;
     loop {
-        match child(book, nodes, question, v) {
+        match child(book, start, question, v) {
             Way::Down(c) => {
                 path[n] = c as u16;
                 n += 1;
@@ -155,8 +156,8 @@ fn descend(book: &[u8], nodes: usize, question: &[u8]) -> Descent
 // The highest node of the path whose depth is at least `shared`, or the last. It is looked for from the end, where it mostly stands: depths
 // rise along the path, so it is the first one that has a less deep node above it, or the root. The path is taken out of the struct, since
 // the compiler copies it twice where it is indexed in there.
-fn highest(book: &[u8], nodes: usize, way: Descent, shared: usize) -> usize
-    requires { ⌜ OnPath (now book) nodes (way .path) (way .len) ⌝ }
+fn highest(book: &[u8], start: usize, way: Descent, shared: usize) -> usize
+    requires { ⌜ OnPath (now book) start (way .path) (way .len) ⌝ }
     ensures { λ r. ⌜ Highest (wordsOf plain (now (book .entry))) (way .path) (way .len) shared r ⌝ }
 {
     let path = way.path;
@@ -165,7 +166,7 @@ fn highest(book: &[u8], nodes: usize, way: Descent, shared: usize) -> usize
     while 0 < j {
         let above = j - 1;
         let v = numbers::wide16(path[above]);
-        if depth_of(book, nodes, v) < shared {
+        if depth_of(book, start, v) < shared {
             return numbers::wide16(path[j]);
         }
         j = above;
@@ -174,11 +175,11 @@ fn highest(book: &[u8], nodes: usize, way: Descent, shared: usize) -> usize
 }
 
 // The name at a position, rebuilt, and how it stands to the question.
-fn meet(book: &[u8], k: usize, position: usize, question: &[u8]) -> Met
-    requires { ⌜ PositionAsk (now book) k position ⌝ }
+fn compare(book: &[u8], t: trailer::Trailer, position: usize, question: &[u8]) -> Met
+    requires { ⌜ PositionAsk (now book) t position ⌝ }
     ensures { λ r. ⌜ MetSays (wordsOf plain (now (book .entry))) (asked plain (now (question .entry))) position (r .shared) (r .symbol) ⌝ }
 {
-    let entry = names::read_name(book, k, position);
+    let entry = names::read_name(book, t, position);
     let name = entry.name;
     let len = entry.len;
     let shared = symbols::shared_symbols(question, &name[0..len]);
@@ -187,23 +188,24 @@ fn meet(book: &[u8], k: usize, position: usize, question: &[u8]) -> Met
 }
 
 // The position that the question reaches.
-fn reach(book: &[u8], nodes: usize, question: &[u8]) -> usize
-    requires { ⌜ Searchable plain (now book) (rowsAt nodes) ⌝ }
+fn reach(book: &[u8], start: usize, question: &[u8]) -> usize
+    requires { ⌜ Searchable plain (now book) (rowsAt start) ⌝ }
     ensures { λ r. ⌜ Reached (wordsOf plain (now (book .entry))) (asked plain (now (question .entry))) r ⌝ }
 {
-    let way = descend(book, nodes, question);
-    first_of(book, nodes, way.last)
+    let way = descend(book, start, question);
+    first_of(book, start, way.last)
 }
 
 // The node with the names that share most with the question.
-fn locate(book: &[u8], k: usize, nodes: usize, question: &[u8]) -> Spot
-    requires { ⌜ Askable (now book) k nodes ⌝ }
+fn locate(book: &[u8], t: trailer::Trailer, question: &[u8]) -> Spot
+    requires { ⌜ Askable (now book) t ⌝ }
     ensures { λ r. ⌜ SpotSays (wordsOf plain (now (book .entry))) (asked plain (now (question .entry))) (r .node) (r .shared) (r .symbol) ⌝ }
 {
-    let way = descend(book, nodes, question);
-    let position = first_of(book, nodes, way.last);
-    let met = meet(book, k, position, question);
-    let node = highest(book, nodes, way, met.shared);
+    let start = numbers::wide16(t.nodes);
+    let way = descend(book, start, question);
+    let position = first_of(book, start, way.last);
+    let met = compare(book, t, position, question);
+    let node = highest(book, start, way, met.shared);
     Spot {
         node,
         shared: met.shared,
@@ -213,35 +215,36 @@ fn locate(book: &[u8], k: usize, nodes: usize, question: &[u8]) -> Spot
 
 // How many names are less than the question, once that node is known. Inside its edge the whole group lies to one side; at its fork the
 // question stands before the first child whose symbol is not below its own, or behind the group.
-fn seat(book: &[u8], nodes: usize, question: &[u8], spot: Spot) -> usize
-    requires { ⌜ AtSpot (now book) nodes (now question) (spot .node) (spot .shared) (spot .symbol) ⌝ }
+fn seat(book: &[u8], start: usize, question: &[u8], spot: Spot) -> usize
+    requires { ⌜ AtSpot (now book) start (now question) (spot .node) (spot .shared) (spot .symbol) ⌝ }
     ensures { λ r. ⌜ r ≡ place (asked plain (now (question .entry))) (wordsOf plain (now (book .entry))) ⌝ }
 {
     let v = spot.node;
     let shared = spot.shared;
     let s = symbols::symbol_at(question, 0, shared);
-    let first = first_of(book, nodes, v);
-    let past = first + names_of(book, nodes, v);
-    if shared < depth_of(book, nodes, v) {
+    let first = first_of(book, start, v);
+    let past = first + names_of(book, start, v);
+    if shared < depth_of(book, start, v) {
         if spot.symbol < s {
             return past;
         }
         return first;
     }
-    let c = seek(book, nodes, v, s);
-    if c < v + nodes_of(book, nodes, v) {
-        return first_of(book, nodes, c);
+    let c = seek(book, start, v, s);
+    if c < v + nodes_of(book, start, v) {
+        return first_of(book, start, c);
     }
     past
 }
 
 // (position, 1) where a name equals the question, else (0, 0).
-fn ask_exact(book: &[u8], k: usize, nodes: usize, question: &[u8]) -> Pair
-    requires { ⌜ Askable (now book) k nodes ⌝ }
+fn ask_exact(book: &[u8], t: trailer::Trailer, question: &[u8]) -> Pair
+    requires { ⌜ Askable (now book) t ⌝ }
     ensures { λ r. ⌜ pairOf r ≡ exact (asked plain (now (question .entry))) (wordsOf plain (now (book .entry))) ⌝ }
 {
-    let position = reach(book, nodes, question);
-    let met = meet(book, k, position, question);
+    let start = numbers::wide16(t.nodes);
+    let position = reach(book, start, question);
+    let met = compare(book, t, position, question);
     if met.shared < question.len() {
         return Pair {
             first: 0,
@@ -261,38 +264,41 @@ fn ask_exact(book: &[u8], k: usize, nodes: usize, question: &[u8]) -> Pair
 }
 
 // (how many names are less, 0).
-fn ask_place(book: &[u8], k: usize, nodes: usize, question: &[u8]) -> Pair
-    requires { ⌜ Askable (now book) k nodes ⌝ }
+fn ask_place(book: &[u8], t: trailer::Trailer, question: &[u8]) -> Pair
+    requires { ⌜ Askable (now book) t ⌝ }
     ensures { λ r. ⌜ pairOf r ≡ (place (asked plain (now (question .entry))) (wordsOf plain (now (book .entry))), 0) ⌝ }
 {
-    let spot = locate(book, k, nodes, question);
+    let start = numbers::wide16(t.nodes);
+    let spot = locate(book, t, question);
     Pair {
-        first: seat(book, nodes, question, spot),
+        first: seat(book, start, question, spot),
         second: 0,
     }
 }
 
 // (the question's place, how many names begin with it).
-fn ask_range(book: &[u8], k: usize, nodes: usize, question: &[u8]) -> Pair
-    requires { ⌜ Askable (now book) k nodes ⌝ }
+fn ask_range(book: &[u8], t: trailer::Trailer, question: &[u8]) -> Pair
+    requires { ⌜ Askable (now book) t ⌝ }
     ensures { λ r. ⌜ pairOf r ≡ range (asked plain (now (question .entry))) (wordsOf plain (now (book .entry))) ⌝ }
 {
-    let spot = locate(book, k, nodes, question);
-    let first = seat(book, nodes, question, spot);
+    let start = numbers::wide16(t.nodes);
+    let spot = locate(book, t, question);
+    let first = seat(book, start, question, spot);
     if spot.shared < question.len() {
         return Pair { first, second: 0 };
     }
-    let second = names_of(book, nodes, spot.node);
+    let second = names_of(book, start, spot.node);
     Pair { first, second }
 }
 
 // (the position reached, the bytes that its name and the question share).
-fn ask_nearest(book: &[u8], k: usize, nodes: usize, question: &[u8]) -> Pair
-    requires { ⌜ Askable (now book) k nodes ⌝ }
+fn ask_nearest(book: &[u8], t: trailer::Trailer, question: &[u8]) -> Pair
+    requires { ⌜ Askable (now book) t ⌝ }
     ensures { λ r. ⌜ pairOf r ≡ nearest (asked plain (now (question .entry))) (wordsOf plain (now (book .entry))) ⌝ }
 {
-    let position = reach(book, nodes, question);
-    let met = meet(book, k, position, question);
+    let start = numbers::wide16(t.nodes);
+    let position = reach(book, start, question);
+    let met = compare(book, t, position, question);
     Pair {
         first: position,
         second: met.shared,
@@ -300,20 +306,18 @@ fn ask_nearest(book: &[u8], k: usize, nodes: usize, question: &[u8]) -> Pair
 }
 
 // A question of a kind by its number, 1 to 4 in this order.
-pub fn answer(book: &[u8], k: usize, kind: usize, question: &[u8]) -> Pair
-    requires { ⌜ KindAsk (now book) k kind ⌝ }
+pub fn answer(book: &[u8], t: trailer::Trailer, kind: usize, question: &[u8]) -> Pair
+    requires { ⌜ KindAsk (now book) t kind ⌝ }
     ensures { λ r. ⌜ pairOf r ≡ ask kind (asked plain (now (question .entry))) (wordsOf plain (now (book .entry))) ⌝ }
 {
-    let at = book.len() - 16;
-    let nodes = numbers::number_at(book, at + 6);
     if kind == 1 {
-        return ask_exact(book, k, nodes, question);
+        return ask_exact(book, t, question);
     }
     if kind == 2 {
-        return ask_place(book, k, nodes, question);
+        return ask_place(book, t, question);
     }
     if kind == 3 {
-        return ask_range(book, k, nodes, question);
+        return ask_range(book, t, question);
     }
-    ask_nearest(book, k, nodes, question)
+    ask_nearest(book, t, question)
 }

@@ -9,7 +9,8 @@ use mathlib.Core.Logic.{_⊎_, inl, inr}
 use mathlib.Core.List.{List, [], _++_, _∷_}
 use lib.ListN.{List·getD-append, getD, length}
 use lib.Seq.{getD-append-add, length-slice, slice}
-use Rattle.words.specs.Words.{All, Bytes, InBytes}
+use Rattle.words.specs.Rising.{All}
+use Rattle.words.specs.Words.{Bytes, InBytes}
 use Rattle.words.proofs.Lists.{all-at}
 use Rattle.words.proofs.Words.{apart}
 use Rattle.format.specs.Book.{allFields, fieldCount, fields, nodePart, nodeSize, number}
@@ -23,15 +24,15 @@ use Rattle.standing.proofs.Records.{stands-end}
 
 module _ (b : Bytes) where
   -- records that stand, by the numbers of all their fields
-  abbrev Numbered : List Node → ℕ → Type 0
-  Numbered rs o = (i : ℕ) → i < length (allFields rs) → number b (o + 2 * i) ≡ getD (allFields rs) i 0
+  abbrev FieldsAt : List Node → ℕ → Type 0
+  FieldsAt rs o = (i : ℕ) → i < length (allFields rs) → number b (o + 2 * i) ≡ getD (allFields rs) i 0
 
-  stands-numbers : (rs : List Node) (o e : ℕ) → Stands inRows b o rs e → Numbered rs o
+  stands-numbers : (rs : List Node) (o e : ℕ) → Stands inRows b o rs e → FieldsAt rs o
   unfolding allFields
   stands-numbers [] o e h i l = absurd (omega arith)
   stands-numbers (r ∷ rs) o e h i l = go (stands-numbers rs (o + nodeSize) e (h .2)) (apart i fieldCount)
     where
-      go : Numbered rs (o + nodeSize) → (i < fieldCount) ⊎ (fieldCount ≤ i) → number b (o + 2 * i) ≡ getD (fields r ++ allFields rs) i 0
+      go : FieldsAt rs (o + nodeSize) → (i < fieldCount) ⊎ (fieldCount ≤ i) → number b (o + 2 * i) ≡ getD (fields r ++ allFields rs) i 0
       go others (inl k) =
           let p : o + 2 * i ≡ o + i * 2 = omega arith in
           ap (number b) p ∙ fields-are inRows b o i k ∙ ap (λ (x : Node). getD (fields x) i 0) (h .1) ∙ sym (List·getD-append (fields r) (allFields rs) 0 i k)
@@ -42,7 +43,7 @@ module _ (b : Bytes) where
           ap (number b) p ∙ others j (omega arith)
           ∙ sym (getD-append-add (fields r) (allFields rs) j 0) ∙ ap (λ (n : ℕ). getD (fields r ++ allFields rs) n 0) q
 
-  numbers-stand : (rs : List Node) (o e : ℕ) → e ≡ o + length rs * nodeSize → e ≤ length b → Numbered rs o → Stands inRows b o rs e
+  numbers-stand : (rs : List Node) (o e : ℕ) → e ≡ o + length rs * nodeSize → e ≤ length b → FieldsAt rs o → Stands inRows b o rs e
   unfolding allFields
   numbers-stand [] o e z l h = omega arith
   numbers-stand (r ∷ rs) o e z l h = (omega arith, record-is inRows b o r first, numbers-stand rs (o + nodeSize) e (omega arith) l others)
@@ -52,7 +53,7 @@ module _ (b : Bytes) where
           let p : o + j * 2 ≡ o + 2 * j = omega arith in
           ap (number b) p ∙ h j (omega arith) ∙ List·getD-append (fields r) (allFields rs) 0 j k
 
-      others : Numbered rs (o + nodeSize)
+      others : FieldsAt rs (o + nodeSize)
       others i k =
           let p : o + nodeSize + 2 * i ≡ o + 2 * (fieldCount + i) = omega arith in
           ap (number b) p ∙ h (fieldCount + i) (omega arith) ∙ getD-append-add (fields r) (allFields rs) i 0

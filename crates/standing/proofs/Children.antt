@@ -13,15 +13,17 @@ use mathlib.Core.Path.{_≡_, refl, sym, ap, _∙_, subst}
 use mathlib.Core.Logic.{inl, inr}
 use mathlib.Core.List.{List, [], _∷_, _++_}
 use lib.ListN.{length}
-use Rattle.words.specs.Words.{Bytes, Rises, Words, at, nth, shared, span}
+use Rattle.words.specs.Rising.{Rises, span}
+use Rattle.words.specs.Words.{Bytes, Words, at, nth, shared}
 use Rattle.words.proofs.Rising.{nth-less, nth-positive, span-length}
 use Rattle.words.proofs.Words.{further, less-parts, part-at, shared-at, shared-le, shared-self, shared-trans}
-use Rattle.format.specs.Nodes.{Node, deep, fork, leaf, nodeTable, rowTable}
+use Rattle.format.specs.Spans.{deep, rowTable}
+use Rattle.format.specs.Nodes.{Node, fork, leaf, nodeTable}
 use Rattle.format.proofs.Spans.{ranked-within, span-share, table-more, table-none, table-one, table-run}
 use Rattle.standing.specs.Maps.{Map, Roomy, recordAt}
 use Rattle.standing.specs.Stands.{Child, GroupAt, NodeAt, RowAt, Stands}
 use Rattle.standing.proofs.Maps.{strides-differ}
-use Rattle.standing.proofs.Records.{Parts, stands-end, stands-join, stands-split}
+use Rattle.standing.proofs.Records.{TwoRuns, stands-end, stands-join, stands-split}
 
 module _ (ws : Words) (r : Rises ws) where
   -- ---- what words of a span share
@@ -42,7 +44,7 @@ module _ (ws : Words) (r : Rises ws) where
 
   -- ---- where a run of words with one symbol ends
 
-  record Alike (d lo hi mid : ℕ) : Type 0 where
+  record SameSymbol (d lo hi mid : ℕ) : Type 0 where
     some : lo < mid
     upto : mid ≤ hi
     same : at (nth ws (pred mid)) d ≡ at (nth ws lo) d
@@ -50,7 +52,7 @@ module _ (ws : Words) (r : Rises ws) where
 
   record Stop (d lo hi : ℕ) : Type 0 where
     mid : ℕ
-    run : Alike d lo hi mid
+    run : SameSymbol d lo hi mid
 
   run-stop : (d lo hi : ℕ) → lo < hi → Stop d lo hi
   run-stop d lo hi a = go (hi - lo) (suc lo) (omega arith) (omega arith) a refl
@@ -67,21 +69,21 @@ module _ (ws : Words) (r : Rises ws) where
 
   module _ (d lo mid hi : ℕ) (b : hi ≤ length ws) where
     -- a run of two words or more has a greater depth, and the next word parts from it just at d
-    run-below : d ≤ deep ws lo hi → Alike d lo hi mid → suc lo < mid → d < deep ws lo mid
+    run-below : d ≤ deep ws lo hi → SameSymbol d lo hi mid → suc lo < mid → d < deep ws lo mid
     unfolding deep
     run-below h u l =
         further (nth ws lo) (nth ws (pred mid)) d (nth-positive ws lo r) (nth-positive ws (pred mid) r)
         (nth-less ws lo (pred mid) r (omega arith) (omega (arith, u .upto)))
         (omega (arith, span-share ws r lo hi lo (pred mid) b (omega arith) (omega (arith, u .upto)) (omega arith) (omega (arith, u .upto)))) (u .same)
 
-    run-edge : d ≤ deep ws lo hi → Alike d lo hi mid → mid < hi → shared (nth ws (pred mid)) (nth ws mid) ≡ d
+    run-edge : d ≤ deep ws lo hi → SameSymbol d lo hi mid → mid < hi → shared (nth ws (pred mid)) (nth ws mid) ≡ d
     run-edge h u l =
         part-at (nth ws (pred mid)) (nth ws mid) d
         (omega (arith, span-share ws r lo hi (pred mid) mid b (omega (arith, u .some)) (omega arith) (omega (arith, u .some)) l))
         (λ e. u .other l (sym e ∙ u .same))
 
     -- a child's words are a run, where the next word parts from them just at d
-    run-of : lo < mid → mid ≤ hi → (suc lo < mid → d < deep ws lo mid) → (mid < hi → shared (nth ws (pred mid)) (nth ws mid) ≡ d) → Alike d lo hi mid
+    run-of : lo < mid → mid ≤ hi → (suc lo < mid → d < deep ws lo mid) → (mid < hi → shared (nth ws (pred mid)) (nth ws mid) ≡ d) → SameSymbol d lo hi mid
     unfolding deep
     run-of a c h k = record { some = a; upto = c; same = same; other = other }
       where
@@ -101,7 +103,7 @@ module _ (ws : Words) (r : Rises ws) where
   -- ---- a row, child by child
   module _ (μ : Map) (b : Bytes) where
     -- the words' row is the child's node and the row of the others
-    run-row : (d lo mid hi : ℕ) → hi ≤ length ws → d ≤ deep ws lo hi → Alike d lo hi mid
+    run-row : (d lo mid hi : ℕ) → hi ≤ length ws → d ≤ deep ws lo hi → SameSymbol d lo hi mid
         → rowTable lo d (span ws lo hi) ≡ nodeTable lo (at (nth ws lo) d) (span ws lo mid) ++ rowTable mid d (span ws mid hi)
     run-row d lo mid hi l h u =
         table-run ws d lo mid hi (u .some) (u .upto) l (ranked-within ws r d lo hi (omega (arith, u .some, u .upto)) l h) (u .same) (u .other)
@@ -120,7 +122,7 @@ module _ (ws : Words) (r : Rises ws) where
           | inr k ↦ omega (arith, c .below k)
         ]
 
-        u : Alike d lo hi hi
+        u : SameSymbol d lo hi hi
         u = run-of d lo hi hi l (c .some) (omega arith) (c .below) (λ n. absurd (lt-irrefl hi n))
 
     -- a child, and the row of the others
@@ -142,7 +144,7 @@ module _ (ws : Words) (r : Rises ws) where
         h : d ≤ deep ws lo hi
         h = deep-join d lo mid hi (c .some) n first (omega arith) (t .share)
 
-        u : Alike d lo hi mid
+        u : SameSymbol d lo hi mid
         u = run-of d lo mid hi l (c .some) (omega arith) (c .below) (λ k. q)
 
     -- what stands after the first child of a row
@@ -172,10 +174,10 @@ module _ (ws : Words) (r : Rises ws) where
         mid : ℕ
         mid = (run-stop d lo hi a) .mid
 
-        u : Alike d lo hi mid
+        u : SameSymbol d lo hi mid
         u = (run-stop d lo hi a) .run
 
-        p : Parts μ b (nodeTable lo (at (nth ws lo) d) (span ws lo mid)) (rowTable mid d (span ws mid hi)) o e
+        p : TwoRuns μ b (nodeTable lo (at (nth ws lo) d) (span ws lo mid)) (rowTable mid d (span ws mid hi)) o e
         p = stands-split μ b (nodeTable lo (at (nth ws lo) d) (span ws lo mid)) (rowTable mid d (span ws mid hi)) o e
             (subst (λ (rs : List Node). Stands μ b o rs e) (run-row d lo mid hi l (t .share) u) (t .stands))
 

@@ -24,12 +24,12 @@ module _ (μ : Map) (b : Bytes) where
   stands-join (r ∷ rs) ts o m e h k = (h .0, h .1, stands-join rs ts (o + μ .stride) m e (h .2) k)
 
   -- where a second run of records begins
-  pub record Parts (rs ts : List Node) (o e : ℕ) : Type 0 where
+  pub record TwoRuns (rs ts : List Node) (o e : ℕ) : Type 0 where
     pub seam : ℕ
     pub left : Stands μ b o rs seam
     pub right : Stands μ b seam ts e
 
-  pub stands-split : (rs ts : List Node) (o e : ℕ) → Stands μ b o (rs ++ ts) e → Parts rs ts o e
+  pub stands-split : (rs ts : List Node) (o e : ℕ) → Stands μ b o (rs ++ ts) e → TwoRuns rs ts o e
   stands-split [] ts o e h = record { seam = o; left = refl; right = h }
   stands-split (r ∷ rs) ts o e h =
       let p = stands-split rs ts (o + μ .stride) e (h .2) in

@@ -4,7 +4,7 @@
 --     walk-start           at the group's first word
 --     walk-more            one child more, where the words that meet there share just d symbols
 --     walk-done            the last child, which is not the whole group: the group's row stands
---     Ahead, walk-next      what has to stand at o if the group's row stands: each test of the code is one of its fields
+--     Expected, walk-next      what has to stand at o if the group's row stands: each test of the code is one of its fields
 --     group-end            a row ends at one place
 --     deep-short           several words share less than their greatest length
 -- Assumes nothing.
@@ -14,10 +14,12 @@ use native.Mathlib.Omega.{arith}
 use mathlib.Core.Path.{_≡_, refl, sym, ap, _∙_, subst}
 use mathlib.Core.Logic.{_⊎_, inl, inr}
 use lib.ListN.{length}
-use Rattle.words.specs.Words.{Bytes, Rises, Words, at, nth, shared, span}
+use Rattle.words.specs.Rising.{Rises, span}
+use Rattle.words.specs.Words.{Bytes, Words, at, nth, shared}
 use Rattle.words.proofs.Rising.{nth-less}
 use Rattle.words.proofs.Words.{less-short, shared-comm, shared-le}
-use Rattle.format.specs.Nodes.{Node, deep, nodeTable, rowTable}
+use Rattle.format.specs.Spans.{deep, rowTable}
+use Rattle.format.specs.Nodes.{Node, nodeTable}
 use Rattle.format.proofs.Spans.{span-share}
 use Rattle.standing.specs.Maps.{Map, Roomy, recordAt}
 use Rattle.standing.specs.Stands.{Child, GroupAt, NodeAt, RowAt}
@@ -43,7 +45,7 @@ pub record Walk (μ : Map) (b : Bytes) (ws : Words) (lo₀ hi d o₀ lo o : ℕ)
   pub back : (e : ℕ) → RowAt μ b ws lo hi d o e → RowAt μ b ws lo₀ hi d o₀ e
 
 -- what stands at o, if the group's row stands up to e
-pub record Ahead (μ : Map) (b : Bytes) (ws : Words) (lo₀ hi d lo o e : ℕ) : Type 0 where
+pub record Expected (μ : Map) (b : Bytes) (ws : Words) (lo₀ hi d lo o e : ℕ) : Type 0 where
   pub room : Roomy μ b o
   pub past : o + μ .stride ≤ e
   pub symbol : recordAt μ b o .symbol ≡ at (nth ws lo) d
@@ -114,7 +116,7 @@ module _ (μ : Map) (b : Bytes) (ws : Words) (r : Rises ws) where
       mid-is : (e mid m : ℕ) (c : Child μ b ws d lo mid o m) → mid ≤ hi → mid ≡ lo + recordAt μ b o .names
       mid-is e mid m c u = omega (arith, (node-head _ lo mid o m (c .some) (omega arith) (c .node)) .names, c .some)
 
-      pub walk-next : (e : ℕ) → GroupAt μ b ws lo₀ hi d o₀ e → Ahead μ b ws lo₀ hi d lo o e
+      pub walk-next : (e : ℕ) → GroupAt μ b ws lo₀ hi d o₀ e → Expected μ b ws lo₀ hi d lo o e
       walk-next e g =
           let f = first e g in
           let c = f .child in

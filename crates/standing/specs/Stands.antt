@@ -8,8 +8,10 @@
 use Prim.Native.Nat.{ℕ, suc, _+_, _≤_, _<_}
 use mathlib.Core.Path.{_≡_}
 use mathlib.Core.List.{List, [], _∷_}
-use Rattle.words.specs.Words.{Bytes, Words, at, nth, span}
-use Rattle.format.specs.Nodes.{Node, deep, nodeTable, rowTable}
+use Rattle.words.specs.Rising.{span}
+use Rattle.words.specs.Words.{Bytes, Words, at, nth}
+use Rattle.format.specs.Spans.{deep, rowTable}
+use Rattle.format.specs.Nodes.{Node, nodeTable}
 use Rattle.standing.specs.Maps.{Map, Roomy, recordAt}
 
 abbrev pub Stands : Map → Bytes → ℕ → List Node → ℕ → Type 0

@@ -23,7 +23,7 @@ use Rattle.format.proofs.Records.{good-length, rising-first}
 use Rattle.streams.specs.Runs.{Run, Step, done, more}
 use Rattle.streams.specs.Streams.{entryEnd, nameAt}
 use Rattle.streams.proofs.Steps.{Apart, Local, greatest, rising-local}
-use Rattle.streams.proofs.Streams.{Cut, cut}
+use Rattle.streams.proofs.Streams.{EntryCut, cut}
 
 pub record Fronts (b : Bytes) (e o : ℕ) (prev : Bytes) (xs : List Bytes) : Type 0 where
   pub upto : o ≤ e
@@ -125,16 +125,16 @@ front-run b e o prev (x ∷ xs) ho w q h =
     let lc = rising-local prev x (hd .rises) in
     let t : Bytes = front x xs ++ drop e b in
     let d : Bytes = drop (shared prev x) x in
-    let cu : Cut b o (shared prev x) d t = cut b o (shared prev x) d t (q ∙ append-assoc (entry prev x) (front x xs) (drop e b)) in
+    let cu : EntryCut b o (shared prev x) d t = cut b o (shared prev x) d t (q ∙ append-assoc (entry prev x) (front x xs) (drop e b)) in
     more (stepped hd lc cu) (named cu)
     (front-run b e (entryEnd b o) x xs (omega (arith, cu .fits, cu .size)) w (ap (λ (n : ℕ). drop (o + 2 + n) b) (cu .size) ∙ cu .behind) (hd .others))
   where
-    named : Cut b o (shared prev x) (drop (shared prev x) x) (front x xs ++ drop e b) → nameAt b o prev ≡ x
+    named : EntryCut b o (shared prev x) (drop (shared prev x) x) (front x xs ++ drop e b) → nameAt b o prev ≡ x
     named cu =
         ap₂ (λ (n m : ℕ). take n prev ++ take m (drop (o + 2) b)) (cu .count) (cu .size)
         ∙ ap₂ (λ (u v : Bytes). u ++ v) (take-shared prev x) (cu .rest) ∙ take-append-drop (shared prev x) x
 
-    stepped : Headed prev x xs → Local prev x (shared prev x) → Cut b o (shared prev x) (drop (shared prev x) x) (front x xs ++ drop e b) → Step b o e prev
+    stepped : Headed prev x xs → Local prev x (shared prev x) → EntryCut b o (shared prev x) (drop (shared prev x) x) (front x xs ++ drop e b) → Step b o e prev
     stepped hd lc cu =
         let z : o + 2 + 0 ≡ o + 2 = omega arith in
         let first : getD (drop (shared prev x) x) 0 0 ≡ getD b (o + 2) 0 =

@@ -18,7 +18,8 @@ use Rattle.words.specs.Words.{Bytes, at, nth, plain, word}
 use Rattle.words.proofs.Rising.{nth-word}
 use Rattle.words.proofs.Words.{Sides, before, behind, level, sides}
 use Rattle.format.specs.Records.{longest}
-use Rattle.format.specs.Book.{namesOf, wordsOf}
+use Rattle.format.specs.Spans.{wordsOf}
+use Rattle.format.specs.Book.{namesOf}
 use Rattle.streams.specs.Streams.{EntryAt, Here, Known, Stream, entry, entryEnd, nameAt, offsetAt, offsetFrom, prevOf, restAt}
 use Rattle.streams.proofs.Places.{offset-next, stream-at}
 

@@ -10,7 +10,7 @@ use mathlib.Core.List.{List, [], _∷_}
 use lib.ListN.{drop, getD, length, length-drop, length-take, take}
 use lib.Seq.{drop-drop, getD-drop, getD-take, length-take-le}
 use Rattle.words.specs.Words.{Bytes, shared}
-use Rattle.format.specs.Book.{longestBook, number, trailerSize, namesOf}
+use Rattle.format.specs.Book.{longestBook, number, namesOf, told}
 use Rattle.format.specs.Entries.{front}
 use Rattle.streams.specs.Runs.{Frame, Has, Rest, Run, more}
 use Rattle.streams.specs.Streams.{InBlocks, offsetAt, offsetFrom}
@@ -71,7 +71,7 @@ run-zero : (b : Bytes) (e o : ℕ) (xs : List Bytes) → 0 < length xs → Run b
 run-zero b e o [] h r = absurd (not-suc-le-zero h)
 run-zero b e o (x ∷ xs) h (more k q r) = omega (arith, k .shares)
 
-module _ (b : Bytes) (k s u n : ℕ) (ask : Frame b k s u) (h : Has b k s u n s 0 []) (says : number b (length b - trailerSize + 4) ≡ s) where
+module _ (b : Bytes) (k s u n : ℕ) (ask : Frame b k s u) (h : Has b k s u n s 0 []) (says : told b 2 ≡ s) where
   names-here : namesOf b ≡ h .names
   names-here = has-names b k s u n (omega (arith, ask)) h (ask .one) says
 

@@ -1,5 +1,5 @@
 -- The entries of a book are a stream of its names, one after the other from the front on.
---     Cut, cut          what stands at an offset, taken apart: the count, the length, the rest, and what is behind
+--     EntryCut, cut          what stands at an offset, taken apart: the count, the length, the rest, and what is behind
 --     AllShort          names of at most 200 bytes
 --     stream-part       the entries of such names stream them, wherever they stand
 --     stream-entries    bytes that begin with the entries of such names stream these names
@@ -13,10 +13,12 @@ use mathlib.Core.Bool.{true}
 use mathlib.Core.List.{List, [], _∷_, _++_, map, append-assoc}
 use lib.ListN.{length, getD, take, drop, length-append, length-drop, take-append-drop}
 use lib.Seq.{getD-drop, drop-drop, take-at, drop-at, take-append-seam}
-use Rattle.words.specs.Words.{All, Bytes, Rises, cons, plain, shared, word}
+use Rattle.words.specs.Rising.{All, Rises, cons}
+use Rattle.words.specs.Words.{Bytes, plain, shared, word}
 use Rattle.words.proofs.Lists.{all-left, all-map, all-right}
 use Rattle.words.proofs.Words.{plain-lawful, shared-comm, shared-le, take-shared}
-use Rattle.format.specs.Book.{entryPart, joined, longestBook, number, trailerSize, namesOf, wordsOf}
+use Rattle.format.specs.Spans.{wordsOf}
+use Rattle.format.specs.Book.{entryPart, joined, longestBook, namesOf, told}
 use Rattle.format.specs.Entries as format
 use Rattle.format.specs.Entries.{blocks, blocksFrom, decode, front}
 use Rattle.format.specs.Records.{longest, mostNames, sound}
@@ -25,14 +27,14 @@ use Rattle.format.proofs.Records.{rising-sizes, sound-few, sound-rises, sound-r
 use Rattle.streams.specs.Streams.{EntryAt, Known, Stream, done, entry}
 
 -- what stands at an offset, taken apart
-pub record Cut (b : Bytes) (o c : ℕ) (r t : Bytes) : Type 0 where
+pub record EntryCut (b : Bytes) (o c : ℕ) (r t : Bytes) : Type 0 where
   pub count : getD b o 0 ≡ c
   pub size : getD b (o + 1) 0 ≡ length r
   pub rest : take (length r) (drop (o + 2) b) ≡ r
   pub behind : drop (o + 2 + length r) b ≡ t
   pub fits : o + 2 + length r ≤ length b
 
-pub cut : (b : Bytes) (o c : ℕ) (r t : Bytes) → drop o b ≡ c ∷ length r ∷ (r ++ t) → Cut b o c r t
+pub cut : (b : Bytes) (o c : ℕ) (r t : Bytes) → drop o b ≡ c ∷ length r ∷ (r ++ t) → EntryCut b o c r t
 cut b o c r t e = record {
   count = let z : o ≡ o + 0 = omega arith in ap (λ (x : ℕ). getD b x 0) z ∙ sym (getD-drop o b 0 0) ∙ ap (λ (s : Bytes). getD s 0 0) e;
   size = sym (getD-drop o b 1 0) ∙ ap (λ (s : Bytes). getD s 1 0) e;
@@ -62,7 +64,7 @@ stream-entry b o prev p x t xs l h k e more =
     (ap₂ (λ (n m : ℕ). take n prev ++ take m (drop (o + 2) b)) (c .count) (c .size) ∙ ap₂ (λ (u v : Bytes). u ++ v) k (c .rest) ∙ take-append-drop (shared p x) x)
     (more (o + 2 + getD b (o + 1) 0) (ap (λ (n : ℕ). drop (o + 2 + n) b) (c .size) ∙ c .behind))
   where
-    c : Cut b o (shared p x) (drop (shared p x) x) t
+    c : EntryCut b o (shared p x) (drop (shared p x) x) t
     c = cut b o (shared p x) (drop (shared p x) x) t e
 
 abbrev pub AllShort : List Bytes → Type 0
@@ -104,7 +106,7 @@ stream-entries b k xs t h s e = stream-part b 0 [] k xs t h s e
 -- ---- what a check of the nodes asks
 
 module _ (b : Bytes) (k : ℕ) (xs : List Bytes) (t : Bytes) (one : 1 ≤ k) (e : b ≡ entryPart k xs ++ t)
-    (ends : number b (length b - trailerSize + 4) ≡ length (entryPart k xs)) where
+    (ends : told b 2 ≡ length (entryPart k xs)) where
   pub names-are : namesOf b ≡ xs
   unfolding namesOf
   names-are =

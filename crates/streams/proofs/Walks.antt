@@ -21,7 +21,7 @@ use lib.ListN.{length, getD, take, drop, length-take, length-drop, length-append
 use lib.Seq.{take-at, drop-at, take-nil}
 use borrow.Author.Tests.{le-leb, lt-leb}
 use Rattle.words.specs.Words.{Bytes, InBytes, at, less, plain, word}
-use Rattle.format.specs.Book.{entryPart, longestBook, number, trailerSize, namesOf}
+use Rattle.format.specs.Book.{entryPart, longestBook, number, namesOf, told}
 use Rattle.format.specs.Entries.{front}
 use Rattle.format.specs.Records.{longest, mostNames, sound}
 use Rattle.streams.specs.Runs.{Frame, Has, Rest, Run, RunTo, Step, done, endOf, lastOf, more}
@@ -339,7 +339,7 @@ module _ (b : Bytes) (k s u n : ℕ) (hs : s ≤ length b) (h : Has b k s u n s 
   unfolding sound
   has-sound f = both-are _ _ (le-leb (length (h .names)) mostNames (omega (arith, h .count))) (h .rest .rises)
 
-  module _ (one : 1 ≤ k) (says : number b (length b - trailerSize + 4) ≡ s) where
+  module _ (one : 1 ≤ k) (says : told b 2 ≡ s) where
     pub has-names : namesOf b ≡ h .names
     has-names = names-are b k (h .names) (drop s b) one has-entries (says ∙ sym has-length)
 

@@ -12,8 +12,10 @@ use Prim.Native.Nat.{ℕ, zero, suc, _+_, _*_, _<_, _≤_}
 use mathlib.Core.Path.{_≡_}
 use mathlib.Core.List.{List, [], _++_, _∷_}
 use lib.ListN.{drop, getD, length, take}
-use Rattle.words.specs.Words.{Bytes, Rises, plain, shared}
-use Rattle.format.specs.Book.{longestBook, namesOf, number, wordsOf}
+use Rattle.words.specs.Rising.{Rises}
+use Rattle.words.specs.Words.{Bytes, plain, shared}
+use Rattle.format.specs.Spans.{wordsOf}
+use Rattle.format.specs.Book.{longestBook, namesOf, number}
 use Rattle.format.specs.Records.{longest, mostNames}
 
 abbrev pub nameAt : Bytes → ℕ → Bytes → Bytes

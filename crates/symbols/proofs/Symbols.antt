@@ -1,6 +1,6 @@
 -- Laws of symbols by the plain rule, and of the comparison of names.
 --     symbol-in, symbol-past    a byte's symbol; past the last byte stands the end symbol
---     shared-bytes, Alike       the loop over what two names share
+--     shared-bytes, Sharing       the loop over what two names share
 --     below-..                  which of two names is above, by what they share
 -- Assumes nothing.
 use Prim.Native.Nat.{ℕ, _+_, _-_, _≤_, _<_}
@@ -27,13 +27,13 @@ symbol-past s skip d h = sym (at-past (word plain s) (d - skip) (omega (arith, l
 pub shared-bytes : (a c : Bytes) → shared (word plain a) (word plain c) ≡ shared a c
 shared-bytes a c = shared-word plain plain-injective a c
 
-pub record Alike (a c : Bytes) (i : ℕ) : Type 0 where
+pub record Sharing (a c : Bytes) (i : ℕ) : Type 0 where
   pub low : i ≤ length a
   pub shares : i ≤ shared a c
 
 module _ (a c : Bytes) where
-  module _ (i : ℕ) (k : Alike a c i) where
-    pub alike-more : i < length a → i < length c → getD a i 0 ≡ getD c i 0 → Alike a c (i + 1)
+  module _ (i : ℕ) (k : Sharing a c i) where
+    pub alike-more : i < length a → i < length c → getD a i 0 ≡ getD c i 0 → Sharing a c (i + 1)
     alike-more h g e = record { low = omega arith; shares = omega (arith, shared-more a c i (k .shares) h g e) }
 
     pub alike-other : (getD a i 0 ≡ getD c i 0 → ⊥) → i ≡ shared (word plain a) (word plain c)

@@ -14,7 +14,8 @@ use mathlib.Core.Logic.{_↔_}
 use mathlib.Core.Bool.{true}
 use mathlib.Core.List.{List, [], map}
 use lib.ListN.{length, getD, length-map}
-use Rattle.words.specs.Words.{All, Bytes, InBytes, Lawful, Rises, Rule, less, word}
+use Rattle.words.specs.Rising.{All, Rises}
+use Rattle.words.specs.Words.{Bytes, InBytes, Lawful, Rule, less, word}
 use Rattle.words.proofs.Lists.{all-at, all-from, all-map₂}
 use Rattle.words.proofs.Rising.{nth-less, nth-word}
 use Rattle.format.specs.Book.{Book, NoBook, Opened, book, fits, number, opened, trailerSize}

@@ -11,12 +11,13 @@ use mathlib.Core.Path.{_≡_, refl, sym, ap, ap₂, _∙_, subst}
 use mathlib.Core.Bool.{Bool, true, false}
 use mathlib.Core.List.{List, [], map}
 use lib.Dec.{leb, ltb}
-use lib.ListN.{List·getD-map, length, getD, take, drop}
+use lib.ListN.{List·getD-map, length, getD, drop}
 use lib.Seq.{take-append-seam}
 use Rattle.words.specs.Words.{Bytes, Rule, both, pick}
 use Rattle.format.specs.Book.{Book, NoBook, Opened, opened}
 use Rattle.format.specs.Outcomes.{Answer, Written, given, over, refused, write}
 use Rattle.answers.specs.Calls.{Batched, Row, batch, build, check, goodRow, question, questionOf, readBack, readBackOf, rowAnswer}
+use Rattle.theorems.specs.Promises.{Alike, Answered, answerAt, rowAt, spanOf}
 use Rattle.answers.proofs.Calls.{batch-rows}
 use Rattle.shapes.specs.Shapes.{answered}
 use Rattle.shapes.specs.declared.Answer.{Answer as Given}
@@ -57,11 +58,6 @@ rows-settle xs rs ts e f = answers-injective rs ts (e ∙ sym f)
 
 -- ---- what another guest left in the room
 
--- the same answer, and the same bytes at the front, as many as the answer counts
-pub record Alike (a b : Written) : Type 0 where
-  pub answer : a .answer ≡ b .answer
-  pub front : take (a .answer .first) (a .room) ≡ take (b .answer .first) (b .room)
-
 module _ (room other : Bytes) (e : length room ≡ length other) where
   write-alike : (x : Bytes) → Alike (write x room) (write x other)
   write-alike x = subst (λ (n : ℕ). Alike (write x room) (upTo n)) e (go (leb (length x) (length room)))
@@ -93,22 +89,8 @@ module _ (room other : Bytes) (e : length room ≡ length other) where
 -- ---- the rows of a batch
 
 -- a row, and the answer row in its place; past the last one, a row of kind 0, and its answer
-abbrev pub rowAt : List Row → ℕ → Row
-rowAt rows i = getD rows i (record { kind = 0; start = 0; size = 0 })
-
-abbrev pub answerAt : Batched → ℕ → Answer
-answerAt b i = getD (b .rows) i (refused 11)
-
--- a row's own bytes in the buffer
-abbrev pub spanOf : Bytes → Row → Bytes
-spanOf buffer r = take (r .size) (drop (r .start) buffer)
-
 module _ (ρ : Rule) (s : Bytes) where
-  -- the call is accepted
-  abbrev Accepted : Bytes → List Row → List Answer → Type 0
-  Accepted buffer rows answers = batch ρ s buffer rows answers .answer .code ≡ 0
-
-  module _ (buffer : Bytes) (rows : List Row) (answers : List Answer) (ok : Accepted buffer rows answers) (i : ℕ) where
+  module _ (buffer : Bytes) (rows : List Row) (answers : List Answer) (ok : Answered ρ s buffer rows answers) (i : ℕ) where
     row-is : answerAt (batch ρ s buffer rows answers) i ≡ rowAnswer ρ (opened ρ s) buffer (rowAt rows i)
     unfolding rowAnswer
     row-is =
@@ -121,7 +103,7 @@ module _ (ρ : Rule) (s : Bytes) where
     batch-alone = row-is
 
   -- another call on the same book, with a buffer of the same length, in which row j is row i, with the same bytes
-  pub batch-regardless : (buffer other : Bytes) (rows others : List Row) (answers places : List Answer) → Accepted buffer rows answers → Accepted other others places
+  pub batch-regardless : (buffer other : Bytes) (rows others : List Row) (answers places : List Answer) → Answered ρ s buffer rows answers → Answered ρ s other others places
       → (i j : ℕ) → rowAt rows i ≡ rowAt others j → length buffer ≡ length other → spanOf buffer (rowAt rows i) ≡ spanOf other (rowAt rows i)
       → answerAt (batch ρ s buffer rows answers) i ≡ answerAt (batch ρ s other others places) j
   unfolding rowAnswer

@@ -7,27 +7,28 @@ use lib.ListN.{length}
 use Rattle.words.specs.Words.{Bytes, begins, less, plain, same, shared}
 use Rattle.format.specs.Book.{allFields, blockPart, book, entryPart, fits, joined, namesOf, nodePart, number, numbers, opened, trailer}
 use Rattle.format.specs.Entries.{blocks, blocksFrom, decode, decodeFrom, entry, front, offsets}
-use Rattle.format.specs.Nodes.{depth, glue, groups, nodeTable, rowOf, table, tableWithin}
+use Rattle.format.specs.Nodes.{depth, glue, groups, nodeTable, rowBy, table, tableWithin}
 use Rattle.format.specs.Records.{rising, sound}
-use Rattle.format.proofs.Example.{book-lengths, book80, book85, books, example, text}
+use Rattle.format.specs.Example.{example, exampleBy2, exampleBy4, text}
+use Rattle.format.proofs.Example.{book-lengths, books}
 use Rattle.format.specs.Outcomes.{Answer, given}
 use Rattle.answers.specs.Calls.{question, questionOf}
 use Rattle.answers.specs.Questions.{answer, ask, childOf, count, exact, exactFrom, nearest, place, range, reachWithin, reached}
-use Rattle.answers.proofs.Example.{Marked, marked}
+use Rattle.answers.specs.Example.{Marked, marked}
 
-pub example-books : map (λ k. book plain k example) (2 ∷ 4 ∷ []) ≡ book85 ∷ book80 ∷ []
+pub example-books : map (λ k. book plain k example) (2 ∷ 4 ∷ []) ≡ exampleBy2 ∷ exampleBy4 ∷ []
 example-books = books
 
-pub example-lengths : map (λ (s : Bytes). length s) (book85 ∷ book80 ∷ []) ≡ 85 ∷ 80 ∷ []
+pub example-lengths : map (λ (s : Bytes). length s) (exampleBy2 ∷ exampleBy4 ∷ []) ≡ 85 ∷ 80 ∷ []
 example-lengths = book-lengths
 
 -- a row as the call gives it, and as the table has it
 abbrev asked : Marked → Answer
-asked a = question plain (a .0) book85 (text (a .1))
+asked a = question plain (a .0) exampleBy2 (text (a .1))
 
 abbrev listed : Marked → Answer
 listed a = given (a .2 .0) (a .2 .1)
 
 pub example-rows : map asked marked ≡ map listed marked
-unfolding shared less begins same depth glue groups rowOf tableWithin nodeTable table numbers joined entry blocksFrom front blocks offsets entryPart blockPart allFields nodePart trailer book decodeFrom decode number rising sound fits namesOf opened childOf reachWithin reached count exactFrom exact place range nearest ask answer questionOf question
+unfolding shared less begins same depth glue groups rowBy tableWithin nodeTable table numbers joined entry blocksFrom front blocks offsets entryPart blockPart allFields nodePart trailer book decodeFrom decode number rising sound fits namesOf opened childOf reachWithin reached count exactFrom exact place range nearest ask answer questionOf question
 example-rows = refl

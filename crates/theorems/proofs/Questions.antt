@@ -17,12 +17,14 @@ use mathlib.Core.List.{List, [], _∷_, map}
 use lib.Dec.{eqb, leb, ltb}
 use lib.ListN.{length, getD, length-map}
 use borrow.Author.Tests.{eq-eqb, le-ltb, lt-ltb, ltb-true, ne-eqb}
-use Rattle.words.specs.Words.{Bytes, Lawful, Rises, Rule, Words, begins, both, less, nth, pick, plain, same, shared, word}
+use Rattle.words.specs.Rising.{Rises}
+use Rattle.words.specs.Words.{Bytes, Lawful, Rule, Words, begins, both, less, nth, pick, plain, same, shared, word}
 use Rattle.words.proofs.Rising.{nth-word}
 use Rattle.words.proofs.Words.{apart, both-true, less-nil, less-other, less-same, less-start, plain-injective, plain-lawful, same-true, shared-word, word-injective, word-positive}
 use Rattle.format.specs.Records.{sound}
 use Rattle.format.proofs.Records.{sound-rises}
 use Rattle.answers.specs.Questions.{Pair, answer, ask, nearest, place, range, reached}
+use Rattle.theorems.specs.Promises.{Greatest}
 use Rattle.answers.proofs.Nearest.{reached-most, reached-within}
 use Rattle.answers.proofs.Places.{exact-place, place-at, range-at}
 use Rattle.descent.proofs.Cuts.{exact-here}
@@ -67,12 +69,7 @@ module _ (ρ : Rule) (ok : Lawful ρ) (xs : List Bytes) (is : sound ρ xs ≡ tr
   unfolding answer ask
   exact-finds i h e = exact-here (map (word ρ) xs) (word ρ q) rises (word-positive ρ ok q) i (inside h) (nth-word ρ xs i ∙ e)
 
-  pub record Greatest (a : Pair) : Type 0 where
-    pub within : a .0 < length xs
-    pub shares : a .1 ≡ shared (word ρ q) (theWord (a .0))
-    pub most : (i : ℕ) → i < length xs → shared (word ρ q) (theWord i) ≤ a .1
-
-  pub nearest-greatest : 0 < length xs → Greatest (answer ρ 4 q xs)
+  pub nearest-greatest : 0 < length xs → Greatest ρ q xs (answer ρ 4 q xs)
   unfolding answer ask nearest
   nearest-greatest h =
       let r : ℕ = reached (word ρ q) (map (word ρ) xs) in

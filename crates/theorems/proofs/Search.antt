@@ -1,6 +1,6 @@
 -- What a blind search over the flat node table of a sound list may conclude, for any question and any lawful rule; ws are the names'
 -- words and q is the question's. The laws, for any rising words, and the words of the search are in the crate descent: node
--- numbers, their spans from `from` up to `upto`, the path of a descent (proofs/Vocabulary.antt).
+-- numbers, their spans from `from` up to `upto`, the path of a descent (specs/Vocabulary.antt).
 --     search-descends   every question has a descent of at most 202 nodes, from the root to where it halts
 --     search-reaches    its last node's first name is the one that the definition reaches
 --     search-finds      the highest node on it whose depth is at least what the reached name shares holds just the names that share most
@@ -16,19 +16,20 @@ use mathlib.Core.Path.{_≡_, refl, sym, ap, ap₂, _∙_}
 use mathlib.Core.Bool.{true}
 use mathlib.Core.List.{List, map}
 use lib.ListN.{length, length-map}
-use Rattle.words.specs.Words.{Bytes, InBytes, Lawful, Rises, Rule, Words, at, begins, nth, shared, word}
+use Rattle.words.specs.Rising.{Rises}
+use Rattle.words.specs.Words.{Bytes, InBytes, Lawful, Rule, Words, at, begins, nth, shared, word}
 use Rattle.words.proofs.Words.{word-positive}
-use Rattle.format.specs.Book.{Book, opened}
+use Rattle.format.specs.Book.{Book, opened, told}
 use Rattle.format.specs.Records.{sound}
 use Rattle.format.proofs.Records.{sound-rises, word-short}
 use Rattle.answers.specs.Questions.{Pair, count, exact, place, range, reached}
 use Rattle.answers.proofs.Nearest.{reached-most, reached-within}
 use Rattle.descent.proofs.Bytes.{opened-searchable}
 use Rattle.descent.proofs.Cuts.{exact-here, exact-nowhere, range-none, whole-place, whole-range}
-use Rattle.descent.proofs.Exists.{Descent, descent-exists}
+use Rattle.descent.proofs.Exists.{WholeWay, descent-exists}
 use Rattle.descent.proofs.Paths.{edge-after, edge-before, fork-child, fork-end, found, only-reached, reached-is}
 use Rattle.standing.specs.Maps.{rowsAt}
-use Rattle.descent.specs.Vocabulary.{Descended, Found, Highest, Searchable, Sought, from, node, startIn, upto}
+use Rattle.descent.specs.Vocabulary.{Descended, Found, Highest, Searchable, Sought, from, node, upto}
 
 module _ (ρ : Rule) (ok : Lawful ρ) (xs : List Bytes) (is : sound ρ xs ≡ true) (question : Bytes) where
   abbrev pub ws : Words
@@ -40,7 +41,7 @@ module _ (ρ : Rule) (ok : Lawful ρ) (xs : List Bytes) (is : sound ρ xs ≡ tr
   pub r : Rises (map (word ρ) xs)
   r = sound-rises ρ ok xs is
 
-  pub search-descends : 0 < length xs → Descent ws r q (word-short ρ xs is)
+  pub search-descends : 0 < length xs → WholeWay ws r q (word-short ρ xs is)
   search-descends h = descent-exists ws r q (word-short ρ xs is) (omega (arith, length-map xs (word ρ)))
 
   module _ {p : List ℕ} {n v : ℕ} (t : Descended ws q p n v) where
@@ -86,5 +87,5 @@ module _ (ρ : Rule) (ok : Lawful ρ) (xs : List Bytes) (is : sound ρ xs ≡ tr
       let none : count (begins q) ws ≡ 0 = sym (range-none ws q r (shared q (nth ws (reached q ws))) (λ i l. reached-most q ws r i l) h) in
       ap (λ (c : ℕ). (place q ws, c)) none
 
-pub search-book : (ρ : Rule) → Lawful ρ → (s : Bytes) (k : ℕ) (xs : List Bytes) → InBytes s → opened ρ s ≡ Book k xs → 0 < length xs → Searchable ρ s (rowsAt (startIn s))
+pub search-book : (ρ : Rule) → Lawful ρ → (s : Bytes) (k : ℕ) (xs : List Bytes) → InBytes s → opened ρ s ≡ Book k xs → 0 < length xs → Searchable ρ s (rowsAt (told s 3))
 search-book ρ ok s k xs h e some = opened-searchable ρ ok s k xs e h some

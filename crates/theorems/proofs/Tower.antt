@@ -9,7 +9,8 @@ use mathlib.Core.Path.{_≡_, refl, sym, ap, _∙_, subst}
 use mathlib.Core.Bool.{true}
 use mathlib.Core.List.{List, [], _∷_, _++_, map, append-nil}
 use lib.ListN.{length, getD, replicate, length-replicate}
-use Rattle.words.specs.Words.{All, Bytes, Words, at, cons, less, nil, plain, shared, word}
+use Rattle.words.specs.Rising.{All, cons, nil}
+use Rattle.words.specs.Words.{Bytes, Words, at, less, plain, shared, word}
 use Rattle.words.proofs.Lists.{all-map}
 use Rattle.words.proofs.Words.{shared-same}
 use Rattle.format.specs.Nodes.{depth, glue, groups}

@@ -12,15 +12,18 @@ use mathlib.Core.Path.{_≡_, sym, subst}
 use mathlib.Core.Bool.{true}
 use mathlib.Core.List.{List, [], _∷_, _++_, map}
 use lib.ListN.{length, getD, length-map}
-use Rattle.words.specs.Words.{All, Bytes, Lawful, Rises, Rule, Words, at, cons, nil, shared, word}
+use Rattle.words.specs.Rising.{All, Rises, cons, nil}
+use Rattle.words.specs.Words.{Bytes, Lawful, Rule, Words, at, shared, word}
 use Rattle.words.proofs.Lists.{all-head, all-left, all-map, all-right, all-tail}
 use Rattle.words.proofs.Rising.{rises-left, rises-right}
 use Rattle.words.proofs.Words.{shared-le}
-use Rattle.format.specs.Nodes.{depth, fork, groups, leaf, nodeTable, rowTable, table}
+use Rattle.format.specs.Spans.{rowTable}
+use Rattle.format.specs.Nodes.{depth, fork, groups, leaf, nodeTable, table}
 use Rattle.format.specs.Records.{longest, sound}
 use Rattle.format.proofs.Groups.{Parted, Same, Share, children, deeper, depth-length, depth-share, joinedGroups, node-more, node-one, part, row-run, whole}
 use Rattle.format.proofs.Records.{rising-sizes, sound-rises, sound-rising}
 use Rattle.format.proofs.Spans.{table-few}
+use Rattle.theorems.specs.Promises.{Climbing}
 use Rattle.theorems.specs.Demands.{Path, down, nodeDepth, stop}
 
 -- ---- the equations
@@ -46,13 +49,13 @@ nodes-few ρ ok xs h l = omega (arith, table-few (map (word ρ) xs) (sound-rises
 -- ---- paths
 
 -- a child of a node of depth d
-record Child (d : ℕ) (g : Words) : Type 0 where
+record Branch (d : ℕ) (g : Words) : Type 0 where
   rises : Rises g
   deep : d < nodeDepth g
   short : All (λ w. length w ≤ longest) g
 
 child-of : (d : ℕ) (gs : List Words) → Parted d gs → Rises (joinedGroups gs) → Share d (joinedGroups gs) → All (λ w. length w ≤ longest) (joinedGroups gs)
-    → (j : ℕ) → j < length gs → Child d (getD gs j [])
+    → (j : ℕ) → j < length gs → Branch d (getD gs j [])
 unfolding nodeDepth
 child-of d gs whole r s a j l = absurd (not-suc-le-zero l)
 child-of d gs (part {w = w} {g = g} {gs = hs} m u p) r s a zero l =
@@ -69,7 +72,7 @@ child-of d gs (part {w = w} {g = g} {gs = hs} m u p) r s a (suc j) l =
     (all-right (w ∷ g) (joinedGroups hs) a) j (le-of-suc-le-suc l)
 
 child : (ws : Words) → Rises ws → All (λ w. length w ≤ longest) ws → 1 < length ws → (j : ℕ) → j < length (groups (nodeDepth ws) ws)
-    → Child (nodeDepth ws) (getD (groups (nodeDepth ws) ws) j [])
+    → Branch (nodeDepth ws) (getD (groups (nodeDepth ws) ws) j [])
 unfolding nodeDepth
 child [] r a m j l = absurd (not-suc-le-zero m)
 child (w ∷ []) r a m j l = absurd (lt-irrefl 1 m)
@@ -85,9 +88,6 @@ unfolding nodeDepth
 depth-low [] a = zero-le
 depth-low (w ∷ []) (cons h a) = suc-le-suc h
 depth-low (w ∷ v ∷ vs) (cons h a) = omega (arith, depth-length w (v ∷ vs))
-
-abbrev pub Climbing : List ℕ → Type 0
-Climbing ds = (i : ℕ) → suc i < length ds → getD ds i 0 < getD ds (suc i) 0
 
 -- what a path from a node is
 record Tells (ws : Words) (ds : List ℕ) : Type 0 where
@@ -105,7 +105,7 @@ tells ws ds r a (stop {d = d} e) = record {
 }
 tells ws ds r a (down {d = d} {ds = es} e m j l p) =
     let f : j < length (groups (nodeDepth ws) ws) = subst (λ (n : ℕ). j < length (groups n ws)) e l in
-    let c : Child d (getD (groups d ws) j []) = subst (λ (n : ℕ). Child n (getD (groups n ws) j [])) (sym e) (child ws r a m j f) in
+    let c : Branch d (getD (groups d ws) j []) = subst (λ (n : ℕ). Branch n (getD (groups n ws) j [])) (sym e) (child ws r a m j f) in
     let t = tells (getD (groups d ws) j []) es (c .rises) (c .short) p in
     record {
       head = e;

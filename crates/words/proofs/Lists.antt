@@ -9,7 +9,7 @@ use mathlib.Core.Path.{_≡_, ap, _∙_, sym, subst}
 use mathlib.Core.List.{List, [], _∷_, _++_, append-assoc}
 use lib.ListN.{length, getD, length-append}
 use lib.Seq.{getD-at}
-use Rattle.words.specs.Words.{All, cons, nil}
+use Rattle.words.specs.Rising.{All, cons, nil}
 
 module _ {A : Type 0} {P : A → Type 0} where
   pub all-head : {a : A} {l : List A} → All P (a ∷ l) → P a

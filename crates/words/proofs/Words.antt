@@ -21,7 +21,8 @@ use mathlib.Core.List.{List, [], _∷_, _++_}
 use lib.Dec.{ltb, eqb}
 use lib.ListN.{drop, getD, length, take}
 use borrow.Author.Tests.{ltb-true, eqb-true, lt-ltb, le-ltb, eq-eqb, ne-eqb}
-use Rattle.words.specs.Words.{Bytes, Lawful, Positive, Rule, at, begins, both, less, plain, same, shared, word}
+use Rattle.words.specs.Rising.{Positive}
+use Rattle.words.specs.Words.{Bytes, Lawful, Rule, at, begins, both, less, plain, same, shared, word}
 
 -- the three ways that two numbers stand to each other
 pub data Sides (a b : ℕ) : Type 0 where

@@ -5,16 +5,13 @@
 --     word, at                   a name's symbols, without the end symbol; symbol number d
 --     shared                     how many leading elements are the same
 --     less, begins, same         order, beginning and equality
---     nth, span                  one word of a list; the words from one position up to another
---     Rises                      words without the end symbol in them, each below all that follow
--- The laws are in proofs/Words.antt and proofs/Rising.antt. Assumes nothing: these are definitions.
+--     nth                        one word of a list
+-- The laws are in proofs/Words.antt. Assumes nothing: these are definitions.
 use Prim.Native.Nat.{ℕ, suc, _≤_, _<_}
-use mathlib.Core.Path.{_≡_}
 use mathlib.Core.Bool.{Bool, true, false}
 use mathlib.Core.List.{List, [], _∷_, map}
 use lib.Dec.{ltb, eqb}
 use lib.ListN.{length, getD}
-use lib.Seq.{slice}
 
 abbrev pub Bytes : Type 0
 Bytes = List ℕ
@@ -68,25 +65,5 @@ begins q x = eqb (shared q x) (length q)
 unfoldable pub same : List ℕ → List ℕ → Bool
 same x y = both (eqb (length x) (length y)) (begins x y)
 
--- ---- lists of words
-
--- no symbol is the end symbol
-abbrev pub Positive : List ℕ → Type 0
-Positive [] = Unit {0}
-Positive (a ∷ x) = (0 < a) × Positive x
-
 abbrev pub nth : Words → ℕ → List ℕ
 nth ws i = getD ws i []
-
--- from lo up to, not including, hi
-abbrev pub span : Words → ℕ → ℕ → Words
-span ws lo hi = slice lo hi ws
-
--- every element has the property
-pub data All {A : Type 0} (P : A → Type 0) : List A → Type 0 where
-  nil : All P []
-  cons : {a : A} {l : List A} → P a → All P l → All P (a ∷ l)
-
-pub data Rises : Words → Type 0 where
-  start : Rises []
-  rise : {w : List ℕ} {ws : Words} → Positive w → All (λ v. less w v ≡ true) ws → Rises ws → Rises (w ∷ ws)

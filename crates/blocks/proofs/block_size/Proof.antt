@@ -8,10 +8,10 @@ use Rattle.blocks.proofs.block_size.Statement.{statement}
 use Rattle.blocks.proofs.block_size.Tie as tie
 
 abbrev Inv-loop : tie.InvT-loop
-Inv-loop list steps lo at hi size₀ next₀ i₀ size next i = Sizing list lo hi i next size
+Inv-loop list shares lo at hi size₀ next₀ i₀ size next i = Sizing list lo hi i next size
 
 abbrev μ-loop : tie.MeasureT-loop
-μ-loop list steps lo at hi size₀ next₀ i₀ size next i = hi - i
+μ-loop list shares lo at hi size₀ next₀ i₀ size next i = hi - i
 
 sub-size : tie.Need-sub-size Inv-loop μ-loop
 sub-size c =

@@ -1,8 +1,7 @@
 -- `book::book_check` meets its contract.
 -- Assumes nothing.
 use borrow.Author.Needs.{needs}
-use Rattle.questions.proofs.Checks.{check-sound}
-use Rattle.book.proofs.Reading.{check-unsound}
+use Rattle.book.proofs.Reading.{check-long, check-sound, check-unsound}
 use Rattle.book.proofs.book_check.Statement.{statement}
 use Rattle.book.proofs.book_check.Tie as tie
 
@@ -11,8 +10,9 @@ book-check-spec =
     tie.close
     (tie.spec
     (λ c κs. search needs)
-    (λ c. search needs)
     (λ c κs. search needs)
-    (λ c. search needs)
     (λ c. search check-unsound)
+    (λ c κs. search check-long)
+    (λ c κs. search needs)
+    (λ c κs. search needs)
     (λ c. search check-sound))

@@ -10,7 +10,7 @@ use Rattle.book.proofs.book_read.Statement.{statement}
 use Rattle.book.proofs.book_read.Tie as tie
 
 -- there is a name at the position
-within : (c : tie.Else1) → c .before .before .before .before .before .before .before .args .position < c .before .before .checked .given .0 .0
+within : (c : tie.Else1) → c .before .before .before .before .before .before .before .before .args .position < c .before .wide16 .result
 within c = omega arith
 
 -- nothing was written
@@ -25,6 +25,7 @@ book-read-spec =
     (λ c. search needs)
     (λ c κs. search needs)
     (λ c. search needs)
+    (λ c κs. search needs)
     (λ c κs. search needs)
     (λ c. search read-past)
     (λ c κs. search (position-ask, within (c .before)))

@@ -1,13 +1,13 @@
--- `entries::check_block` meets its contract: `Held` carries the loop.
+-- `entries::check_block` meets its contract: `BlockRead` carries the loop.
 -- Assumes nothing.
 use native.Mathlib.Omega.{arith}
 use borrow.Author.Needs.{needs}
-use Rattle.entries.proofs.Reading.{Held, held-start, held-bad, held-entry, held-more, held-apart, held-done}
+use Rattle.entries.proofs.Reading.{BlockRead, held-start, held-bad, held-entry, held-more, held-apart, held-done}
 use Rattle.entries.proofs.check_block.Statement.{statement}
 use Rattle.entries.proofs.check_block.Tie as tie
 
 abbrev Inv-loop : tie.InvT-loop
-Inv-loop book start end m name₀ cur₀ len₀ left₀ name cur len left = Held book end start m (cur .at) name len left
+Inv-loop book start end m name₀ cur₀ len₀ left₀ name cur len left = BlockRead book end start m (cur .at) name len left
 
 abbrev μ-loop : tie.MeasureT-loop
 μ-loop book start end m name₀ cur₀ len₀ left₀ name cur len left = left

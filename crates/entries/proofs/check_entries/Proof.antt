@@ -8,10 +8,10 @@ use Rattle.entries.proofs.check_entries.Statement.{statement}
 use Rattle.entries.proofs.check_entries.Tie as tie
 
 abbrev Inv-loop : tie.InvT-loop
-Inv-loop book n k s u at₀ t₀ i₀ name₀ len₀ at t i name len = Walking book k s u n t at name len i
+Inv-loop book n k blocks nodes at₀ slot₀ i₀ name₀ len₀ at slot i name len = Walking book k blocks nodes n slot at name len i
 
 abbrev μ-loop : tie.MeasureT-loop
-μ-loop book n k s u at₀ t₀ i₀ name₀ len₀ at t i name len = n - i
+μ-loop book n k blocks nodes at₀ slot₀ i₀ name₀ len₀ at slot i name len = n - i
 
 loop-again : tie.Need-loop-again Inv-loop μ-loop
 loop-again c =

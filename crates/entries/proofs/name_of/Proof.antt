@@ -1,13 +1,13 @@
--- `entries::name_of` meets its contract: `Reached` carries the loop.
+-- `entries::name_of` meets its contract: `ReadTo` carries the loop.
 -- Assumes nothing.
 use Prim.Native.Nat.{_-_}
 use borrow.Author.Needs.{needs}
-use Rattle.entries.proofs.Reading.{Reached, reached-done, reached-entry, reached-more, reached-start}
+use Rattle.entries.proofs.Reading.{ReadTo, reached-done, reached-entry, reached-more, reached-start}
 use Rattle.entries.proofs.name_of.Statement.{statement}
 use Rattle.entries.proofs.name_of.Tie as tie
 
 abbrev Inv-loop : tie.InvT-loop
-Inv-loop book start count cur₀ name₀ len₀ i₀ cur name len i = Reached book start count (cur .at) name len i
+Inv-loop book start count cur₀ name₀ len₀ i₀ cur name len i = ReadTo book start count (cur .at) name len i
 
 abbrev μ-loop : tie.MeasureT-loop
 μ-loop book start count cur₀ name₀ len₀ i₀ cur name len i = count - i

@@ -24,7 +24,7 @@ use Rattle.inspect.proofs.+check_node+check_row.Lts-check_row as check-
 use Rattle.inspect.proofs.is_leaf.Reads as is-leaf-reads
 use Rattle.inspect.proofs.is_led_to.Reads as is-led-to-reads
 use Rattle.inspect.proofs.may_be_fork.Reads as may-be-fork-reads
-use Rattle.neighbours.proofs.meet.Reads as meet-reads
+use Rattle.neighbours.proofs.shared_before.Reads as shared-before-reads
 use Rattle.neighbours.proofs.next_entry.Reads as next-entry-reads
 use Rattle.fields.proofs.depth.Reads as depth-reads
 use Rattle.fields.proofs.first.Reads as first-reads
@@ -58,7 +58,7 @@ abbrev node-claims : ℕ → check-node-lts.Claims
 node-claims t = (depth-reads.Asked, depth-reads.Learnt, first-reads.Asked, first-reads.Learnt, names-reads.Asked, names-reads.Learnt, nodes-reads.Asked, nodes-reads.Learnt, check-row-below t, check-row.Post)
 
 abbrev row-claims : ℕ → check-row-lts.Claims
-row-claims t = (is-led-to-reads.Asked, is-led-to-reads.Learnt, names-reads.Asked, names-reads.Learnt, is-leaf-reads.Asked, is-leaf-reads.Learnt, may-be-fork-reads.Asked, may-be-fork-reads.Learnt, check-node-below t, check-node.Post, nodes-reads.Asked, nodes-reads.Learnt, next-entry-reads.Asked, next-entry-reads.Learnt, meet-reads.Asked, meet-reads.Learnt)
+row-claims t = (is-led-to-reads.Asked, is-led-to-reads.Learnt, names-reads.Asked, names-reads.Learnt, is-leaf-reads.Asked, is-leaf-reads.Learnt, may-be-fork-reads.Asked, may-be-fork-reads.Learnt, check-node-below t, check-node.Post, nodes-reads.Asked, nodes-reads.Learnt, next-entry-reads.Asked, next-entry-reads.Learnt, shared-before-reads.Asked, shared-before-reads.Learnt)
 
 abbrev Inv-loop : check-row-lts.InvT-loop
 Inv-loop book o end lo n d a child₀ first₀ entry₀ child first entry = Rows book lo n d o end child first entry
@@ -133,8 +133,8 @@ pub +check-node+check-row-spec : {M : Type 1} → statement M
     (λ c κs. law.rows-meets _ _ _ _ _ _ _ _ _ _ _ _ (turn t (c .before .before)) (c .before .if7 .left) _ (c .next-entry .ensures))
     (λ c.
     let went = c .before .before in
-    law.rows-parted _ _ _ _ _ _ _ _ _ _ _ _ (turn t (went .before .before)) (went .before .if7 .left) _ (went .next-entry .ensures) _ (c .before .meet .ensures) (omega (arith, c .if9)))
+    law.rows-parted _ _ _ _ _ _ _ _ _ _ _ _ (turn t (went .before .before)) (went .before .if7 .left) _ (went .next-entry .ensures) _ (c .before .shared-before .ensures) (omega (arith, c .if9)))
     (λ c. omega (arith, turn t (c .before .before .before .before)))
     (λ c.
     let went = c .before .before in
-    law.rows-more _ _ _ _ _ _ _ _ _ _ _ _ (turn t (went .before .before)) (went .before .if7 .left) _ (went .next-entry .ensures) _ (c .before .meet .ensures) (c .if9 .left))
+    law.rows-more _ _ _ _ _ _ _ _ _ _ _ _ (turn t (went .before .before)) (went .before .if7 .left) _ (went .next-entry .ensures) _ (c .before .shared-before .ensures) (c .if9 .left))

@@ -11,14 +11,14 @@ use Rattle.listing.proofs.say_lines.Statement.{statement}
 use Rattle.listing.proofs.say_lines.Tie as tie
 
 abbrev Inv-loop : tie.InvT-loop
-Inv-loop book n k before₀ before-len₀ i₀ before before-len i = before-len ≤ length before
+Inv-loop book t n k before₀ before-len₀ i₀ before before-len i = before-len ≤ length before
 
 abbrev μ-loop : tie.MeasureT-loop
-μ-loop book n k before₀ before-len₀ i₀ before before-len i = n - i
+μ-loop book t n k before₀ before-len₀ i₀ before before-len i = n - i
 
 -- in a turn
-asked : (c : tie.In-loop Inv-loop μ-loop) → let a = c .before .before .before .args in PositionAsk (a .book .now) (a .k) (c .before .loop .i)
-asked c = c .before .before .before .pre _ (c .loop-test .taken)
+asked : (c : tie.In-loop Inv-loop μ-loop) → let a = c .before .before .before .before .before .args in PositionAsk (a .book .now) (a .t) (c .before .loop .i)
+asked c = c .before .before .before .before .before .pre _ (omega arith)
 
 pub say-lines-spec : {M : Type 1} → statement M
 say-lines-spec =
@@ -26,13 +26,15 @@ say-lines-spec =
     (tie.spec
     Inv-loop
     μ-loop
+    (λ c κs. search needs)
+    (λ c κs. search needs)
     (λ c. search needs)
     (λ c κs. asked c)
     (λ c. search needs)
     (λ c. sym (length-take-le _ _ (search needs)))
     (λ c. search needs)
     (λ c. sym (length-take-le _ _ (search needs)))
-    (λ c κs. omega (arith, asked (c .before .before .before .before)))
+    (λ c κs. omega (arith, asked (c .before .before .before .before), c .before .before .before .before .before .before .wide162 .ensures .0))
     (λ c. search needs)
     (λ c. search needs)
     (λ c. search needs)

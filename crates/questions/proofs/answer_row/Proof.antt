@@ -33,6 +33,6 @@ answer-row-spec =
     (λ c. search needs)
     (λ c. search needs)
     (λ c. search needs)
-    (λ c. search needs)
+    (λ c. omega arith)
     (λ c κs. record { checked = search needs; number = record { low = omega arith; high = omega arith } })
     (λ c. row-answered _ _ _ _ (record { low = omega arith; high = omega arith; within = omega arith }) (asked c)))

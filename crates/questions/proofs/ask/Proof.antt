@@ -23,4 +23,4 @@ ask-spec =
     (λ c κs. search needs)
     (λ c. search ask-none)
     (λ c κs. search askable)
-    (λ c. search (ask-some, short (c .before .before))))
+    (λ c. search (ask-some, short (c .before .before .before))))

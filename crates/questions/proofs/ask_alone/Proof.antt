@@ -2,7 +2,7 @@
 -- Assumes nothing.
 use borrow.Author.Needs.{needs}
 use Rattle.questions.proofs.Asking.{ask-unsound}
-use Rattle.questions.proofs.Checks.{check-sound}
+use Rattle.questions.proofs.Checks.{check-opens}
 use Rattle.questions.proofs.ask_alone.Statement.{statement}
 use Rattle.questions.proofs.ask_alone.Tie as tie
 
@@ -14,6 +14,6 @@ ask-alone-spec =
     (λ c. search needs)
     (λ c κs. search needs)
     (λ c. search needs)
-    (λ c κs. search check-sound)
+    (λ c κs. search check-opens)
     (λ c. search ask-unsound)
     (λ c. search needs))

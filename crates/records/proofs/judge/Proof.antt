@@ -11,19 +11,19 @@ use Rattle.records.proofs.judge.Statement.{statement}
 use Rattle.records.proofs.judge.Tie as tie
 
 abbrev Inv-bytes : tie.InvT-bytes
-Inv-bytes list lens steps at prev before n len start most i₀ i = law.Comparing list lens steps at prev before n len i
+Inv-bytes list lens shares at prev before n len start most i₀ i = law.Comparing list lens shares at prev before n len i
 
 abbrev μ-bytes : tie.MeasureT-bytes
-μ-bytes list lens steps at prev before n len start most i₀ i = most - i
+μ-bytes list lens shares at prev before n len start most i₀ i = most - i
 
 abbrev Inv-records : tie.InvT-records
-Inv-records list lens₀ steps₀ at₀ prev₀ before₀ n₀ lens steps at prev before n = law.ReadUpTo list lens steps at prev before n
+Inv-records list lens₀ steps₀ at₀ prev₀ before₀ n₀ lens shares at prev before n = law.ReadUpTo list lens shares at prev before n
 
 abbrev μ-records : tie.MeasureT-records
-μ-records list lens₀ steps₀ at₀ prev₀ before₀ n₀ lens steps at prev before n = length list - at
+μ-records list lens₀ steps₀ at₀ prev₀ before₀ n₀ lens shares at prev before n = length list - at
 
 -- the comparison was left by either `break 'bytes`
-parted : (c : tie.Left-bytes Inv-bytes μ-bytes Inv-records μ-records) → law.Parted (c .before .bytes .inv)
+parted : (c : tie.Left-bytes Inv-bytes μ-bytes Inv-records μ-records) → law.ComesApart (c .before .bytes .inv)
 parted c = ⊎-elim
     (λ w. search law.one-ends)
     (λ w. search law.bytes-differ)

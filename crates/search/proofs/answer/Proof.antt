@@ -2,7 +2,7 @@
 -- Assumes nothing.
 use native.Mathlib.Omega.{arith}
 use borrow.Author.Needs.{needs}
-use Rattle.search.proofs.Spots.{by-exact, by-nearest, by-place, by-range, table-at}
+use Rattle.search.proofs.Spots.{by-exact, by-nearest, by-place, by-range}
 use Rattle.search.proofs.answer.Statement.{statement}
 use Rattle.search.proofs.answer.Tie as tie
 
@@ -22,14 +22,11 @@ pub answer-spec : {M : Type 1} → statement M
 answer-spec =
     tie.close
     (tie.spec
-    (λ c. search needs)
-    (λ c. search needs)
     (λ c κs. search needs)
-    (λ c κs. search table-at)
     returns
-    (λ c κs. search table-at)
+    (λ c κs. search needs)
     returns-2
-    (λ c κs. search table-at)
+    (λ c κs. search needs)
     returns-3
-    (λ c κs. search table-at)
+    (λ c κs. search needs)
     returns-4)

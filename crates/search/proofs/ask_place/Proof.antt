@@ -3,6 +3,7 @@
 use Prim.Native.Nat.{ℕ}
 use mathlib.Core.Path.{ap}
 use borrow.Author.Needs.{needs}
+use Rattle.search.proofs.Spots.{starts}
 use Rattle.search.proofs.ask_place.Statement.{statement}
 use Rattle.search.proofs.ask_place.Tie as tie
 
@@ -10,4 +11,4 @@ returns : tie.Need-returns
 returns c = ap (λ (n : ℕ). (n, 0)) (c .seat .ensures)
 
 pub ask-place-spec : {M : Type 1} → statement M
-ask-place-spec = tie.close (tie.spec (λ c κs. search needs) (λ c κs. search needs) returns)
+ask-place-spec = tie.close (tie.spec (λ c κs. search needs) (λ c κs. search needs) (λ c κs. search (needs, starts)) returns)

@@ -1,14 +1,14 @@
--- `search::highest` meets its contract. The invariant of its loop is `Climbing`: from the end of the path on, each node but the last is deep enough.
+-- `search::highest` meets its contract. The invariant of its loop is `Upwards`: from the end of the path on, each node but the last is deep enough.
 -- The measure is the number of nodes above.
 -- Assumes nothing.
 use native.Mathlib.Omega.{arith}
 use borrow.Author.Needs.{needs}
-use Rattle.search.proofs.Spots.{Climbing, climb-end, climb-found, climb-more, climb-numbered, climb-start}
+use Rattle.search.proofs.Spots.{Upwards, climb-end, climb-found, climb-more, climb-numbered, climb-start}
 use Rattle.search.proofs.highest.Statement.{statement}
 use Rattle.search.proofs.highest.Tie as tie
 
 abbrev Inv-loop : tie.InvT-loop
-Inv-loop book nodes shared path len j₀ j = Climbing book nodes path len shared j
+Inv-loop book nodes shared path len j₀ j = Upwards book nodes path len shared j
 
 abbrev μ-loop : tie.MeasureT-loop
 μ-loop book nodes shared path len j₀ j = j

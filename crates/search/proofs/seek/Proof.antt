@@ -5,7 +5,7 @@ use Prim.Native.Nat.{_-_}
 use native.Mathlib.Omega.{arith}
 use borrow.Author.Needs.{needs}
 use Rattle.words.specs.Words.{plain}
-use Rattle.format.specs.Book.{wordsOf}
+use Rattle.format.specs.Spans.{wordsOf}
 use Rattle.descent.specs.Vocabulary.{Seeking}
 use Rattle.descent.proofs.Rows.{seek-end, seek-found, seek-more, seek-start}
 use Rattle.search.proofs.Ways.{seek-next, seek-less}

@@ -3,12 +3,12 @@
 use Prim.Native.Nat.{_-_}
 use lib.ListN.{length}
 use borrow.Author.Needs.{needs}
-use Rattle.symbols.proofs.Symbols.{Alike, alike-more, alike-other, alike-left, alike-right}
+use Rattle.symbols.proofs.Symbols.{Sharing, alike-more, alike-other, alike-left, alike-right}
 use Rattle.symbols.proofs.shared_symbols.Statement.{statement}
 use Rattle.symbols.proofs.shared_symbols.Tie as tie
 
 abbrev Inv-loop : tie.InvT-loop
-Inv-loop a b i₀ i = Alike a b i
+Inv-loop a b i₀ i = Sharing a b i
 
 abbrev μ-loop : tie.MeasureT-loop
 μ-loop a b i₀ i = length a - i

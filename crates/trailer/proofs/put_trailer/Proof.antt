@@ -1,9 +1,9 @@
--- `build::put_trailer` meets its contract: the trailer is eight numbers, the last two of which are the mark.
+-- `trailer::put_trailer` meets its contract: the trailer is eight numbers, the last two of which are the mark.
 -- Assumes nothing.
 use borrow.Author.Needs.{needs}
 use Rattle.format.specs.Book.{numbers, trailer}
-use Rattle.build.proofs.put_trailer.Statement.{statement}
-use Rattle.build.proofs.put_trailer.Tie as tie
+use Rattle.trailer.proofs.put_trailer.Statement.{statement}
+use Rattle.trailer.proofs.put_trailer.Tie as tie
 
 returns : tie.Need-returns
 unfolding trailer numbers

@@ -1,12 +1,12 @@
--- `search::meet` meets its contract: the front of the array is the name at the position.
+-- `search::compare` meets its contract: the front of the array is the name at the position.
 -- Assumes nothing.
 use borrow.Author.Needs.{needs}
 use Rattle.search.proofs.Spots.{met}
-use Rattle.search.proofs.meet.Statement.{statement}
-use Rattle.search.proofs.meet.Tie as tie
+use Rattle.search.proofs.compare.Statement.{statement}
+use Rattle.search.proofs.compare.Tie as tie
 
-pub meet-spec : {M : Type 1} → statement M
-meet-spec =
+pub compare-spec : {M : Type 1} → statement M
+compare-spec =
     tie.close
     (tie.spec
     (λ c κs. search needs)

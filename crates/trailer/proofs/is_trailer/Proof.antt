@@ -1,9 +1,10 @@
--- `accept::is_trailer` meets its contract: each way out is a test that fails, and behind the last one the tests have shown every part of `Trail`.
+-- `trailer::is_trailer` meets its contract: each way out is a test that fails, and behind the last one the tests have shown every part of
+-- `Trail`.
 -- Assumes nothing.
 use native.Mathlib.Omega.{arith}
 use borrow.Author.Needs.{needs}
-use Rattle.accept.proofs.is_trailer.Statement.{statement}
-use Rattle.accept.proofs.is_trailer.Tie as tie
+use Rattle.trailer.proofs.is_trailer.Statement.{statement}
+use Rattle.trailer.proofs.is_trailer.Tie as tie
 
 -- all tests pass
 returns-11 : tie.Need-returns-11
@@ -15,30 +16,22 @@ is-trailer-spec =
     (tie.spec
     (λ c. search needs)
     (λ c. search needs)
-    (λ c. search needs)
-    (λ c κs. search needs)
-    (λ c. search needs)
-    (λ c. search needs)
-    (λ c κs. search needs)
-    (λ c. search needs)
-    (λ c. search needs)
-    (λ c. search needs)
     (λ c κs. search needs)
     (λ c. search needs)
     (λ c κs. search needs)
     (λ c. search needs)
     (λ c. search needs)
     (λ c κs. search needs)
+    (λ c κs. search needs)
     (λ c. search needs)
+    (λ c κs. search needs)
     (λ c. search needs)
     (λ c. search needs)
     (λ c. search needs)
     (λ c. search needs)
     (λ c κs. search needs)
     (λ c. search needs)
-    (λ c. search needs)
     (λ c κs. search needs)
-    (λ c. search needs)
     (λ c. search needs)
     (λ c κs. search needs)
     (λ c. search needs)

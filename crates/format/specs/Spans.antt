@@ -1,0 +1,31 @@
+-- Groups of words as spans of a list, for contracts and laws; no public statement cites them.
+--     wordsOf           the words of the names that bytes would be the book of
+--     deep              the depth of the words from lo up to hi
+--     rowTable          the tables of a row of children, one after the other
+--     Climbs, Ranked    symbols number d never fall from word to word; the words of a row
+-- The laws are in proofs/Groups.antt and proofs/Spans.antt. Assumes nothing: these are definitions.
+use Prim.Native.Nat.{ℕ, pred, _≤_}
+use mathlib.Core.List.{List, [], _∷_, map}
+use lib.ListN.{length}
+use Rattle.words.specs.Words.{Bytes, Rule, Words, at, nth, shared, word}
+use Rattle.words.specs.Rising.{All, Rises}
+use Rattle.format.specs.Nodes.{Node, groups, rowBy, tableWithin}
+use Rattle.format.specs.Book.{namesOf}
+
+unfoldable pub wordsOf : Rule → Bytes → Words
+wordsOf ρ s = map (word ρ) (namesOf s)
+
+unfoldable pub deep : Words → ℕ → ℕ → ℕ
+deep ws lo hi = shared (nth ws lo) (nth ws (pred hi))
+
+unfoldable pub rowTable : ℕ → ℕ → Words → List Node
+rowTable i d ws = rowBy (λ j t g. tableWithin (length ws) j t g) i d (groups d ws)
+
+pub data Climbs (d : ℕ) : Words → Type 0 where
+  flat : Climbs d []
+  climb : {w : List ℕ} {ws : Words} → All (λ v. at w d ≤ at v d) ws → Climbs d ws → Climbs d (w ∷ ws)
+
+-- the words of a row: they rise, and never fall at d
+pub record Ranked (d : ℕ) (ws : Words) : Type 0 where
+  pub rises : Rises ws
+  pub climbs : Climbs d ws

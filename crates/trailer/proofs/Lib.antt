@@ -1,0 +1,2 @@
+-- Laws of the trailer. No contract cites them.
+pub mod Telling

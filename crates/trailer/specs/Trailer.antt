@@ -1,0 +1,32 @@
+-- The trailer as the code has it at hand, and what is asked of it.
+--     trailerIn         the numbers that the trailer of some bytes tells
+--     Trail, TrailSays  what is asked of the trailer alone; whether it holds
+-- Assumes nothing: these are definitions.
+use Prim.Native.Nat.{_*_, _+_, _≤_}
+use mathlib.Core.Path.{_≡_}
+use mathlib.Core.Bool.{Bool, false, true}
+use lib.ListN.{length}
+use Rattle.words.specs.Words.{Bytes}
+use Rattle.format.specs.Book.{longestBook, nodeSize, told, trailerSize}
+use Rattle.format.specs.Records.{mostNames}
+use Rattle.trailer.specs.declared.Trailer.{Trailer}
+
+abbrev pub trailerIn : Bytes → Trailer
+trailerIn b = record { names = told b 0; block = told b 1; blocks = told b 2; nodes = told b 3; count = told b 4 }
+
+-- one field for each test of the code; the mark as two numbers
+pub record Trail (b : Bytes) : Type 0 where
+  pub long : trailerSize ≤ length b
+  pub short : length b ≤ longestBook
+  pub few : told b 0 ≤ mostNames
+  pub low : 1 ≤ told b 1
+  pub high : told b 1 ≤ 64
+  pub order : told b 2 ≤ told b 3
+  pub total : told b 3 + told b 4 * nodeSize + trailerSize ≡ length b
+  pub whole : told b 5 ≡ length b
+  pub front : told b 6 ≡ 0x424E
+  pub back : told b 7 ≡ 0x314B
+
+abbrev pub TrailSays : Bytes → Bool → Type 0
+TrailSays b true = Trail b
+TrailSays b false = Trail b → ⊥

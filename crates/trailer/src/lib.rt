@@ -1,0 +1,119 @@
+// The trailer of a book: its numbers read, judged, and written. How many bytes it has, and where in it a number stands, is known here and
+// nowhere else. Who has checked a book hands its numbers on by value.
+ghost use mathlib.Core.Path.{_≡_};
+ghost use Prim.Native.Nat.{_<_, _≤_};
+ghost use lib.ListN.{length};
+ghost use Rattle.format.specs.Book.{told, trailer, trailerSize};
+ghost use Rattle.trailer.specs.Trailer.{TrailSays, trailerIn};
+
+// How many bytes a trailer has.
+pub const SIZE: usize = 16;
+
+// What the trailer tells of its book, but for its length. As narrow as they are stored, the numbers cost a guest no more stack than two
+// of them did.
+pub struct Trailer {
+    // How many names, in blocks of how many.
+    pub names: u16,
+    pub block: u16,
+    // Where the block table and the node table start.
+    pub blocks: u16,
+    pub nodes: u16,
+    // How many nodes.
+    pub count: u16,
+}
+
+// Number j of the trailer.
+fn number(book: &[u8], j: usize) -> usize
+    requires { ⌜ (trailerSize ≤ length (now book)) × (j < 8) ⌝ }
+    ensures { λ r. ⌜ (r ≡ told (now (book .entry)) j) × (r < 65536) ⌝ }
+{
+    numbers::number_at(book, book.len() - SIZE + 2 * j)
+}
+
+// How many names a block has. Who walks in a recursion asks for it where it is wanted: each number that is handed down costs every level
+// of it.
+pub fn block(book: &[u8]) -> usize
+    requires { ⌜ trailerSize ≤ length (now book) ⌝ }
+    ensures { λ r. ⌜ (r ≡ told (now (book .entry)) 1) × (r < 65536) ⌝ }
+{
+    number(book, 1)
+}
+
+// Where the block table starts.
+pub fn blocks_at(book: &[u8]) -> usize
+    requires { ⌜ trailerSize ≤ length (now book) ⌝ }
+    ensures { λ r. ⌜ (r ≡ told (now (book .entry)) 2) × (r < 65536) ⌝ }
+{
+    number(book, 2)
+}
+
+// What the trailer tells.
+pub fn read(book: &[u8]) -> Trailer
+    requires { ⌜ trailerSize ≤ length (now book) ⌝ }
+    ensures { λ r. ⌜ r ≡ trailerIn (now (book .entry)) ⌝ }
+{
+    Trailer {
+        names: number(book, 0) as u16,
+        block: block(book) as u16,
+        blocks: blocks_at(book) as u16,
+        nodes: number(book, 3) as u16,
+        count: number(book, 4) as u16,
+    }
+}
+
+// Whether the trailer's numbers agree with each other and with the length, and the mark stands behind them.
+pub fn is_trailer(book: &[u8]) -> bool
+    ensures { λ r. ⌜ TrailSays (now (book .entry)) r ⌝ }
+{
+    if book.len() < SIZE {
+        return false;
+    }
+    if 65535 < book.len() {
+        return false;
+    }
+    if 2000 < number(book, 0) {
+        return false;
+    }
+    let k = block(book);
+    if k == 0 {
+        return false;
+    }
+    if 64 < k {
+        return false;
+    }
+    let nodes_at = number(book, 3);
+    if nodes_at < blocks_at(book) {
+        return false;
+    }
+    if nodes_at + number(book, 4) * fields::SIZE + SIZE != book.len() {
+        return false;
+    }
+    if number(book, 5) != book.len() {
+        return false;
+    }
+    if number(book, 6) != 0x424E {
+        return false;
+    }
+    if number(book, 7) != 0x314B {
+        return false;
+    }
+    true
+}
+
+// The trailer of a book of so many names in blocks of so many, with these starts of its tables, so many nodes and so many bytes in all. The
+// mark 4E 42 4B 31 is two numbers more.
+pub fn put_trailer(
+    part: &mut [u8],
+    names: usize,
+    block: usize,
+    blocks: usize,
+    nodes: usize,
+    count: usize,
+    total: usize,
+)
+    requires { ⌜ length (now part) ≡ trailerSize ⌝ }
+    ensures { λ _. ⌜ now (part .exit) ≡ trailer names block blocks nodes count total ⌝ }
+{
+    let fields = [names, block, blocks, nodes, count, total, 0x424E, 0x314B];
+    numbers::put_numbers(part, &fields);
+}
