@@ -3,7 +3,7 @@
 mod common;
 
 use common::{
-    built, many_names, mar_names, names, names_for_book_length, no, yes, Random, BOOK_80, BOOK_85,
+    built, many_names, mar_names, names, names_for_book_length, no, yes, Random, BOOK_BY_4, BOOK_BY_2,
     EMPTY_BOOK,
 };
 use model::{book_build, book_check, book_of, open, write_list};
@@ -44,17 +44,17 @@ fn accepted_changes(book: &[u8]) -> Vec<usize> {
 // Single bytes changed
 
 #[test]
-fn every_changed_byte_of_the_85_is_refused_or_makes_another_sound_book() {
+fn every_changed_byte_of_blocks_of_2_is_refused_or_makes_another_sound_book() {
     // Free are the letters behind those that the nodes show: na of Marina and
     // et Square. Mar itself stands in two blocks, so one change parts them.
     let mut expected = vec![0; 85];
     expected[8..10].fill(255);
     expected[16..25].fill(255);
-    assert_eq!(accepted_changes(&BOOK_85), expected);
+    assert_eq!(accepted_changes(&BOOK_BY_2), expected);
 }
 
 #[test]
-fn every_changed_byte_of_the_80_is_refused_or_makes_another_sound_book() {
+fn every_changed_byte_of_blocks_of_4_is_refused_or_makes_another_sound_book() {
     // Here Mar is stored once and may become any three bytes. k may be any
     // other size that holds three names in one block: 3 and 5 to 64.
     let mut expected = vec![0; 80];
@@ -62,7 +62,7 @@ fn every_changed_byte_of_the_80_is_refused_or_makes_another_sound_book() {
     expected[8..10].fill(255);
     expected[13..22].fill(255);
     expected[80 - 14] = 61;
-    assert_eq!(accepted_changes(&BOOK_80), expected);
+    assert_eq!(accepted_changes(&BOOK_BY_4), expected);
 }
 
 #[test]
@@ -77,16 +77,16 @@ fn every_changed_byte_of_the_empty_book_is_refused_but_for_its_k() {
 #[test]
 fn every_cut_book_is_refused() {
     for length in 0..85 {
-        assert_eq!(book_check(&BOOK_85[..length]), no(2), "front {length}");
+        assert_eq!(book_check(&BOOK_BY_2[..length]), no(2), "front {length}");
     }
     for start in 1..=85 {
-        assert_eq!(book_check(&BOOK_85[start..]), no(2), "from {start}");
+        assert_eq!(book_check(&BOOK_BY_2[start..]), no(2), "from {start}");
     }
 }
 
 #[test]
 fn bytes_before_or_after_a_book_make_it_no_book() {
-    for book in [&BOOK_85[..], &BOOK_80, &EMPTY_BOOK] {
+    for book in [&BOOK_BY_2[..], &BOOK_BY_4, &EMPTY_BOOK] {
         for byte in 0..=255u8 {
             assert_eq!(book_check(&[book, &[byte]].concat()), no(2));
             assert_eq!(book_check(&[&[byte], book].concat()), no(2));
@@ -98,8 +98,8 @@ fn bytes_before_or_after_a_book_make_it_no_book() {
 #[test]
 fn every_byte_left_out_or_doubled_is_refused() {
     for offset in 0..85 {
-        let left_out = [&BOOK_85[..offset], &BOOK_85[offset + 1..]].concat();
-        let doubled = [&BOOK_85[..=offset], &BOOK_85[offset..]].concat();
+        let left_out = [&BOOK_BY_2[..offset], &BOOK_BY_2[offset + 1..]].concat();
+        let doubled = [&BOOK_BY_2[..=offset], &BOOK_BY_2[offset..]].concat();
         assert_eq!(book_check(&left_out), no(2), "left out {offset}");
         assert_eq!(book_check(&doubled), no(2), "doubled {offset}");
     }
@@ -113,10 +113,10 @@ fn a_shared_count_smaller_than_possible_is_refused() {
     // 00 0D Market Square inside its block; tables and trailer moved along.
     for shared in 0..3usize {
         let rest = &b"Market Square"[shared..];
-        let mut bytes = BOOK_80[..10].to_vec();
+        let mut bytes = BOOK_BY_4[..10].to_vec();
         bytes.extend([shared as u8, rest.len() as u8]);
         bytes.extend(rest);
-        bytes.extend(&BOOK_80[22..]);
+        bytes.extend(&BOOK_BY_4[22..]);
         let longer = (3 - shared) as u8;
         let trailer = bytes.len() - 16;
         bytes[trailer + 4] += longer;
@@ -130,9 +130,9 @@ fn a_shared_count_smaller_than_possible_is_refused() {
 fn a_nonzero_count_at_a_block_s_first_name_is_refused() {
     // The 85 bytes, but Market Square stored as 03 0A ket Square although it
     // begins the second block; tables and trailer moved along.
-    let mut bytes = BOOK_80[..22].to_vec();
+    let mut bytes = BOOK_BY_4[..22].to_vec();
     bytes.extend([0x00, 0x00, 0x0A, 0x00]);
-    bytes.extend(&BOOK_85[29..69]);
+    bytes.extend(&BOOK_BY_2[29..69]);
     bytes.extend([3, 0, 2, 0, 22, 0, 26, 0, 4, 0, 82, 0]);
     bytes.extend(b"NBK1");
     assert_eq!(bytes.len(), 82);
@@ -144,7 +144,7 @@ fn an_unused_gap_between_the_parts_is_refused() {
     // One byte more before the block table, the node table or the trailer,
     // with every number of the trailer moved along.
     for (offset, moves_block_table, moves_node_table) in [(25, 1, 1), (29, 0, 1), (69, 0, 0)] {
-        let mut bytes = [&BOOK_85[..offset], &[0], &BOOK_85[offset..]].concat();
+        let mut bytes = [&BOOK_BY_2[..offset], &[0], &BOOK_BY_2[offset..]].concat();
         let trailer = bytes.len() - 16;
         bytes[trailer + 4] += moves_block_table;
         bytes[trailer + 6] += moves_node_table;
@@ -156,9 +156,9 @@ fn an_unused_gap_between_the_parts_is_refused() {
 #[test]
 fn nodes_in_another_order_are_refused() {
     // The leaves of Mar and Marina have swapped places.
-    let mut bytes = BOOK_85;
-    bytes[39..49].copy_from_slice(&BOOK_85[49..59]);
-    bytes[49..59].copy_from_slice(&BOOK_85[39..49]);
+    let mut bytes = BOOK_BY_2;
+    bytes[39..49].copy_from_slice(&BOOK_BY_2[49..59]);
+    bytes[49..59].copy_from_slice(&BOOK_BY_2[39..49]);
     assert_eq!(book_check(&bytes), no(2));
 }
 
@@ -166,7 +166,7 @@ fn nodes_in_another_order_are_refused() {
 fn another_block_size_with_the_same_blocks_is_another_book() {
     let mut accepted = Vec::new();
     for block in 0..=255u8 {
-        let mut bytes = BOOK_80;
+        let mut bytes = BOOK_BY_4;
         bytes[80 - 14] = block;
         if is_accepted(&bytes) {
             accepted.push(block);
@@ -254,7 +254,7 @@ fn a_trailer_that_promises_65535_names_is_refused() {
     for byte in [0u8, 1, 255] {
         let mut bytes = vec![byte; 65_535];
         let trailer = bytes.len() - 16;
-        bytes[trailer..].copy_from_slice(&BOOK_85[69..]);
+        bytes[trailer..].copy_from_slice(&BOOK_BY_2[69..]);
         bytes[trailer..trailer + 2].fill(255);
         assert_eq!(book_check(&bytes), no(2));
     }
@@ -263,7 +263,7 @@ fn a_trailer_that_promises_65535_names_is_refused() {
 #[test]
 fn a_very_long_run_of_bytes_is_refused() {
     let mut bytes = vec![1; 300_000];
-    bytes.extend(BOOK_85);
+    bytes.extend(BOOK_BY_2);
     assert_eq!(book_check(&bytes), no(2));
 }
 
@@ -281,7 +281,7 @@ fn random_bytes_are_no_books_and_the_check_ends() {
 fn random_bytes_before_a_good_trailer_are_refused_or_a_book() {
     for seed in 0..2000 {
         let mut random = Random::from_seed(seed);
-        let mut bytes = BOOK_85;
+        let mut bytes = BOOK_BY_2;
         for byte in &mut bytes[..69] {
             *byte = random.one_of(&[0, 1, 2, 3, 4, 13, b'M', 255]);
         }

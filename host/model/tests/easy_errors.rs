@@ -2,17 +2,17 @@
 
 mod common;
 
-use common::{built, names, no, yes, BOOK_80, BOOK_85};
+use common::{built, names, no, yes, BOOK_BY_4, BOOK_BY_2};
 use model::{book_check, book_exact, book_nearest, book_place, book_range};
 
 #[test]
 fn a_leaf_reached_by_maxim_is_no_match() {
     // The descent looks at the fourth byte only, finds i and reaches Marina.
-    assert_eq!(book_nearest(&BOOK_85, b"Maxim"), yes(1, 2));
-    assert_eq!(book_exact(&BOOK_85, b"Maxim"), yes(0, 0));
-    assert_eq!(book_range(&BOOK_85, b"Maxim"), yes(3, 0));
+    assert_eq!(book_nearest(&BOOK_BY_2, b"Maxim"), yes(1, 2));
+    assert_eq!(book_exact(&BOOK_BY_2, b"Maxim"), yes(0, 0));
+    assert_eq!(book_range(&BOOK_BY_2, b"Maxim"), yes(3, 0));
     // The same with a name of the same length.
-    assert_eq!(book_exact(&BOOK_85, b"Maxina"), yes(0, 0));
+    assert_eq!(book_exact(&BOOK_BY_2, b"Maxina"), yes(0, 0));
 }
 
 #[test]
@@ -64,26 +64,26 @@ fn a_shared_count_smaller_than_it_could_be_is_no_book() {
 
 #[test]
 fn a_block_s_first_name_stores_count_0() {
-    assert_eq!(BOOK_85[10], 0);
+    assert_eq!(BOOK_BY_2[10], 0);
     assert_eq!(built(&common::mar_names(), 2)[10], 0);
     // In one block the same name stores 3.
-    assert_eq!(BOOK_80[10], 3);
+    assert_eq!(BOOK_BY_4[10], 3);
 }
 
 #[test]
 fn place_maxim_is_behind_the_names_that_a_mismatch_inside_an_edge_leaves_below() {
-    assert_eq!(book_place(&BOOK_85, b"Maxim"), yes(3, 0));
+    assert_eq!(book_place(&BOOK_BY_2, b"Maxim"), yes(3, 0));
     // And a smaller question is before all of them.
-    assert_eq!(book_place(&BOOK_85, b"Maaim"), yes(0, 0));
+    assert_eq!(book_place(&BOOK_BY_2, b"Maaim"), yes(0, 0));
     // The same inside the edge of a leaf: Marina against Marixa and Mariaa.
-    assert_eq!(book_place(&BOOK_85, b"Marixa"), yes(2, 0));
-    assert_eq!(book_place(&BOOK_85, b"Mariaa"), yes(1, 0));
+    assert_eq!(book_place(&BOOK_BY_2, b"Marixa"), yes(2, 0));
+    assert_eq!(book_place(&BOOK_BY_2, b"Mariaa"), yes(1, 0));
 }
 
 #[test]
 fn mar_is_present_although_it_is_an_inner_path_of_others() {
-    assert_eq!(book_exact(&BOOK_85, b"Mar"), yes(0, 1));
-    assert_eq!(book_nearest(&BOOK_85, b"Mar"), yes(0, 3));
+    assert_eq!(book_exact(&BOOK_BY_2, b"Mar"), yes(0, 1));
+    assert_eq!(book_nearest(&BOOK_BY_2, b"Mar"), yes(0, 3));
     // Without the name itself, the inner path is no match.
     let book = built(&names(&["Marina", "Market Square"]), 2);
     assert_eq!(book_exact(&book, b"Mar"), yes(0, 0));

@@ -3,7 +3,7 @@
 mod common;
 
 use common::{
-    assert_build_refused, built, many_names, names_for_book_length, no, no_record, yes, BOOK_85,
+    assert_build_refused, built, many_names, names_for_book_length, no, no_record, yes, BOOK_BY_2,
     EMPTY_BOOK, FILLING, MAR_LIST,
 };
 use model::{
@@ -97,15 +97,15 @@ fn block_sizes_1_and_64_are_built() {
 }
 
 #[test]
-fn a_room_of_84_is_refused_with_4() {
+fn a_room_one_byte_short_is_refused_with_4() {
     assert_build_refused(MAR_LIST, 2, 84, no(4));
 }
 
 #[test]
-fn a_room_of_85_holds_the_book() {
+fn a_room_of_just_its_length_holds_the_book() {
     let mut room = [FILLING; 85];
     assert_eq!(book_build(MAR_LIST, 2, &mut room), yes(85, 0));
-    assert_eq!(room, BOOK_85);
+    assert_eq!(room, BOOK_BY_2);
 }
 
 #[test]
@@ -142,7 +142,7 @@ fn a_batch_of_64_rows_is_answered() {
         length: 6,
     };
     let mut answers = [Answer::default(); 64];
-    let answer = book_batch(&BOOK_85, b"Marina", &[row; 64], &mut answers);
+    let answer = book_batch(&BOOK_BY_2, b"Marina", &[row; 64], &mut answers);
     assert_eq!(answer, yes(64, 0));
     assert_eq!(answers, [yes(1, 1); 64]);
 }
@@ -155,7 +155,7 @@ fn a_batch_of_65_rows_is_refused_with_12() {
         length: 6,
     };
     let mut answers = [Answer::default(); 65];
-    let answer = book_batch(&BOOK_85, b"Marina", &[row; 65], &mut answers);
+    let answer = book_batch(&BOOK_BY_2, b"Marina", &[row; 65], &mut answers);
     assert_eq!(answer, no(12));
     assert_eq!(answers, [Answer::default(); 65]);
 }

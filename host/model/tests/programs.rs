@@ -2,7 +2,7 @@
 
 mod common;
 
-use common::{built, mar_names, names, names_for_book_length, BOOK_85, EMPTY_BOOK, MAR_LIST};
+use common::{built, mar_names, names, names_for_book_length, BOOK_BY_2, EMPTY_BOOK, MAR_LIST};
 use model::{book_check, book_of, listing, make_book, write_list};
 
 /// The listing as text, for comparing.
@@ -49,7 +49,7 @@ fn lines_tell_position_block_stored_count_full_length_and_name() {
 #[test]
 fn no_book_is_the_line_refused_2() {
     assert_eq!(listed(b""), "refused 2\n");
-    assert_eq!(listed(&BOOK_85[..84]), "refused 2\n");
+    assert_eq!(listed(&BOOK_BY_2[..84]), "refused 2\n");
     assert_eq!(listed(&vec![0; 70_000]), "refused 2\n");
 }
 
@@ -108,7 +108,7 @@ fn the_building_program_writes_the_book_with_k_16() {
     let book = make_book(MAR_LIST).expect("a good list");
     assert_eq!(book, book_of(16, &mar_names()));
     // One block, as in the book with k = 4; only k differs.
-    let mut expected = common::BOOK_80;
+    let mut expected = common::BOOK_BY_4;
     expected[80 - 14] = 16;
     assert_eq!(book, expected);
 }

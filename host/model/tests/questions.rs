@@ -2,7 +2,7 @@
 
 mod common;
 
-use common::{built, many_names, mar_names, names, no, yes, BOOK_85, EMPTY_BOOK};
+use common::{built, many_names, mar_names, names, no, yes, BOOK_BY_2, EMPTY_BOOK};
 use model::questions::{node_reached, Kind};
 use model::tree::tree;
 use model::{book_exact, book_nearest, book_place, book_range, Answer};
@@ -22,20 +22,20 @@ fn all_four(book: &[u8], question: &[u8]) -> [Answer; 4] {
 #[test]
 fn exact_finds_every_name_at_its_position() {
     for (position, name) in mar_names().iter().enumerate() {
-        assert_eq!(book_exact(&BOOK_85, name), yes(position, 1));
+        assert_eq!(book_exact(&BOOK_BY_2, name), yes(position, 1));
     }
 }
 
 #[test]
 fn exact_at_position_0_differs_from_not_found_by_its_second_number() {
-    assert_eq!(book_exact(&BOOK_85, b"Mar"), yes(0, 1));
-    assert_eq!(book_exact(&BOOK_85, b"Max"), yes(0, 0));
+    assert_eq!(book_exact(&BOOK_BY_2, b"Mar"), yes(0, 1));
+    assert_eq!(book_exact(&BOOK_BY_2, b"Max"), yes(0, 0));
 }
 
 #[test]
 fn exact_does_not_take_beginnings_or_extensions() {
     for question in ["", "M", "Ma", "Marin", "Marinas", "Market", "Mar "] {
-        let answer = book_exact(&BOOK_85, question.as_bytes());
+        let answer = book_exact(&BOOK_BY_2, question.as_bytes());
         assert_eq!(answer, yes(0, 0), "{question}");
     }
 }
@@ -53,7 +53,7 @@ fn exact_tells_a_name_from_itself_with_a_zero_byte_behind() {
 #[test]
 fn the_place_of_a_name_is_its_position() {
     for (position, name) in mar_names().iter().enumerate() {
-        assert_eq!(book_place(&BOOK_85, name), yes(position, 0));
+        assert_eq!(book_place(&BOOK_BY_2, name), yes(position, 0));
     }
 }
 
@@ -72,7 +72,7 @@ fn place_between_before_and_behind_the_names() {
         ("Zoo", 3),
     ];
     for (question, less) in rows {
-        let answer = book_place(&BOOK_85, question.as_bytes());
+        let answer = book_place(&BOOK_BY_2, question.as_bytes());
         assert_eq!(answer, yes(less, 0), "{question}");
     }
 }
@@ -91,7 +91,7 @@ fn place_above_names_of_255() {
 
 #[test]
 fn an_empty_question_begins_every_name() {
-    assert_eq!(book_range(&BOOK_85, b""), yes(0, 3));
+    assert_eq!(book_range(&BOOK_BY_2, b""), yes(0, 3));
 }
 
 #[test]
@@ -109,15 +109,15 @@ fn a_range_is_the_question_s_place_and_the_names_that_begin_with_it() {
         ("Z", 3, 0),
     ];
     for (question, less, beginning) in rows {
-        let answer = book_range(&BOOK_85, question.as_bytes());
+        let answer = book_range(&BOOK_BY_2, question.as_bytes());
         assert_eq!(answer, yes(less, beginning), "{question}");
     }
 }
 
 #[test]
 fn a_range_without_names_still_gives_the_place() {
-    assert_eq!(book_range(&BOOK_85, b"Mas"), yes(3, 0));
-    assert_eq!(book_range(&BOOK_85, b"Mara"), yes(1, 0));
+    assert_eq!(book_range(&BOOK_BY_2, b"Mas"), yes(3, 0));
+    assert_eq!(book_range(&BOOK_BY_2, b"Mara"), yes(1, 0));
 }
 
 // Nearest
@@ -125,21 +125,21 @@ fn a_range_without_names_still_gives_the_place() {
 #[test]
 fn nearest_gives_every_name_for_itself() {
     for (position, name) in mar_names().iter().enumerate() {
-        assert_eq!(book_nearest(&BOOK_85, name), yes(position, name.len()));
+        assert_eq!(book_nearest(&BOOK_BY_2, name), yes(position, name.len()));
     }
 }
 
 #[test]
 fn nearest_stops_where_no_child_fits() {
     // d is 3; no name has x, q or another byte than i or k there.
-    assert_eq!(book_nearest(&BOOK_85, b"Marx"), yes(0, 3));
-    assert_eq!(book_nearest(&BOOK_85, b"Mango"), yes(0, 2));
+    assert_eq!(book_nearest(&BOOK_BY_2, b"Marx"), yes(0, 3));
+    assert_eq!(book_nearest(&BOOK_BY_2, b"Mango"), yes(0, 2));
 }
 
 #[test]
 fn nearest_stops_where_the_depth_exceeds_the_question_s_length() {
-    assert_eq!(book_nearest(&BOOK_85, b""), yes(0, 0));
-    assert_eq!(book_nearest(&BOOK_85, b"Ma"), yes(0, 2));
+    assert_eq!(book_nearest(&BOOK_BY_2, b""), yes(0, 0));
+    assert_eq!(book_nearest(&BOOK_BY_2, b"Ma"), yes(0, 2));
 }
 
 #[test]
@@ -287,7 +287,7 @@ fn the_empty_question_where_the_root_has_depth_0() {
 #[test]
 fn the_empty_question_where_the_root_is_deeper() {
     let expected = [yes(0, 0), yes(0, 0), yes(0, 3), yes(0, 0)];
-    assert_eq!(all_four(&BOOK_85, b""), expected);
+    assert_eq!(all_four(&BOOK_BY_2, b""), expected);
 }
 
 // The book without names

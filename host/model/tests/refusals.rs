@@ -7,7 +7,7 @@ mod common;
 
 use common::{
     assert_build_refused, built, many_names, mar_names, names_for_book_length, no, no_record, yes,
-    BOOK_85, EMPTY_BOOK, FILLING, MAR_LIST,
+    BOOK_BY_2, EMPTY_BOOK, FILLING, MAR_LIST,
 };
 use model::{
     book_build, book_check, book_exact, book_nearest, book_place, book_range, book_read,
@@ -49,9 +49,9 @@ fn too_long_list() -> Vec<u8> {
 #[test]
 fn refusal_1_for_a_question_of_201_bytes() {
     for ask in QUESTIONS {
-        assert_eq!(ask(&BOOK_85, &[b'M'; 201]), no(1));
-        assert_eq!(ask(&BOOK_85, &[b'M'; 70_000]), no(1));
-        assert_eq!(ask(&BOOK_85, &[b'M'; 200]).code, 0);
+        assert_eq!(ask(&BOOK_BY_2, &[b'M'; 201]), no(1));
+        assert_eq!(ask(&BOOK_BY_2, &[b'M'; 70_000]), no(1));
+        assert_eq!(ask(&BOOK_BY_2, &[b'M'; 200]).code, 0);
     }
 }
 
@@ -68,7 +68,7 @@ fn refusal_2_for_bytes_that_are_no_book() {
 #[test]
 fn refusal_3_for_a_position_at_or_above_n() {
     for position in [3, 4, 255, 256, 65_536, usize::MAX] {
-        assert_read_refused(&BOOK_85, position, 200, 3);
+        assert_read_refused(&BOOK_BY_2, position, 200, 3);
     }
     for position in [0, 1, usize::MAX] {
         assert_read_refused(&EMPTY_BOOK, position, 200, 3);
@@ -79,10 +79,10 @@ fn refusal_3_for_a_position_at_or_above_n() {
 fn refusal_4_for_a_room_shorter_than_the_name() {
     for (position, name) in mar_names().iter().enumerate() {
         for room_length in 0..name.len() {
-            assert_read_refused(&BOOK_85, position, room_length, 4);
+            assert_read_refused(&BOOK_BY_2, position, room_length, 4);
         }
         let mut room = vec![FILLING; name.len()];
-        assert_eq!(book_read(&BOOK_85, position, &mut room), yes(name.len(), 0));
+        assert_eq!(book_read(&BOOK_BY_2, position, &mut room), yes(name.len(), 0));
         assert_eq!(&room, name);
     }
 }
@@ -216,7 +216,7 @@ fn read_gives_2_before_3_and_4() {
 
 #[test]
 fn read_gives_3_before_4() {
-    assert_read_refused(&BOOK_85, 3, 0, 3);
+    assert_read_refused(&BOOK_BY_2, 3, 0, 3);
     assert_read_refused(&EMPTY_BOOK, 0, 0, 3);
 }
 
@@ -252,7 +252,7 @@ fn a_build_leaves_the_room_past_the_book_untouched() {
     for room_length in [85, 86, 100, 70_000] {
         let mut room = vec![FILLING; room_length];
         assert_eq!(book_build(MAR_LIST, 2, &mut room), yes(85, 0));
-        assert_eq!(room[..85], BOOK_85);
+        assert_eq!(room[..85], BOOK_BY_2);
         assert!(room[85..].iter().all(|&byte| byte == FILLING));
     }
 }
@@ -260,7 +260,7 @@ fn a_build_leaves_the_room_past_the_book_untouched() {
 #[test]
 fn reading_back_leaves_the_room_past_the_name_untouched() {
     let mut room = [FILLING; 300];
-    assert_eq!(book_read(&BOOK_85, 1, &mut room), yes(6, 0));
+    assert_eq!(book_read(&BOOK_BY_2, 1, &mut room), yes(6, 0));
     assert_eq!(&room[..6], b"Marina");
     assert_eq!(room[6..], [FILLING; 294]);
 }
@@ -269,7 +269,7 @@ fn reading_back_leaves_the_room_past_the_name_untouched() {
 fn a_name_is_read_whole_whatever_the_room_held_before() {
     // Marina is stored as 03 03 ina; its front must not come from the room.
     let mut room = *b"Someone else's name";
-    assert_eq!(book_read(&BOOK_85, 1, &mut room), yes(6, 0));
+    assert_eq!(book_read(&BOOK_BY_2, 1, &mut room), yes(6, 0));
     assert_eq!(&room, b"Marinae else's name");
 }
 

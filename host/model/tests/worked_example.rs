@@ -2,7 +2,7 @@
 
 mod common;
 
-use common::{built, mar_names, yes, BOOK_80, BOOK_85, EMPTY_BOOK, FILLING, MAR_LIST};
+use common::{built, mar_names, yes, BOOK_BY_4, BOOK_BY_2, EMPTY_BOOK, FILLING, MAR_LIST};
 use model::{
     book_build, book_check, book_exact, book_nearest, book_of, book_place, book_range, book_read,
     listing, open,
@@ -11,25 +11,25 @@ use model::{
 // A book in full
 
 #[test]
-fn block_size_2_gives_the_85_bytes() {
-    assert_eq!(built(&mar_names(), 2), BOOK_85);
-    assert_eq!(book_of(2, &mar_names()), BOOK_85);
+fn block_size_2_gives_the_bytes() {
+    assert_eq!(built(&mar_names(), 2), BOOK_BY_2);
+    assert_eq!(book_of(2, &mar_names()), BOOK_BY_2);
 }
 
 #[test]
-fn block_size_4_gives_the_80_bytes() {
-    assert_eq!(built(&mar_names(), 4), BOOK_80);
-    assert_eq!(book_of(4, &mar_names()), BOOK_80);
+fn block_size_4_gives_the_bytes() {
+    assert_eq!(built(&mar_names(), 4), BOOK_BY_4);
+    assert_eq!(book_of(4, &mar_names()), BOOK_BY_4);
 }
 
 #[test]
 fn building_gives_the_length_of_the_book() {
     let mut room = [0; 85];
     assert_eq!(book_build(MAR_LIST, 2, &mut room), yes(85, 0));
-    assert_eq!(room, BOOK_85);
+    assert_eq!(room, BOOK_BY_2);
     assert_eq!(book_build(MAR_LIST, 4, &mut room), yes(80, 0));
-    assert_eq!(room[..80], BOOK_80);
-    assert_eq!(room[80..], BOOK_85[80..], "room past the book is untouched");
+    assert_eq!(room[..80], BOOK_BY_4);
+    assert_eq!(room[80..], BOOK_BY_2[80..], "room past the book is untouched");
 }
 
 #[test]
@@ -45,15 +45,15 @@ fn the_parts_have_the_lengths_that_the_document_counts() {
 
 #[test]
 fn checking_the_two_books_gives_n_and_k() {
-    assert_eq!(book_check(&BOOK_85), yes(3, 2));
-    assert_eq!(book_check(&BOOK_80), yes(3, 4));
-    assert_eq!(open(&BOOK_85), Some((2, mar_names())));
-    assert_eq!(open(&BOOK_80), Some((4, mar_names())));
+    assert_eq!(book_check(&BOOK_BY_2), yes(3, 2));
+    assert_eq!(book_check(&BOOK_BY_4), yes(3, 4));
+    assert_eq!(open(&BOOK_BY_2), Some((2, mar_names())));
+    assert_eq!(open(&BOOK_BY_4), Some((4, mar_names())));
 }
 
 #[test]
 fn reading_back_gives_each_name_and_its_length() {
-    for book in [&BOOK_85[..], &BOOK_80[..]] {
+    for book in [&BOOK_BY_2[..], &BOOK_BY_4[..]] {
         for (position, name) in mar_names().iter().enumerate() {
             let mut room = [FILLING; 20];
             let answer = book_read(book, position, &mut room);
@@ -65,21 +65,21 @@ fn reading_back_gives_each_name_and_its_length() {
 }
 
 #[test]
-fn the_listing_of_the_85_bytes() {
+fn the_listing_of_blocks_of_2() {
     let expected = "names 3 block 2 nodes 4 bytes 85\n\
                     0 0 0 3 Mar\n\
                     1 0 3 6 Marina\n\
                     2 1 0 13 Market Square\n";
-    assert_eq!(listing(&BOOK_85), expected.as_bytes());
+    assert_eq!(listing(&BOOK_BY_2), expected.as_bytes());
 }
 
 #[test]
-fn the_listing_of_the_80_bytes() {
+fn the_listing_of_blocks_of_4() {
     let expected = "names 3 block 4 nodes 4 bytes 80\n\
                     0 0 0 3 Mar\n\
                     1 0 3 6 Marina\n\
                     2 0 3 13 Market Square\n";
-    assert_eq!(listing(&BOOK_80), expected.as_bytes());
+    assert_eq!(listing(&BOOK_BY_4), expected.as_bytes());
 }
 
 #[test]
@@ -92,7 +92,7 @@ fn no_names_give_the_trailer_alone_with_k_as_given() {
 // is no part of any answer.
 
 fn for_both_books(ask: fn(&[u8], &[u8]) -> model::Answer, question: &str, expected: [usize; 2]) {
-    for book in [&BOOK_85[..], &BOOK_80[..]] {
+    for book in [&BOOK_BY_2[..], &BOOK_BY_4[..]] {
         let answer = ask(book, question.as_bytes());
         assert_eq!(answer, yes(expected[0], expected[1]), "{question}");
     }

@@ -18,7 +18,7 @@ fn answer(code: usize, first: usize, second: usize) -> Answer {
 }
 
 #[test]
-fn the_book_of_85_bytes_is_built() {
+fn the_book_of_document_01_is_built() {
     let mut room = [0xAA; 90];
     assert_eq!(book_build(LIST, 2, &mut room), answer(0, 85, 0));
     assert_eq!(&room[..15], b"\0\x03Mar\x03\x03ina\0\x0DMar");
@@ -46,14 +46,14 @@ fn book() -> [u8; 85] {
 }
 
 /// The book of 80 bytes: the same names, in one block.
-fn book_of_80() -> [u8; 80] {
+fn book_by_4() -> [u8; 80] {
     let mut room = [0; 80];
     assert_eq!(book_build(LIST, 4, &mut room), answer(0, 80, 0));
     room
 }
 
 #[test]
-fn the_book_of_85_bytes_is_checked() {
+fn the_book_of_document_01_is_checked() {
     assert_eq!(book_check(&book()), answer(0, 3, 2));
     let mut spoilt = book();
     spoilt[30] = 1;
@@ -63,7 +63,7 @@ fn the_book_of_85_bytes_is_checked() {
 }
 
 #[test]
-fn each_name_of_the_book_of_85_bytes_is_read_back() {
+fn each_name_of_the_book_of_document_01_is_read_back() {
     for (position, name) in ["Mar", "Marina", "Market Square"].iter().enumerate() {
         let mut room = [0xAA; 20];
         let read = book_read(&book(), position, &mut room);
@@ -103,7 +103,7 @@ fn the_twelve_rows_of_document_01_are_answered() {
         (book_nearest, "M", 0, 1),
     ];
     for (number, (ask, question, first, second)) in rows.into_iter().enumerate() {
-        for book in [&book()[..], &book_of_80()] {
+        for book in [&book()[..], &book_by_4()] {
             let answered = ask(book, question.as_bytes());
             assert_eq!(answered, answer(0, first, second), "row {}", number + 1);
         }
@@ -163,7 +163,7 @@ fn the_twelve_rows_of_document_01_are_answered_as_one_batch() {
     ];
     let asked = rows.map(|(row, _, _)| row);
     let expected = rows.map(|(_, first, second)| answer(0, first, second));
-    for book in [&book()[..], &book_of_80()] {
+    for book in [&book()[..], &book_by_4()] {
         let mut answers = [UNSET; 12];
         let answered = book_batch(book, questions, &asked, &mut answers);
         assert_eq!(answered, answer(0, 12, 0));

@@ -97,7 +97,7 @@ mod tests {
     }
 
     #[test]
-    fn the_books_of_document_01_have_85_and_80_bytes() {
+    fn the_books_of_document_01_have_their_lengths() {
         let example = names(&["Mar", "Marina", "Market Square"]);
         let expected = Size {
             entries: 25,

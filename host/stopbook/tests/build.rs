@@ -24,7 +24,7 @@ fn the_book_of_document_01_is_built_from_unsorted_lines() {
 }
 
 #[test]
-fn with_larger_blocks_the_book_has_80_bytes() {
+fn with_larger_blocks_the_book_is_shorter() {
     let folder = Folder::with("mar.txt", b"Mar\nMarina\nMarket Square\n");
     let ran = folder.run(&["build", "mar.txt", "--block=4", "-o", "b"]);
     assert_eq!(ran.status, 0);

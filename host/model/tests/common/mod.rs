@@ -9,7 +9,7 @@ use model::{book_build, write_list, Answer};
 /// The book of Mar, Marina, Market Square with k = 2. Not produced by any
 /// code: each byte is copied from "A book in full".
 #[rustfmt::skip]
-pub const BOOK_85: [u8; 85] = [
+pub const BOOK_BY_2: [u8; 85] = [
     // entries: 00 03 Mar, 03 03 ina, 00 0D Market Square
     0x00, 0x03, 0x4D, 0x61, 0x72,
     0x03, 0x03, 0x69, 0x6E, 0x61,
@@ -28,7 +28,7 @@ pub const BOOK_85: [u8; 85] = [
 
 /// The same names with k = 4: one block, and so 03 0A ket Square.
 #[rustfmt::skip]
-pub const BOOK_80: [u8; 80] = [
+pub const BOOK_BY_4: [u8; 80] = [
     // entries
     0x00, 0x03, 0x4D, 0x61, 0x72,
     0x03, 0x03, 0x69, 0x6E, 0x61,
