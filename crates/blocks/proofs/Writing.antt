@@ -3,6 +3,7 @@
 --     entry-put                     the bytes of one entry: its two counts, and its rest copied behind them
 --     entry-here                    an entry, by bytes of the list
 --     Sizing: sizing-start, sizing-record .. sizing-fits, sizing-count, sizing-more, sizing-all     a block, name by name
+--     Summing: summing-start, summing-record, summing-count, summing-more, summing-size     the same by sums
 --     Filling: filling-start, filling-fits, filling-count .. filling-part (what an entry asks), filling-more, filling-all     the same, written
 --     shared-next, shared-grows     what names share, in all
 --     Adding: adding-start, adding-more, adding-all     the same, name by name
@@ -204,6 +205,52 @@ module _ {s : Bytes} {shares : List ℕ} {lo at hi : ℕ} (a : BlockAsk s shares
                 ∙ omega (arith, z .is, sizing-count, part-length s (next + 1 + c) (len - c) (omega (arith, sizing-fits, sizing-count))));
             small = omega (arith, z .small, sizing-low);
           }
+
+-- the same by sums: `sum` is what the names before i store as shared
+pub record Summing (s : Bytes) (lo at hi i next sum : ℕ) : Type 0 where
+  pub low : lo ≤ i
+  pub high : i ≤ hi
+  pub from : at ≤ next
+  pub within : next ≤ length s
+  pub size : ℕ
+  pub sizing : Sizing s lo hi i next size
+  pub sums : size + sum + at + lo ≡ next + i
+
+module _ {s : Bytes} {shares : List ℕ} {lo at hi : ℕ} (a : BlockAsk s shares lo at hi) where
+  pub summing-start : Summing s lo at hi lo at 0
+  summing-start = let z = sizing-start a in record {
+    low = z .low;
+    high = z .high;
+    from = omega arith;
+    within = z .within;
+    size = 0;
+    sizing = z;
+    sums = omega arith;
+  }
+
+  module _ {i next sum : ℕ} (z : Summing s lo at hi i next sum) where
+    pub summing-size : hi ≤ i → BlockSize s lo hi (next - at + (hi - lo) - sum) next
+    summing-size h =
+        let e : z .size ≡ next - at + (hi - lo) - sum = omega (arith, z .sums, z .high, z .low, z .from) in
+        subst (λ (r : ℕ). BlockSize s lo hi r next) e (sizing-all a (z .sizing) h)
+
+    module _ (h : i < hi) where
+      pub summing-record : next < length s
+      summing-record = sizing-record a (z .sizing) h
+
+      pub summing-count : (len : ℕ) → len ≡ getD s next 0 → (c : ℕ) → c ≡ storedCount lo i shares → c ≤ len
+      summing-count len e c f = sizing-count a (z .sizing) h len e c f
+
+      pub summing-more : (len : ℕ) → len ≡ getD s next 0 → (c : ℕ) → c ≡ storedCount lo i shares → Summing s lo at hi (i + 1) (next + (1 + len)) (sum + c)
+      summing-more len e c f = let y = sizing-more a (z .sizing) h len e c f in record {
+        low = y .low;
+        high = y .high;
+        from = omega (arith, z .from);
+        within = y .within;
+        size = _;
+        sizing = y;
+        sums = omega (arith, z .sums, sizing-count a (z .sizing) h len e c f);
+      }
 
 -- the names before i are written at the front of the room
 pub record Filling (s : Bytes) (lo hi : ℕ) (room₀ room : Bytes) (i next size : ℕ) : Type 0 where

@@ -24,21 +24,24 @@ pub struct Block {
     pub next: usize,
 }
 
-// Names lo to hi as one block, of which record lo begins at `at`.
+// Names lo to hi as one block, of which record lo begins at `at`: what their records take, and a byte more for each, but for what they
+// share.
 fn block_size(list: &[u8], shares: &[u8], lo: usize, at: usize, hi: usize) -> Block
     requires { ⌜ BlockAsk (now list) (now shares) lo at hi ⌝ }
     ensures { λ r. ⌜ BlockSize (now (list .entry)) lo hi (r .size) (r .next) ⌝ }
 {
-    let mut size: usize = 0;
+    let mut shared: usize = 0;
     let mut next = at;
     let mut i = lo;
     while i < hi {
-        let len = numbers::wide(list[next]);
-        size += 2 + len - count_of(shares, lo, i);
-        next += 1 + len;
+        next += 1 + numbers::wide(list[next]);
+        shared += count_of(shares, lo, i);
         i += 1;
     }
-    Block { size, next }
+    Block {
+        size: next - at + (hi - lo) - shared,
+        next,
+    }
 }
 
 // The entry of a name that shares c bytes with the one before: c, the length of the rest, and the rest, which begins at `from`.
