@@ -2,7 +2,7 @@
 --     unsound, sound    bytes of which a part fails; of which all stand
 --     walk-ask, entries-fail, table-ask, table-says     after a trailer that passes: what the two walks ask, and what their answers
 --                       come to
---     SoundBook, sound-book, checked-sound, checked-long     what an accepting answer says
+--     SoundBook, sound-book, checked-sound     what an accepting answer says
 -- Assumes nothing.
 use Prim.Native.Nat.{ℕ, _-_, _≤_}
 use native.Mathlib.Omega.{arith}
@@ -164,6 +164,3 @@ sound-book b t bytes s = go (opened plain b) refl s
 module _ (b : Bytes) (t : Trailer) (held : Held b) (v : Checked) (s : v ≡ checkOn b (opened plain b)) (u : v ≡ Sound t) where
   pub checked-sound : SoundBook b t
   checked-sound = sound-book b t (held-bytes b held) (sym u ∙ s)
-
-  pub checked-long : trailerSize ≤ length b
-  checked-long = checked-sound .parts .trail .long

@@ -12,8 +12,7 @@ use Rattle.format.specs.Nodes.{table}
 use Rattle.format.specs.Records.{Names, readList}
 use Rattle.format.specs.Book.{entryPart, blockPart, nodeSize}
 use Rattle.format.specs.Outcomes.{Written, given, refused}
-use Rattle.records.specs.Lists.{names, words}
-use Rattle.records.specs.Lists.{Ready}
+use Rattle.records.specs.Lists.{Ready, names, words}
 use Rattle.build.specs.declared.Built.{Built}
 use Rattle.build.specs.declared.Built.the-variants.{Written as Wrote, Refused}
 

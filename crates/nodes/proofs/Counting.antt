@@ -17,7 +17,7 @@ use mir.Syntax.{w8}
 use Rattle.words.specs.Words.{Bytes}
 use Rattle.records.specs.Lists.{Ready, words}
 use Rattle.records.proofs.Starts.{ready-rises}
-use Rattle.nodes.specs.declared.Passed.{Passed}
+use Rattle.nodes.specs.declared.LeftOpen.{LeftOpen}
 use Rattle.nodes.specs.Frames.{depthIn, frameCount, frameSize, withFrame}
 use Rattle.nodes.specs.Writing.{NameAsk, NamePut, Passing, Rowing}
 use Rattle.nodes.specs.Counting.{CountAsk, Deeper, NodeCount, StaysOpen}
@@ -58,14 +58,14 @@ SameDepths frames depths top = (t : ℕ) → t ≤ top → depthIn frames t ≡ 
 
 -- the frames above number r are closed, after so many records
 record Unwound (rest : Bytes) (skip j left : ℕ) (frames : List ℕ) (top count r total : ℕ) : Type 0 where
-  pub p : Passed
+  pub p : LeftOpen
   pub top-is : p .top ≡ r
   pub count-is : p .count ≡ total
   pub passing : Passing rest skip j left frames top count [] p []
 
 module _ {rest : Bytes} {skip j left : ℕ} {frames : List ℕ} {first count : ℕ} (a : NameAsk rest skip j left frames first count []) where
   -- one record for each frame
-  unwound : {r : ℕ} (depths : List ℕ) → SameDepths frames depths first → Deeper depths left first r → (m : ℕ) {p : Passed} → p .top ≤ first → p .top ≡ r + m
+  unwound : {r : ℕ} (depths : List ℕ) → SameDepths frames depths first → Deeper depths left first r → (m : ℕ) {p : LeftOpen} → p .top ≤ first → p .top ≡ r + m
       → Passing rest skip j left frames first count [] p [] → Unwound rest skip j left frames first count r (p .count + m)
   unwound depths same d zero {p} l e k = record { p = p; top-is = omega arith; count-is = omega arith; passing = k }
   unwound {r} depths same d (suc m) {p} l e k =

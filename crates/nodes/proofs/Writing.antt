@@ -23,7 +23,7 @@ use Rattle.format.proofs.Groups.{table-empty}
 use Rattle.format.proofs.Numbers.{numbers-append, numbers-length}
 use Rattle.records.specs.Lists.{Ready, names, startOf, words}
 use Rattle.records.proofs.Starts.{ready-rises, ready-size, ready-word, start-all, start-fits, start-name, start-next, words-length}
-use Rattle.nodes.specs.declared.Passed.{Passed}
+use Rattle.nodes.specs.declared.LeftOpen.{LeftOpen}
 use Rattle.nodes.specs.Frames.{Cur, Framed, Tail, depthIn, endIn, frameCount, frameSize, leftOf, markIn, none, sharesAt, symbolOf, withFrame}
 use Rattle.nodes.specs.Writing.{Behind, Closing, Counted, LeafPut, NameAsk, NameAt, NamePut, NodeAsk, NodePut, NodesPut, Onward, Passing, PushAsk, PutBack, Rowing}
 use Rattle.nodes.proofs.Frames.{Closes, cur-all, cur-close, cur-few, cur-keep, cur-leaf, cur-push, framed-with, nodeBy, open-depth, open-few, open-within}
@@ -71,7 +71,7 @@ module _ (skip p : ℕ) (w : List ℕ) where
 -- ---- a name, and the nodes that begin with it
 
 -- since the leaf the frames above number t are closed
-pub record Shutting (rest : Bytes) (skip j left : ℕ) (frames : List ℕ) (p : Passed) (room₀ : Bytes) (q : Passed) (room : Bytes) (t : ℕ) : Type 0 where
+pub record Shutting (rest : Bytes) (skip j left : ℕ) (frames : List ℕ) (p : LeftOpen) (room₀ : Bytes) (q : LeftOpen) (room : Bytes) (t : ℕ) : Type 0 where
   pub same : t ≡ q .top
   pub onward : Onward rest skip j left frames p room₀ q room
 
@@ -105,7 +105,7 @@ module _ {rest : Bytes} {skip j left : ℕ} where
                 (subst (λ (x : ℕ). Cur ws frames j left top (suc j) x (node ∷ b .done)) (sym (w .counted)) c);
           }
 
-      module _ {p : Passed} {room₀ : Bytes} (f : Framed frames (p .top)) (h : left < depthIn frames (p .top)) (k : Closing ws j left frames p room₀) where
+      module _ {p : LeftOpen} {room₀ : Bytes} (f : Framed frames (p .top)) (h : left < depthIn frames (p .top)) (k : Closing ws j left frames p room₀) where
         closes : Closes ws (a .rises) frames (k .cur)
         closes = cur-close ws (a .rises) frames (k .cur) (f .sentinel) h
 
@@ -140,7 +140,7 @@ module _ {rest : Bytes} {skip j left : ℕ} where
       same = refl;
     }
 
-    module _ {p : Passed} {room₀ : Bytes} (a : NodeAsk rest skip j left frames p room₀) where
+    module _ {p : LeftOpen} {room₀ : Bytes} (a : NodeAsk rest skip j left frames p room₀) where
       last : Closes (a .ws) (a .name .rises) frames (a .closing .cur)
       last = closes (a .name) (a .framed) (a .deeper) (a .closing)
 
@@ -153,7 +153,7 @@ module _ {rest : Bytes} {skip j left : ℕ} where
       pub node-mark : (m : ℕ) → m ≡ markIn frames (p .top) → m ≤ p .count
       node-mark m is = omega (arith, last .mark-behind, a .closing .written .counted)
 
-    pub node-put : {room₀ room : Bytes} {p : Passed} {sy d e m : ℕ} → NodeAsk rest skip j left frames p room₀
+    pub node-put : {room₀ room : Bytes} {p : LeftOpen} {sy d e m : ℕ} → NodeAsk rest skip j left frames p room₀
         → PutBack room₀ room (p .count) (nodeBy sy (d - 1) j (e - j) (p .count - m + 1)) → (x q : ℕ) → d ≡ depthIn frames (p .top) → e ≡ endIn frames (p .top) → m ≡ markIn frames (p .top)
         → x ≡ depthIn frames (p .top - 1) → q ≡ max left x → sy ≡ symbolOf (q - skip) (word plain rest)
         → NodePut rest skip j left frames p room₀ (record { top = p .top - 1; count = p .count + 1; end = e; mark = m }) room
@@ -169,10 +169,10 @@ module _ {rest : Bytes} {skip j left : ℕ} where
 
     -- ---- frame after frame
 
-    pub shutting-start : {top count : ℕ} {room₀ room : Bytes} {p : Passed} → LeafPut rest skip j left frames top count room₀ p room → Shutting rest skip j left frames p room p room top
+    pub shutting-start : {top count : ℕ} {room₀ room : Bytes} {p : LeftOpen} → LeafPut rest skip j left frames top count room₀ p room → Shutting rest skip j left frames p room p room top
     shutting-start l = record { same = sym (l .same); onward = record { kept = refl; down = omega arith; closing = λ ws name k. k } }
 
-    pub shutting-more : {p q r : Passed} {room₀ room new : Bytes} {t : ℕ} → Shutting rest skip j left frames p room₀ q room t
+    pub shutting-more : {p q r : LeftOpen} {room₀ room new : Bytes} {t : ℕ} → Shutting rest skip j left frames p room₀ q room t
         → NodePut rest skip j left frames q room r new → Shutting rest skip j left frames p room₀ r new (r .top)
     shutting-more k n = record {
       same = refl;
@@ -183,7 +183,7 @@ module _ {rest : Bytes} {skip j left : ℕ} where
       };
     }
 
-    pub passing-on : {top count : ℕ} {room₀ room new : Bytes} {p q : Passed} → Passing rest skip j left frames top count room₀ p room → Onward rest skip j left frames p room q new
+    pub passing-on : {top count : ℕ} {room₀ room new : Bytes} {p q : LeftOpen} → Passing rest skip j left frames top count room₀ p room → Onward rest skip j left frames p room q new
         → Passing rest skip j left frames top count room₀ q new
     passing-on k n = record {
       kept = n .kept ∙ k .kept;
@@ -191,7 +191,7 @@ module _ {rest : Bytes} {skip j left : ℕ} where
       closing = λ ws name behind. n .closing ws name (k .closing ws name behind);
     }
 
-    module _ {top count : ℕ} {room₀ room : Bytes} {p : Passed} (k : Passing rest skip j left frames top count room₀ p room) {t : ℕ} (e : t ≡ p .top) (x : ℕ) (d : x ≡ depthIn frames t) where
+    module _ {top count : ℕ} {room₀ room : Bytes} {p : LeftOpen} (k : Passing rest skip j left frames top count room₀ p room) {t : ℕ} (e : t ≡ p .top) (x : ℕ) (d : x ≡ depthIn frames t) where
       top-depth : x ≡ depthIn frames (p .top)
       top-depth = d ∙ ap (depthIn frames) e
 
@@ -308,7 +308,7 @@ module _ {s : Bytes} {n : ℕ} {lens shares : List ℕ} (a : Ready s n lens shar
         pub rowing-name : NameAsk (take (end - (end - len)) (drop (end - len) s)) 0 i left frames top count room
         rowing-name = record { framed = k .framed; ws = words s; name = name; behind = behind }
 
-        module _ {p : Passed} {new : Bytes} (t : NamePut (take (end - (end - len)) (drop (end - len) s)) 0 i left frames top count room p new) where
+        module _ {p : LeftOpen} {new : Bytes} (t : NamePut (take (end - (end - len)) (drop (end - len) s)) 0 i left frames top count room p new) where
           pub rowing-closing : Closing (words s) i left frames p new
           rowing-closing = t .passing .closing (words s) name behind
 

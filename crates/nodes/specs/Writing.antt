@@ -18,7 +18,7 @@ use Rattle.format.specs.Nodes.{Node, table}
 use Rattle.format.specs.Book.{nodePart, nodeSize}
 use Rattle.records.specs.Lists.{startOf, words}
 use Rattle.nodes.specs.Frames.{Cur, Framed, Open, Tail, depthIn, frameCount, frameSize}
-use Rattle.nodes.specs.declared.Passed.{Passed}
+use Rattle.nodes.specs.declared.LeftOpen.{LeftOpen}
 
 pub record PutBack (room₀ room : Bytes) (w : ℕ) (node : Node) : Type 0 where
   pub kept : length room ≡ length room₀
@@ -47,7 +47,7 @@ pub record Behind (ws : Words) (j : ℕ) (frames : List ℕ) (top count : ℕ) (
   pub rows : Open ws frames j top (suc j) done
 
 -- The node of names j to an end is whole, and in front of the frames that are left.
-pub record Closing (ws : Words) (j left : ℕ) (frames : List ℕ) (p : Passed) (room : Bytes) : Type 0 where
+pub record Closing (ws : Words) (j left : ℕ) (frames : List ℕ) (p : LeftOpen) (room : Bytes) : Type 0 where
   pub done : List Node
   pub written : Counted (length ws) j (p .count) room done
   pub cur : Cur ws frames j left (p .top) (p .end) (p .mark) done
@@ -60,24 +60,24 @@ pub record NameAsk (rest : Bytes) (skip j left : ℕ) (frames : List ℕ) (top c
   pub name : NameAt ws rest skip j left
   pub behind : Behind ws j frames top count room
 
-pub record Passing (rest : Bytes) (skip j left : ℕ) (frames : List ℕ) (top count : ℕ) (room₀ : Bytes) (p : Passed) (room : Bytes) : Type 0 where
+pub record Passing (rest : Bytes) (skip j left : ℕ) (frames : List ℕ) (top count : ℕ) (room₀ : Bytes) (p : LeftOpen) (room : Bytes) : Type 0 where
   pub kept : length room ≡ length room₀
   pub framed : Framed frames (p .top)
   pub closing : (ws : Words) → NameAt ws rest skip j left → Behind ws j frames top count room₀ → Closing ws j left frames p room
 
 -- no frame is closed yet
-pub record LeafPut (rest : Bytes) (skip j left : ℕ) (frames : List ℕ) (top count : ℕ) (room₀ : Bytes) (p : Passed) (room : Bytes) : Type 0 where
+pub record LeafPut (rest : Bytes) (skip j left : ℕ) (frames : List ℕ) (top count : ℕ) (room₀ : Bytes) (p : LeftOpen) (room : Bytes) : Type 0 where
   pub passing : Passing rest skip j left frames top count room₀ p room
   pub same : p .top ≡ top
 
 -- no frame that is left is deeper than `left`
-pub record NamePut (rest : Bytes) (skip j left : ℕ) (frames : List ℕ) (top count : ℕ) (room₀ : Bytes) (p : Passed) (room : Bytes) : Type 0 where
+pub record NamePut (rest : Bytes) (skip j left : ℕ) (frames : List ℕ) (top count : ℕ) (room₀ : Bytes) (p : LeftOpen) (room : Bytes) : Type 0 where
   pub passing : Passing rest skip j left frames top count room₀ p room
   pub shallow : depthIn frames (p .top) ≤ left
 
 -- ---- the nodes of frames
 
-pub record NodeAsk (rest : Bytes) (skip j left : ℕ) (frames : List ℕ) (p : Passed) (room : Bytes) : Type 0 where
+pub record NodeAsk (rest : Bytes) (skip j left : ℕ) (frames : List ℕ) (p : LeftOpen) (room : Bytes) : Type 0 where
   pub framed : Framed frames (p .top)
   pub deeper : left < depthIn frames (p .top)
   pub ws : Words
@@ -85,19 +85,19 @@ pub record NodeAsk (rest : Bytes) (skip j left : ℕ) (frames : List ℕ) (p : P
   pub closing : Closing ws j left frames p room
 
 -- from p on to q
-pub record Onward (rest : Bytes) (skip j left : ℕ) (frames : List ℕ) (p : Passed) (room₀ : Bytes) (q : Passed) (room : Bytes) : Type 0 where
+pub record Onward (rest : Bytes) (skip j left : ℕ) (frames : List ℕ) (p : LeftOpen) (room₀ : Bytes) (q : LeftOpen) (room : Bytes) : Type 0 where
   pub kept : length room ≡ length room₀
   pub down : q .top ≤ p .top
   pub closing : (ws : Words) → NameAt ws rest skip j left → Closing ws j left frames p room₀ → Closing ws j left frames q room
 
-pub record NodePut (rest : Bytes) (skip j left : ℕ) (frames : List ℕ) (p : Passed) (room₀ : Bytes) (q : Passed) (room : Bytes) : Type 0 where
+pub record NodePut (rest : Bytes) (skip j left : ℕ) (frames : List ℕ) (p : LeftOpen) (room₀ : Bytes) (q : LeftOpen) (room : Bytes) : Type 0 where
   pub onward : Onward rest skip j left frames p room₀ q room
   pub fewer : q .top < p .top
 
 -- ---- all names
 
 -- one frame more has a slot, and its numbers fit
-pub record PushAsk (frames : List ℕ) (depth : ℕ) (p : Passed) : Type 0 where
+pub record PushAsk (frames : List ℕ) (depth : ℕ) (p : LeftOpen) : Type 0 where
   pub slots : length frames ≡ frameSize * frameCount
   pub slot : p .top + 1 < frameCount
   pub depth-fits : depth < 256

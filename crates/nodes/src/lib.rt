@@ -62,7 +62,7 @@ fn left_of(shares: &[u8], j: usize) -> usize
 
 // What is left open when a name is written: the number of the top frame, how many records there are, and of the node that begins
 // with the name where its names end and how many records stand behind it.
-pub struct Passed {
+pub struct LeftOpen {
     pub top: usize,
     pub count: usize,
     pub end: usize,
@@ -92,7 +92,7 @@ fn mark_in(frames: &[u8], t: usize) -> usize
 }
 
 // A frame on top of those that are left: of a node of that shifted depth, whose first node so far is the one that begins with the name.
-fn push_frame(frames: &mut [u8], depth: usize, p: Passed)
+fn push_frame(frames: &mut [u8], depth: usize, p: LeftOpen)
     requires { ⌜ PushAsk (now frames) depth p ⌝ }
     ensures { λ _. ⌜ now (frames .exit) ≡ withFrame (now (frames .entry)) (p .top + 1) depth (p .end) (p .mark) ⌝ }
 {
@@ -114,7 +114,7 @@ fn put_leaf(
     top: usize,
     count: usize,
     room: &mut [u8],
-) -> Passed
+) -> LeftOpen
     requires { ⌜ NameAsk (now rest) skip j left (now frames) top count (now room) ⌝ }
     ensures { λ r. ⌜ LeafPut (now (rest .entry)) skip j left (now (frames .entry)) top count (now (room .entry)) r (now (room .exit)) ⌝ }
 {
@@ -127,7 +127,7 @@ fn put_leaf(
         nodes: 1,
     };
     put_back(room, count, node);
-    Passed {
+    LeftOpen {
         top,
         count: count + 1,
         end: j + 1,
@@ -142,9 +142,9 @@ fn close_node(
     j: usize,
     left: usize,
     frames: &[u8],
-    p: Passed,
+    p: LeftOpen,
     room: &mut [u8],
-) -> Passed
+) -> LeftOpen
     requires { ⌜ NodeAsk (now rest) skip j left (now frames) p (now room) ⌝ }
     ensures { λ r. ⌜ NodePut (now (rest .entry)) skip j left (now (frames .entry)) p (now (room .entry)) r (now (room .exit)) ⌝ }
 {
@@ -161,7 +161,7 @@ fn close_node(
         nodes: count - mark + 1,
     };
     put_back(room, count, node);
-    Passed {
+    LeftOpen {
         top: top - 1,
         count: count + 1,
         end,
@@ -179,7 +179,7 @@ fn write_name(
     top: usize,
     count: usize,
     room: &mut [u8],
-) -> Passed
+) -> LeftOpen
     requires { ⌜ NameAsk (now rest) skip j left (now frames) top count (now room) ⌝ }
     ensures { λ r. ⌜ NamePut (now (rest .entry)) skip j left (now (frames .entry)) top count (now (room .entry)) r (now (room .exit)) ⌝ }
 {
