@@ -5,8 +5,7 @@ use mathlib.Core.Path.{_≡_, refl}
 use mathlib.Core.List.{map}
 use Rattle.words.specs.Words.{begins, less, plain, same, shared}
 use Rattle.format.specs.Nodes.{depth, glue, groups}
-use Rattle.format.specs.Example.{example, text}
-use Rattle.answers.specs.Example.{Marked, marked}
+use Rattle.format.specs.Example.{example, text, Marked, marked}
 use Rattle.answers.specs.Questions.{Pair, answer, ask, childOf, count, exact, exactFrom, nearest, place, range, reachWithin, reached}
 
 abbrev pub got : Marked → Pair

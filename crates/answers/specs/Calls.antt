@@ -1,7 +1,6 @@
 -- Document 01, 'Numbers given back when a call says no': each public call as one function of what came in. It gives the three numbers
 -- and every lent byte and row afterwards; refusals stand in the document's order, the first match is given, and a refused call
--- changes nothing. A contract cites these functions, and nothing else. What an answer is, and what is written into a room, stands in
--- Outcomes of the crate format.
+-- changes nothing. A contract cites these functions, and nothing else.
 --     build, check, readBack, question, batch
 -- The laws are in proofs/Calls.antt. Assumes nothing: these are definitions.
 use Prim.Native.Nat.{ℕ, _+_}
@@ -21,7 +20,6 @@ pub record Batched : Type 0 where
   pub rows : List Answer
 
 -- ---- build: 8; then record by record 5, 6, 7; then 9; then 4
-
 unfoldable pub builtFrom : Rule → ℕ → Bytes → Reading → Written
 builtFrom ρ k room (Refused c i) = record { answer = numbered c i; room = room }
 builtFrom ρ k room (Names xs) =
@@ -31,12 +29,10 @@ unfoldable pub build : Rule → Bytes → ℕ → Bytes → Written
 build ρ list k room = pick (goodBlock k) (builtFrom ρ k room (readList ρ list)) (record { answer = refused 8; room = room })
 
 -- ---- check: 2
-
 unfoldable pub check : Rule → Bytes → Answer
 check ρ s = checkOf (opened ρ s)
 
 -- ---- read back: 2, 3, 4
-
 unfoldable pub readBackOf : ℕ → Bytes → Opened → Written
 readBackOf i room NoBook = record { answer = refused 2; room = room }
 readBackOf i room (Book k xs) = pick (ltb i (length xs)) (write (getD xs i []) room) (record { answer = refused 3; room = room })
@@ -45,7 +41,6 @@ unfoldable pub readBack : Rule → Bytes → ℕ → Bytes → Written
 readBack ρ s i room = readBackOf i room (opened ρ s)
 
 -- ---- a question of kind 1 to 4: 2, 1, 10
-
 unfoldable pub questionOf : Rule → ℕ → Bytes → Opened → Answer
 questionOf ρ kind q NoBook = refused 2
 questionOf ρ kind q (Book k xs) =
@@ -58,7 +53,6 @@ unfoldable pub question : Rule → ℕ → Bytes → Bytes → Answer
 question ρ kind s q = questionOf ρ kind q (opened ρ s)
 
 -- ---- batch: 12, 2; then for each row 11, 1, 10
-
 pub record Row : Type 0 where
   pub kind : ℕ
   pub start : ℕ

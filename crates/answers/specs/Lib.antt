@@ -1,3 +1,2 @@
 pub mod Questions
 pub mod Calls
-pub mod Example

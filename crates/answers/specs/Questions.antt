@@ -35,7 +35,6 @@ unfoldable pub range : List ℕ → Words → Pair
 range q ws = (place q ws, count (begins q) ws)
 
 -- ---- the descent
-
 -- along a row of groups, the first word number i, down into the one with symbol s at d; `stay` where none fits
 unfoldable pub childOf : (ℕ → Words → ℕ) → ℕ → ℕ → ℕ → ℕ → List Words → ℕ
 childOf down d s stay i [] = stay
@@ -62,7 +61,6 @@ unfoldable pub nearest : List ℕ → Words → Pair
 nearest q ws = (reached q ws, shared q (nth ws (reached q ws)))
 
 -- ---- by number
-
 unfoldable pub ask : ℕ → List ℕ → Words → Pair
 ask zero q ws = (0, 0)
 ask (suc zero) q ws = exact q ws

@@ -24,6 +24,7 @@ use Rattle.words.specs.Words.{Bytes, pick, shared}
 use Rattle.words.proofs.Words.{shared-comm, shared-le}
 use Rattle.format.specs.Entries.{entry, front}
 use Rattle.format.specs.Outcomes.{over}
+use Rattle.format.specs.Spans.{lastOf}
 use Rattle.numbers.proofs.Parts.{Copied, copied-behind, lent, over-all, over-length, part-length}
 use Rattle.records.specs.Lists.{names, startOf}
 use Rattle.records.proofs.Starts.{ready-size, start-byte, start-fits, start-name, start-next, start-within}
@@ -60,12 +61,8 @@ entry-put s from c rest part room size ys y =
 
 -- ---- blocks of names
 
-abbrev lastOf : Bytes → List Bytes → Bytes
-lastOf p [] = p
-lastOf p (x ∷ xs) = lastOf x xs
-
 front-append : (p : Bytes) (xs ys : List Bytes) → front p (xs ++ ys) ≡ front p xs ++ front (lastOf p xs) ys
-unfolding front
+unfolding front lastOf
 front-append p [] ys = refl
 front-append p (x ∷ xs) ys = ap (λ (r : Bytes). entry p x ++ r) (front-append x xs ys) ∙ sym (append-assoc (entry p x) (front x xs) (front (lastOf x xs) ys))
 
@@ -74,6 +71,7 @@ unfolding front
 front-one p x = append-nil (entry p x)
 
 last-slice : (p : Bytes) (xs : List Bytes) (lo i : ℕ) → lo ≤ i → i ≤ length xs → lastOf p (slice lo i xs) ≡ pick (eqb i lo) p (getD xs (pred i) [])
+unfolding lastOf
 last-slice p xs lo i a b = go p (i - lo) lo (omega arith)
   where
     go : (q : Bytes) (m l : ℕ) → l + m ≡ i → lastOf q (slice l i xs) ≡ pick (eqb i l) q (getD xs (pred i) [])

@@ -20,13 +20,12 @@ use Rattle.format.specs.Book.{Book, NoBook, Opened, opened}
 use Rattle.format.specs.Outcomes.{Answer as Numbers, given, refused}
 use Rattle.answers.specs.Calls.{Batched, batch, batchOf, rowAnswer}
 use Rattle.accept.specs.Parts.{checkOn}
-use Rattle.shapes.specs.Shapes.{answered, rowOf}
+use Rattle.shapes.specs.Shapes.{answered, rowOf, batched}
 use Rattle.shapes.specs.declared.Answer.{Answer}
 use Rattle.shapes.specs.declared.Row.{Row}
 use Rattle.shapes.proofs.Shapes.{answerOf}
 use Rattle.questions.specs.Asking.{Accepted, openingOf, takesRows}
 use Rattle.questions.specs.declared.Opening.{Opening}
-use Rattle.book.specs.Answers.{batched}
 
 -- ---- the answer rows
 

@@ -14,17 +14,16 @@ use Rattle.words.specs.Words.{Bytes, pick, plain}
 use Rattle.format.specs.Book.{goodBlock}
 use Rattle.format.specs.Records.{Names, Reading, Refused, readList, sound}
 use Rattle.format.proofs.Records.{read-refused, read-sound, sound-few}
-use Rattle.format.specs.Outcomes.{Answer as Numbers, Written, given, numbered, readingOf, refused}
+use Rattle.format.specs.Outcomes.{Answer as Numbers, Written, given, numbered, refused}
 use Rattle.answers.specs.Calls.{build, builtFrom}
-use Rattle.records.specs.Lists.{Judged, names, namesIn, verdictNumbers}
+use Rattle.records.specs.Lists.{Judged, names, namesIn, verdictNumbers, readingOf}
 use Rattle.build.specs.Whole.{BuildAsk, shownBuilt}
 use Rattle.build.specs.declared.Built.{Built}
 use Rattle.build.specs.declared.Built.the-variants.{Refused as Stopped, Written as Wrote}
 use Rattle.records.specs.declared.Verdict.{Verdict}
 use Rattle.records.specs.declared.Verdict.the-variants.{Good, Bad}
-use Rattle.shapes.specs.Shapes.{answered}
+use Rattle.shapes.specs.Shapes.{answered, written}
 use Rattle.shapes.specs.declared.Answer.{Answer}
-use Rattle.book.specs.Answers.{written}
 
 module _ (s : Bytes) (k : ℕ) (room : Bytes) where
   gate : (t : Bool) → goodBlock k ≡ t → build plain s k room ≡ pick t (builtFrom plain k room (readList plain s)) (record { answer = refused 8; room = room })

@@ -26,10 +26,9 @@ use Rattle.accept.specs.declared.Checked.{Checked}
 use Rattle.accept.specs.declared.Checked.the-variants.{Sound, Unsound}
 use Rattle.accept.proofs.Judging.{SoundBook, checked-sound, parts-long, parts-sound, parts-unsound, sound-book}
 use Rattle.names.specs.Names.{Put}
-use Rattle.shapes.specs.Shapes.{answered}
+use Rattle.shapes.specs.Shapes.{answered, written}
 use Rattle.shapes.specs.declared.Answer.{Answer}
 use Rattle.questions.proofs.Checks.{no-book}
-use Rattle.book.specs.Answers.{written}
 
 -- ---- the check
 

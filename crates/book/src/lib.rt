@@ -7,8 +7,7 @@ ghost use mathlib.Core.Path.{_≡_};
 ghost use mathlib.Core.List.{map};
 ghost use Rattle.words.specs.Words.{plain};
 ghost use Rattle.answers.specs.Calls.{batch, build, check, question as askedOf, readBack};
-ghost use Rattle.shapes.specs.Shapes.{answered, rowOf};
-ghost use Rattle.book.specs.Answers.{batched, written};
+ghost use Rattle.shapes.specs.Shapes.{answered, rowOf, batched, written};
 
 // Builds the book of a list with blocks of so many names, at the front of the room. Refusals: 8; record by record 5, 6, 7; 9; 4.
 #[no_mangle]

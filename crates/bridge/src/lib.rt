@@ -8,8 +8,7 @@ ghost use Prim.Native.Nat.{_≤_};
 ghost use lib.ListN.{drop, take};
 ghost use Rattle.words.specs.Words.{plain};
 ghost use Rattle.answers.specs.Calls.{batch};
-ghost use Rattle.shapes.specs.Shapes.{answered, rowOf};
-ghost use Rattle.book.specs.Answers.{batched};
+ghost use Rattle.shapes.specs.Shapes.{answered, rowOf, batched};
 
 // What a batch gave, and the answer rows afterwards.
 pub struct Ran {

@@ -16,7 +16,8 @@ use mir.Val.{Fits}
 use mir.Syntax.{w64}
 use borrow.Author.Tests.{le-leb, lt-leb}
 use Rattle.words.specs.Words.{Bytes, Words, pick, plain, word}
-use Rattle.format.specs.Book.{blockPart, book, entryPart, longestBook, mark, nodePart, nodeSize, numbers, trailer}
+use Rattle.format.specs.Book.{blockPart, book, entryPart, longestBook, mark, nodePart, numbers, trailer}
+use Rattle.format.specs.Spans.{nodeSize}
 use Rattle.format.specs.Nodes.{table}
 use Rattle.format.specs.Records.{readList}
 use Rattle.format.proofs.Book.{book-length, book-parts, nodes-length, records, trailerAt, trailerNumbers}

@@ -10,7 +10,8 @@ use lib.ListN.{length}
 use Rattle.words.specs.Words.{Bytes, plain}
 use Rattle.format.specs.Nodes.{table}
 use Rattle.format.specs.Records.{Names, readList}
-use Rattle.format.specs.Book.{entryPart, blockPart, nodeSize}
+use Rattle.format.specs.Book.{entryPart, blockPart}
+use Rattle.format.specs.Spans.{nodeSize}
 use Rattle.format.specs.Outcomes.{Written, given, refused}
 use Rattle.records.specs.Lists.{Ready, names, words}
 use Rattle.build.specs.declared.Built.{Built}

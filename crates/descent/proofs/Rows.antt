@@ -21,8 +21,8 @@ use Rattle.words.specs.Rising.{Rises, span}
 use Rattle.words.specs.Words.{Words, at, nth}
 use Rattle.words.proofs.Rising.{span-length}
 use Rattle.words.proofs.Words.{apart}
-use Rattle.format.specs.Spans.{deep, rowTable}
-use Rattle.format.specs.Nodes.{Node, fork, leaf, nodeTable, table}
+use Rattle.format.specs.Spans.{deep, rowTable, nodeTable}
+use Rattle.format.specs.Nodes.{Node, fork, leaf, table}
 use Rattle.format.proofs.Groups.{table-root}
 use Rattle.format.proofs.Spans.{at-rises, ranked-rest, ranked-span, span-share, table-more, table-none, table-one, table-run}
 use Rattle.descent.specs.Vocabulary.{RowFrom, Seeking, Sits, Sought, from, noNode, node, upto}

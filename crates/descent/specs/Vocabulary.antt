@@ -18,8 +18,8 @@ use mathlib.Core.List.{List, _++_}
 use lib.ListN.{length, getD, drop}
 use Rattle.words.specs.Rising.{Rises, span}
 use Rattle.words.specs.Words.{Bytes, Rule, Words, at, nth, shared, word}
-use Rattle.format.specs.Spans.{rowTable, wordsOf, Ranked}
-use Rattle.format.specs.Nodes.{Node, nodeTable, table}
+use Rattle.format.specs.Spans.{rowTable, wordsOf, Ranked, nodeTable}
+use Rattle.format.specs.Nodes.{Node, table}
 use Rattle.format.specs.Records.{longest, mostNames}
 use Rattle.standing.specs.Maps.{Map, Roomy, nodeIn, recordAt}
 use Rattle.answers.specs.Questions.{reachWithin, reached}

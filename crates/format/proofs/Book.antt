@@ -17,7 +17,8 @@ use Rattle.words.specs.Rising.{All, cons, nil}
 use Rattle.words.specs.Words.{Bytes, Rule, both, pick, same, word}
 use Rattle.words.proofs.Lists.{all-at}
 use Rattle.words.proofs.Words.{both-true, same-refl, same-true}
-use Rattle.format.specs.Book.{Book, NoBook, allFields, blockPart, book, entryPart, fits, goodBlock, longestBook, mark, namesOf, nodePart, nodeSize, number, numbers, opened, told, trailer, trailerSize}
+use Rattle.format.specs.Book.{Book, NoBook, allFields, blockPart, book, entryPart, fits, goodBlock, longestBook, mark, namesOf, nodePart, number, numbers, opened, told, trailer, trailerSize}
+use Rattle.format.specs.Spans.{nodeSize}
 use Rattle.format.specs.Entries.{decode}
 use Rattle.format.specs.Nodes.{Node, table}
 use Rattle.format.specs.Records.{sound}

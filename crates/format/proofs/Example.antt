@@ -8,7 +8,8 @@ use Rattle.words.specs.Words.{Bytes, plain, shared}
 use Rattle.format.specs.Example.{example, exampleBy2, exampleBy4}
 use Rattle.format.specs.Book.{allFields, blockPart, book, entryPart, joined, nodePart, numbers, trailer}
 use Rattle.format.specs.Entries.{blocks, blocksFrom, entry, front, offsets}
-use Rattle.format.specs.Nodes.{depth, glue, groups, nodeTable, rowBy, table, tableWithin}
+use Rattle.format.specs.Nodes.{depth, glue, groups, rowBy, table, tableWithin}
+use Rattle.format.specs.Spans.{nodeTable}
 
 -- the books, and their lengths
 pub books : map (λ k. book plain k example) (2 ∷ 4 ∷ []) ≡ exampleBy2 ∷ exampleBy4 ∷ []

@@ -22,8 +22,8 @@ use Rattle.words.specs.Words.{Words, at, less, pick, shared}
 use Rattle.words.proofs.Lists.{all-append, all-head, all-map, all-right, all-tail}
 use Rattle.words.proofs.Rising.{Above, rises-left, rises-right}
 use Rattle.words.proofs.Words.{between, further, less-at, less-parts, shared-comm, shared-le, shared-self, shared-trans}
-use Rattle.format.specs.Spans.{Climbs, Ranked, climb, flat, rowTable}
-use Rattle.format.specs.Nodes.{Node, depth, first, fork, glue, groups, leaf, nodeTable, rowBy, table, tableWithin}
+use Rattle.format.specs.Spans.{Climbs, Ranked, climb, flat, rowTable, nodeTable}
+use Rattle.format.specs.Nodes.{Node, depth, first, fork, glue, groups, leaf, rowBy, table, tableWithin}
 
 -- ---- the depth of a group
 
@@ -223,7 +223,7 @@ within-same (suc f) (suc e) i s (w ∷ v ∷ vs) r a b =
 -- ---- the equations
 
 pub table-root : (ws : Words) → table ws ≡ nodeTable 0 0 ws
-unfolding table
+unfolding table nodeTable
 table-root ws = refl
 
 pub table-empty : (ws : Words) → length ws ≡ 0 → table ws ≡ []

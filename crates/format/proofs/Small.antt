@@ -16,7 +16,8 @@ use Rattle.words.proofs.Rising.{rises-left, rises-right}
 use Rattle.words.proofs.Words.{shared-comm, shared-le}
 use Rattle.format.specs.Book.{allFields, blockPart, book, entryPart, fields, joined, namesOf, nodePart, number, trailer, trailerSize}
 use Rattle.format.specs.Entries.{blocks, blocksFrom, decode, decodeFrom, entry, front}
-use Rattle.format.specs.Nodes.{Node, depth, groups, nodeTable, rowBy, table, tableWithin}
+use Rattle.format.specs.Nodes.{Node, depth, groups, rowBy, table, tableWithin}
+use Rattle.format.specs.Spans.{nodeTable}
 use Rattle.format.specs.Records.{longest}
 use Rattle.format.proofs.Book.{Fits, read-names}
 use Rattle.format.proofs.Entries.{by-blocks, entries-first}

@@ -19,8 +19,8 @@ use Rattle.words.specs.Words.{Words, at, nth, shared}
 use Rattle.words.proofs.Lists.{all-append}
 use Rattle.words.proofs.Rising.{nth-less, nth-positive, span-all, span-cons, span-length, span-one, span-rises, span-split, span-two}
 use Rattle.words.proofs.Words.{apart, between, less-at, less-parts, shared-comm, shared-le, shared-self, shared-trans}
-use Rattle.format.specs.Spans.{deep, rowTable, Climbs, Ranked}
-use Rattle.format.specs.Nodes.{depth, fork, leaf, nodeTable, table}
+use Rattle.format.specs.Spans.{deep, rowTable, Climbs, Ranked, nodeTable}
+use Rattle.format.specs.Nodes.{depth, fork, leaf, table}
 use Rattle.format.proofs.Groups.{Same, Share, climbs, depth-last, last, node-few, node-more, node-one, ranked-group, ranked-right, row-none, row-run, run-end, run-same, table-root}
 
 module _ (ws : Words) where

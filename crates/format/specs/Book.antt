@@ -3,8 +3,7 @@
 --     numbers, number   numbers as bytes; the number that stands at an offset
 --     entryPart, blockPart, nodePart, trailer    the four parts
 --     book              the whole, for a block size and names
---     fits              a book can be built from these
---     told              what the trailer tells
+--     fits, told        a book can be built from these; what the trailer tells
 --     namesOf           the names that bytes would be the book of
 --     opened            the block size and the names of a book, or none
 -- The laws are in proofs/Book.antt. Assumes nothing: these are definitions.
@@ -17,6 +16,9 @@ use Rattle.words.specs.Words.{Bytes, Rule, pick, both, word, same}
 use Rattle.format.specs.Records.{sound}
 use Rattle.format.specs.Entries.{blocks, offsets, decode}
 use Rattle.format.specs.Nodes.{Node, table}
+
+abbrev pub trailerSize : ℕ
+trailerSize = 16
 
 abbrev pub longestBook : ℕ
 longestBook = 65535
@@ -46,18 +48,8 @@ unfoldable pub allFields : List Node → List ℕ
 allFields [] = []
 allFields (r ∷ rs) = fields r ++ allFields rs
 
--- two bytes for each of them
-abbrev pub fieldCount : ℕ
-fieldCount = 5
-
-abbrev pub nodeSize : ℕ
-nodeSize = 2 * fieldCount
-
 unfoldable pub nodePart : List Node → Bytes
 nodePart rs = numbers (allFields rs)
-
-abbrev pub trailerSize : ℕ
-trailerSize = 16
 
 abbrev pub mark : Bytes
 mark = 0x4E ∷ 0x42 ∷ 0x4B ∷ 0x31 ∷ []
@@ -76,7 +68,6 @@ book ρ k xs =
     es ++ (bs ++ (ns ++ end))
 
 -- ---- what bytes are a book
-
 abbrev pub goodBlock : ℕ → Bool
 goodBlock k = both (leb 1 k) (leb k 64)
 
@@ -91,8 +82,7 @@ pub data Opened : Type 0 where
 abbrev pub told : Bytes → ℕ → ℕ
 told s j = number s (length s - trailerSize + 2 * j)
 
--- The trailer points back: it tells the block size and where the entries end. Their names are those that the bytes would have to be
--- the book of; whether they are is seen by building it.
+-- The trailer tells where the entries end. Their names are those that the bytes would have to be the book of.
 unfoldable pub namesOf : Bytes → List Bytes
 namesOf s = decode (take (told s 2) s)
 

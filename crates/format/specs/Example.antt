@@ -1,8 +1,10 @@
--- Document 01, 'A book in full': Mar, Marina and Market Square, in blocks of two and in one block.
+-- Document 01, 'A book in full' and 'Checked on that book': Mar, Marina and Market Square, in blocks of two and in one block.
 --     text, example     a text of ASCII as bytes; the three names
 --     exampleBy2, exampleBy4     the two books, byte for byte
--- That the layout yields them is computed in proofs/Example.antt. Assumes nothing: these are definitions.
+--     marked            the twelve rows marked P: kind, question and what it is to give
+-- That layout and questions yield them is computed, in proofs/Example.antt here and in answers, and of the books' bytes in theorems.
 use Prim.Native.Char.{code}
+use Prim.Native.Nat.{ℕ}
 use Prim.Native.String.{String}
 use mathlib.Core.List.{List, [], _∷_, _++_}
 use Rattle.words.specs.Words.{Bytes}
@@ -33,3 +35,13 @@ exampleBy4 =
     0x00 ∷ 0x03 ∷ text "Mar" ++ (0x03 ∷ 0x03 ∷ text "ina" ++ (0x03 ∷ 0x0A ∷ text "ket Square" ++
     (0x00 ∷ 0x00 ∷ exampleNodes ++
     (0x03 ∷ 0x00 ∷ 0x04 ∷ 0x00 ∷ 0x16 ∷ 0x00 ∷ 0x18 ∷ 0x00 ∷ 0x04 ∷ 0x00 ∷ 0x50 ∷ 0x00 ∷ 0x4E ∷ 0x42 ∷ 0x4B ∷ 0x31 ∷ []))))
+
+abbrev pub Marked : Type 0
+Marked = ℕ × String × (ℕ × ℕ)
+
+abbrev pub marked : List Marked
+marked =
+    (1, "Marina", (1, 1)) ∷ (1, "Marin", (0, 0))
+    ∷ (2, "", (0, 0)) ∷ (2, "Mark", (2, 0)) ∷ (2, "Maxim", (3, 0))
+    ∷ (3, "Mar", (0, 3)) ∷ (3, "Mark", (2, 1)) ∷ (3, "Mas", (3, 0))
+    ∷ (4, "Mango", (0, 2)) ∷ (4, "Maxim", (1, 2)) ∷ (4, "Zoo", (0, 0)) ∷ (4, "M", (0, 1)) ∷ []

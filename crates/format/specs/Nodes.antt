@@ -3,10 +3,8 @@
 --     depth             the count of leading symbols that a group shares
 --     groups            a row of children: one group for each symbol that follows there
 --     Node, leaf, fork  a record; that of one word; that of several
---     nodeTable         a node's record, and then its row's
 --     table             the whole
--- The equations, with nothing that counts down in them, and the laws are in proofs/Groups.antt and proofs/Spans.antt.
--- Assumes nothing: these are definitions.
+-- The laws are in proofs/Groups.antt and proofs/Spans.antt. Assumes nothing: these are definitions.
 use Prim.Native.Nat.{ℕ, zero, suc, _+_, min}
 use mathlib.Core.List.{List, [], _∷_, _++_}
 use lib.Dec.{eqb}
@@ -51,7 +49,7 @@ unfoldable pub rowBy : (ℕ → ℕ → Words → List Node) → ℕ → ℕ →
 rowBy node i d [] = []
 rowBy node i d (g ∷ gs) = node i (at (first g) d) g ++ rowBy node (i + length g) d gs
 
--- A child is smaller than its group, so a count of the group's words is enough to count down.
+-- A node's record, and then its row's. A child is smaller than its group, so a count of the group's words is enough to count down.
 unfoldable pub tableWithin : ℕ → ℕ → ℕ → Words → List Node
 tableWithin zero i s ws = []
 tableWithin (suc n) i s [] = []
@@ -61,9 +59,6 @@ tableWithin (suc n) i s (w ∷ v ∷ vs) =
     let row = rowBy (λ j t g. tableWithin n j t g) i d (groups d (w ∷ v ∷ vs)) in
     fork i s d (w ∷ v ∷ vs) row ∷ row
 
-unfoldable pub nodeTable : ℕ → ℕ → Words → List Node
-nodeTable i s ws = tableWithin (length ws) i s ws
-
 -- the root's symbol is written 0
 unfoldable pub table : Words → List Node
-table ws = nodeTable 0 0 ws
+table ws = tableWithin (length ws) 0 0 ws

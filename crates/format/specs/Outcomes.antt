@@ -4,7 +4,6 @@
 --     numbered          a refusal, or 0, and one number beside it
 --     Written           an answer, and the lent room afterwards
 --     over, write       the front of a room is written; 4 where it is too short
---     readingOf         what the reading of a list gives: how many names, or 5, 6, 7 and the record's number
 --     checkOf           what opened bytes give: how many names in blocks of how many, or 2
 -- Assumes nothing: these are definitions.
 use Prim.Native.Nat.{ℕ}
@@ -12,7 +11,6 @@ use mathlib.Core.List.{_++_}
 use lib.Dec.{leb}
 use lib.ListN.{length, drop}
 use Rattle.words.specs.Words.{Bytes, pick}
-use Rattle.format.specs.Records.{Reading, Names, Refused}
 use Rattle.format.specs.Book.{Opened, Book, NoBook}
 
 pub record Answer : Type 0 where
@@ -29,7 +27,6 @@ numbered code first = record { code = code; first = first; second = 0 }
 abbrev pub refused : ℕ → Answer
 refused c = record { code = c; first = 0; second = 0 }
 
--- an answer, and the lent room afterwards
 pub record Written : Type 0 where
   pub answer : Answer
   pub room : Bytes
@@ -44,12 +41,6 @@ write out room = pick (leb (length out) (length room))
     (record { answer = given (length out) 0; room = over out room })
     (record { answer = refused 4; room = room })
 
--- the first bad record ends the reading
-unfoldable pub readingOf : Reading → Answer
-readingOf (Names xs) = given (length xs) 0
-readingOf (Refused code i) = numbered code i
-
--- check: 2
 unfoldable pub checkOf : Opened → Answer
 checkOf NoBook = refused 2
 checkOf (Book k xs) = given (length xs) k

@@ -29,8 +29,7 @@ abbrev pub after : Bytes → Reading → Reading
 after x (Names xs) = Names (x ∷ xs)
 after x (Refused code record-number) = Refused code record-number
 
--- The records from number i on, after the name prev; the first `skip` bytes belong to the record before. A record is asked 5, then
--- 6, then 7.
+-- From number i on, after the name prev; the first `skip` bytes belong to the record before. A record is asked 5, then 6, then 7.
 unfoldable pub readFrom : Rule → ℕ → Bytes → ℕ → Bytes → Reading
 readFrom ρ i prev zero [] = Names []
 readFrom ρ i prev zero (n ∷ rest) =

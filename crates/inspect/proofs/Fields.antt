@@ -13,7 +13,7 @@ use lib.Dec.{eqb, leb}
 use lib.ListN.{getD}
 use borrow.Author.Tests.{eqb-true, eqb-false, leb-true, leb-false}
 use Rattle.words.specs.Words.{Bytes, at, plain, word}
-use Rattle.format.specs.Book.{nodeSize}
+use Rattle.format.specs.Spans.{nodeSize}
 use Rattle.streams.specs.Streams.{restAt}
 use Rattle.standing.specs.Maps.{inRows, recordAt}
 use Rattle.inspect.specs.Check.{ForkSays, LeafSays, LedSays}

@@ -8,8 +8,8 @@ use native.Mathlib.Omega.{arith}
 use mathlib.Core.Path.{_≡_, refl, sym, ap, _∙_, subst}
 use lib.ListN.{length}
 use Rattle.words.specs.Words.{Bytes, nth, plain}
-use Rattle.format.specs.Spans.{wordsOf}
-use Rattle.format.specs.Book.{namesOf, nodeSize}
+use Rattle.format.specs.Spans.{wordsOf, nodeSize}
+use Rattle.format.specs.Book.{namesOf}
 use Rattle.format.specs.Nodes.{Node, leaf}
 use Rattle.streams.specs.Streams.{Here, lengthAt}
 use Rattle.streams.proofs.Here.{here-length, words-count}

@@ -12,8 +12,8 @@ use mathlib.Core.Bool.{Bool, false, not, true}
 use lib.ListN.{length, getD}
 use Rattle.words.specs.Words.{Bytes, at, nth, plain, shared, word}
 use Rattle.words.proofs.Words.{false≠true}
-use Rattle.format.specs.Book.{namesOf, nodeSize, trailerSize, told}
-use Rattle.format.specs.Spans.{deep, wordsOf}
+use Rattle.format.specs.Book.{namesOf, trailerSize, told}
+use Rattle.format.specs.Spans.{deep, wordsOf, nodeSize}
 use Rattle.format.specs.Records.{longest}
 use Rattle.streams.specs.Streams.{Here, InBlocks, Known, entryEnd, lengthAt, offsetFrom, restAt}
 use Rattle.streams.proofs.Here.{here-fits, here-next, here-rises, here-symbol, name-short, words-count}

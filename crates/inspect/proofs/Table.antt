@@ -18,9 +18,9 @@ use Rattle.words.specs.Rising.{All, cons, nil, span}
 use Rattle.words.specs.Words.{Bytes, InBytes, Words, plain, same, word}
 use Rattle.words.proofs.Lists.{all-append, all-right}
 use Rattle.words.proofs.Words.{false≠true, plain-lawful, same-refl, same-true}
-use Rattle.format.specs.Spans.{wordsOf}
-use Rattle.format.specs.Book.{allFields, namesOf, nodePart, nodeSize, numbers}
-use Rattle.format.specs.Nodes.{Node, nodeTable, table, tableWithin}
+use Rattle.format.specs.Spans.{wordsOf, nodeSize, nodeTable}
+use Rattle.format.specs.Book.{allFields, namesOf, nodePart, numbers}
+use Rattle.format.specs.Nodes.{Node, table, tableWithin}
 use Rattle.format.specs.Records.{longest}
 use Rattle.format.proofs.Groups.{table-root}
 use Rattle.format.proofs.Numbers.{bytes-all, take-bytes, word-high}

@@ -14,8 +14,8 @@ use mathlib.Core.Bool.{Bool, false, true}
 use lib.ListN.{getD, length}
 use lib.Seq.{slice}
 use Rattle.words.specs.Words.{Bytes, at, plain, same, word}
-use Rattle.format.specs.Spans.{wordsOf}
-use Rattle.format.specs.Book.{namesOf, nodePart, nodeSize, trailerSize, told}
+use Rattle.format.specs.Spans.{wordsOf, nodeSize}
+use Rattle.format.specs.Book.{namesOf, nodePart, trailerSize, told}
 use Rattle.format.specs.Nodes.{table}
 use Rattle.format.specs.Records.{longest}
 use Rattle.streams.specs.Streams.{Here, InBlocks, Known, restAt}

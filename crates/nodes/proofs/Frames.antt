@@ -21,8 +21,8 @@ use Rattle.words.specs.Rising.{Rises, span}
 use Rattle.words.specs.Words.{Words, at, nth, shared}
 use Rattle.words.proofs.Rising.{nth-less, nth-positive, span-length}
 use Rattle.words.proofs.Words.{between, less-parts, less-short, shared-at, shared-comm, shared-le, shared-self, shared-trans}
-use Rattle.format.specs.Spans.{deep, rowTable, Ranked}
-use Rattle.format.specs.Nodes.{Node, fork, leaf, nodeTable, table}
+use Rattle.format.specs.Spans.{deep, rowTable, Ranked, nodeTable}
+use Rattle.format.specs.Nodes.{Node, fork, leaf, table}
 use Rattle.format.specs.Book.{number, numbers}
 use Rattle.format.proofs.Numbers.{two-bytes}
 use Rattle.format.proofs.Groups.{row-few, table-root}

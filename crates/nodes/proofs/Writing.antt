@@ -17,7 +17,8 @@ use lib.Seq.{drop-at, drop-drop, length-take-le, getD-drop, drop-length}
 use Rattle.words.specs.Words.{Bytes, Words, at, nth, plain, shared, word}
 use Rattle.words.proofs.Rising.{nth-less}
 use Rattle.words.proofs.Words.{at-past, less-short, plain-injective, shared-word}
-use Rattle.format.specs.Book.{allFields, fields, nodePart, nodeSize, numbers}
+use Rattle.format.specs.Book.{allFields, fields, nodePart, numbers}
+use Rattle.format.specs.Spans.{nodeSize}
 use Rattle.format.specs.Nodes.{Node, leaf, table}
 use Rattle.format.proofs.Groups.{table-empty}
 use Rattle.format.proofs.Numbers.{numbers-append, numbers-length}

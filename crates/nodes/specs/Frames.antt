@@ -19,9 +19,9 @@ use lib.ListN.{length, getD, drop}
 use lib.Seq.{sets}
 use Rattle.words.specs.Rising.{span}
 use Rattle.words.specs.Words.{Bytes, Words, at, shared, nth}
-use Rattle.format.specs.Spans.{deep, rowTable}
-use Rattle.format.specs.Nodes.{Node, nodeTable}
-use Rattle.format.specs.Book.{nodePart, nodeSize, number, numbers}
+use Rattle.format.specs.Spans.{deep, rowTable, nodeSize, nodeTable}
+use Rattle.format.specs.Nodes.{Node}
+use Rattle.format.specs.Book.{nodePart, number, numbers}
 
 abbrev pub sharesAt : Words → ℕ → ℕ
 sharesAt ws c = shared (nth ws (pred c)) (nth ws c)

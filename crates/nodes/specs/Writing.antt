@@ -15,7 +15,8 @@ use lib.ListN.{length, drop}
 use Rattle.words.specs.Rising.{Rises}
 use Rattle.words.specs.Words.{Bytes, Words, nth, plain, word}
 use Rattle.format.specs.Nodes.{Node, table}
-use Rattle.format.specs.Book.{nodePart, nodeSize}
+use Rattle.format.specs.Book.{nodePart}
+use Rattle.format.specs.Spans.{nodeSize}
 use Rattle.records.specs.Lists.{startOf, words}
 use Rattle.nodes.specs.Frames.{Cur, Framed, Open, Tail, depthIn, frameCount, frameSize}
 use Rattle.nodes.specs.declared.LeftOpen.{LeftOpen}

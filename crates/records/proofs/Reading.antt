@@ -22,12 +22,12 @@ use lib.Seq.{drop-cons, drop-drop, getD-at, getD-take, getD-drop, getD-set-same,
 use borrow.Author.Tests.{lt-ltb, le-ltb, le-leb, lt-leb}
 use Rattle.words.specs.Words.{Bytes, at, both, less, pick, plain, shared, word}
 use Rattle.words.proofs.Words.{at-past, less-by, part-at, plain-injective, shared-comm, shared-le, shared-more, shared-word, word-at}
-use Rattle.format.specs.Outcomes.{given, readingOf}
+use Rattle.format.specs.Outcomes.{given}
 use Rattle.format.specs.Records.{Names, Reading, Refused, after, goodLength, mostNames, readFrom, readList}
 use Rattle.format.proofs.Records.{read-refused, read-skip}
 use Rattle.numbers.proofs.Parts.{part-length}
 use Rattle.records.specs.declared.Verdict.the-variants.{Good, Bad}
-use Rattle.records.specs.Lists.{Judged, Noted, names, namesIn}
+use Rattle.records.specs.Lists.{Judged, Noted, names, namesIn, readingOf}
 
 -- ---- which of two names is less
 

@@ -1,5 +1,6 @@
 -- A list that is read: its names, and what is noted of them on the way.
 --     verdictNumbers    document 01's numbers for each verdict
+--     readingOf         what the reading of a list gives: how many names, or 5, 6, 7 and the record's number
 --     names, words      the names of a list that reads well, and their words
 --     Noted             each name's length, and what it shares with the name before
 --     Judged            what judging a list gives
@@ -12,13 +13,18 @@ use mathlib.Core.Bool.{true}
 use lib.ListN.{length, getD, take}
 use Rattle.words.specs.Words.{Bytes, Words, plain, word, shared}
 use Rattle.format.specs.Records.{Reading, Names, Refused, readList, encode, sound}
-use Rattle.format.specs.Outcomes.{Answer, given, numbered, readingOf}
+use Rattle.format.specs.Outcomes.{Answer, given, numbered}
 use Rattle.records.specs.declared.Verdict.{Verdict}
 use Rattle.records.specs.declared.Verdict.the-variants.{Good, Bad}
 
 abbrev pub verdictNumbers : Verdict → Answer
 verdictNumbers (Good n) = given n 0
 verdictNumbers (Bad code i) = numbered code i
+
+-- the first bad record ends the reading
+unfoldable pub readingOf : Reading → Answer
+readingOf (Names xs) = given (length xs) 0
+readingOf (Refused code i) = numbered code i
 
 abbrev pub namesIn : Reading → List Bytes
 namesIn (Names xs) = xs

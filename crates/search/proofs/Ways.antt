@@ -14,8 +14,8 @@ use mir.Val.{Fits}
 use mir.Syntax.{w16, w64}
 use Rattle.words.specs.Rising.{Rises}
 use Rattle.words.specs.Words.{Bytes, Words, at, plain, word}
-use Rattle.format.specs.Spans.{wordsOf}
-use Rattle.format.specs.Book.{fields, nodeSize}
+use Rattle.format.specs.Spans.{wordsOf, nodeSize}
+use Rattle.format.specs.Book.{fields}
 use Rattle.format.specs.Nodes.{Node}
 use Rattle.descent.specs.Vocabulary.{Descended, Halts, Passed, Searchable, Seeking, Sits, Sought, Taken, asked, node}
 use Rattle.standing.specs.Maps.{Roomy, inRows, recordAt, rowsAt}

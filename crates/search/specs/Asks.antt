@@ -16,8 +16,8 @@ use Rattle.words.specs.Words.{Bytes, Words, at, nth, plain, shared}
 use Rattle.format.specs.Nodes.{table}
 use Rattle.answers.specs.Questions.{Pair as Numbers, reached}
 use Rattle.descent.specs.Vocabulary.{Halts, Located, Searchable, Sits, Taken, asked, node}
-use Rattle.format.specs.Spans.{wordsOf}
-use Rattle.format.specs.Book.{fieldCount, told}
+use Rattle.format.specs.Spans.{wordsOf, fieldCount}
+use Rattle.format.specs.Book.{told}
 use Rattle.standing.specs.Maps.{rowsAt}
 use Rattle.trailer.specs.declared.Trailer.{Trailer}
 use Rattle.accept.specs.Parts.{Parts}

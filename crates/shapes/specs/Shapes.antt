@@ -1,9 +1,12 @@
--- The answers and rows of the code as document 01's numbers.
---     answered          an answer
---     rowOf             a row of a batch
+-- What a call of the code leaves, as document 01's numbers.
+--     answered, rowOf   an answer; a row of a batch
+--     written           an answer, and the room that was left
+--     batched           an answer, and the answer rows that were left
 -- Their laws are in proofs/Shapes.antt. Assumes nothing: these are definitions.
-use Rattle.format.specs.Outcomes.{Answer as Numbers}
-use Rattle.answers.specs.Calls.{Row as Question}
+use mathlib.Core.List.{List, map}
+use Rattle.words.specs.Words.{Bytes}
+use Rattle.format.specs.Outcomes.{Answer as Numbers, Written}
+use Rattle.answers.specs.Calls.{Batched, Row as Question}
 use Rattle.shapes.specs.declared.Answer.{Answer}
 use Rattle.shapes.specs.declared.Row.{Row}
 
@@ -12,3 +15,9 @@ answered r = record { code = r .code; first = r .first; second = r .second }
 
 abbrev pub rowOf : Row → Question
 rowOf r = record { kind = r .kind; start = r .start; size = r .length }
+
+abbrev pub written : Answer → Bytes → Written
+written r room = record { answer = answered r; room = room }
+
+abbrev pub batched : Answer → List Answer → Batched
+batched r answers = record { answer = answered r; rows = map answered answers }

@@ -13,7 +13,8 @@ use Rattle.words.specs.Rising.{All}
 use Rattle.words.specs.Words.{Bytes, InBytes}
 use Rattle.words.proofs.Lists.{all-at}
 use Rattle.words.proofs.Words.{apart}
-use Rattle.format.specs.Book.{allFields, fieldCount, fields, nodePart, nodeSize, number}
+use Rattle.format.specs.Book.{allFields, fields, nodePart, number}
+use Rattle.format.specs.Spans.{fieldCount, nodeSize}
 use Rattle.format.specs.Nodes.{Node}
 use Rattle.format.proofs.Book.{fields-length, nodes-length}
 use Rattle.format.proofs.Numbers.{numbers-are, numbers-told}

@@ -17,8 +17,8 @@ use Rattle.words.specs.Rising.{Rises, span}
 use Rattle.words.specs.Words.{Bytes, Words, at, nth, shared}
 use Rattle.words.proofs.Rising.{nth-less, nth-positive, span-length}
 use Rattle.words.proofs.Words.{further, less-parts, part-at, shared-at, shared-le, shared-self, shared-trans}
-use Rattle.format.specs.Spans.{deep, rowTable}
-use Rattle.format.specs.Nodes.{Node, fork, leaf, nodeTable}
+use Rattle.format.specs.Spans.{deep, rowTable, nodeTable}
+use Rattle.format.specs.Nodes.{Node, fork, leaf}
 use Rattle.format.proofs.Spans.{ranked-within, span-share, table-more, table-none, table-one, table-run}
 use Rattle.standing.specs.Maps.{Map, Roomy, recordAt}
 use Rattle.standing.specs.Stands.{Child, GroupAt, NodeAt, RowAt, Stands}

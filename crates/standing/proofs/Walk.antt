@@ -18,8 +18,8 @@ use Rattle.words.specs.Rising.{Rises, span}
 use Rattle.words.specs.Words.{Bytes, Words, at, nth, shared}
 use Rattle.words.proofs.Rising.{nth-less}
 use Rattle.words.proofs.Words.{less-short, shared-comm, shared-le}
-use Rattle.format.specs.Spans.{deep, rowTable}
-use Rattle.format.specs.Nodes.{Node, nodeTable}
+use Rattle.format.specs.Spans.{deep, rowTable, nodeTable}
+use Rattle.format.specs.Nodes.{Node}
 use Rattle.format.proofs.Spans.{span-share}
 use Rattle.standing.specs.Maps.{Map, Roomy, recordAt}
 use Rattle.standing.specs.Stands.{Child, GroupAt, NodeAt, RowAt}

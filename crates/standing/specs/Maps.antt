@@ -1,14 +1,15 @@
 -- Where the numbers of a node table stand in bytes, and a record that is read there.
 --     Map               where the table starts, how far it is from a node to the next, and from a number of a node to its next
---     nodeIn, placeIn   where node v stands, and its field number j
+--     nodeIn            where node v stands
 --     rowsAt, inRows    a table that starts at an offset, record behind record; the same, wherever it starts
---     recordAt          the record whose first number stands at an offset
+--     recordAt          the record whose first number stands at an offset, and field number j so many steps behind it
 --     Roomy             its last number stands there, too
 -- The laws are in proofs/Maps.antt. Assumes nothing: these are definitions.
 use Prim.Native.Nat.{ℕ, pred, _+_, _*_, _≤_}
 use lib.ListN.{length}
 use Rattle.words.specs.Words.{Bytes}
-use Rattle.format.specs.Book.{fieldCount, nodeSize, number}
+use Rattle.format.specs.Book.{number}
+use Rattle.format.specs.Spans.{fieldCount, nodeSize}
 use Rattle.format.specs.Nodes.{Node}
 
 pub record Map : Type 0 where
@@ -18,9 +19,6 @@ pub record Map : Type 0 where
 
 abbrev pub nodeIn : Map → ℕ → ℕ
 nodeIn μ v = μ .start + v * μ .stride
-
-abbrev pub placeIn : Map → ℕ → ℕ → ℕ
-placeIn μ v j = nodeIn μ v + j * μ .step
 
 abbrev pub rowsAt : ℕ → Map
 rowsAt start = record { start = start; stride = nodeSize; step = 2 }

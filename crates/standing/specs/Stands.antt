@@ -10,8 +10,8 @@ use mathlib.Core.Path.{_≡_}
 use mathlib.Core.List.{List, [], _∷_}
 use Rattle.words.specs.Rising.{span}
 use Rattle.words.specs.Words.{Bytes, Words, at, nth}
-use Rattle.format.specs.Spans.{deep, rowTable}
-use Rattle.format.specs.Nodes.{Node, nodeTable}
+use Rattle.format.specs.Spans.{deep, rowTable, nodeTable}
+use Rattle.format.specs.Nodes.{Node}
 use Rattle.standing.specs.Maps.{Map, Roomy, recordAt}
 
 abbrev pub Stands : Map → Bytes → ℕ → List Node → ℕ → Type 0

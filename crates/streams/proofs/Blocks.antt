@@ -18,9 +18,10 @@ use Rattle.words.proofs.Words.{less-start}
 use Rattle.format.specs.Book.{entryPart, joined, longestBook, number, numbers}
 use Rattle.format.specs.Entries.{blocks, blocksFrom, front, offsets}
 use Rattle.format.specs.Records.{rising}
+use Rattle.format.specs.Spans.{lastOf}
 use Rattle.format.proofs.Entries.{blocks-first, entries-first}
 use Rattle.format.proofs.Numbers.{high-byte, low-byte}
-use Rattle.streams.specs.Runs.{Rest, Run, lastOf}
+use Rattle.streams.specs.Runs.{Rest, Run}
 use Rattle.streams.proofs.Fronts.{Headed, both-are, front-run, headed, is-good, run-front, two}
 
 -- ---- rising in two parts

@@ -24,7 +24,8 @@ use Rattle.words.specs.Words.{Bytes, InBytes, at, less, plain, word}
 use Rattle.format.specs.Book.{entryPart, longestBook, number, namesOf, told}
 use Rattle.format.specs.Entries.{front}
 use Rattle.format.specs.Records.{longest, mostNames, sound}
-use Rattle.streams.specs.Runs.{Frame, Has, Rest, Run, RunTo, Step, done, endOf, lastOf, more}
+use Rattle.format.specs.Spans.{lastOf}
+use Rattle.streams.specs.Runs.{Frame, Has, Rest, Run, RunTo, Step, done, endOf, more}
 use Rattle.streams.specs.Streams.{EntryAt, Known, entryEnd, nameAt}
 use Rattle.streams.proofs.Blocks.{FirstBlock, none-rest, rest-first, rest-join, rest-none}
 use Rattle.streams.proofs.Fronts.{both-are, run-unique}

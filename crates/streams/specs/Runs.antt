@@ -14,6 +14,7 @@ use Rattle.words.specs.Words.{Bytes, pick, plain}
 use Rattle.format.specs.Book.{entryPart, longestBook, number, numbers}
 use Rattle.format.specs.Entries.{blocks, offsets}
 use Rattle.format.specs.Records.{longest, rising}
+use Rattle.format.specs.Spans.{lastOf}
 use Rattle.streams.specs.Streams.{entryEnd, nameAt}
 
 -- `above` is both: the count is the greatest possible, and the name is above the one before
@@ -28,11 +29,6 @@ pub data Run (b : Bytes) (e : ℕ) : ℕ → Bytes → List Bytes → Type 0 whe
   done : {o : ℕ} {prev : Bytes} → o ≡ e → Run b e o prev []
   more : {o : ℕ} {prev x : Bytes} {xs : List Bytes} → Step b o e prev → nameAt b o prev ≡ x → Run b e (entryEnd b o) x xs
       → Run b e o prev (x ∷ xs)
-
--- the last of some names, and prev where there are none
-unfoldable pub lastOf : Bytes → List Bytes → Bytes
-lastOf prev [] = prev
-lastOf prev (x ∷ xs) = lastOf x xs
 
 pub record RunTo (b : Bytes) (e o : ℕ) (prev : Bytes) (m : ℕ) (l : Bytes) : Type 0 where
   pub names : List Bytes

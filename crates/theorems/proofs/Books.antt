@@ -18,7 +18,7 @@ use Rattle.words.specs.Rising.{All, Rises}
 use Rattle.words.specs.Words.{Bytes, InBytes, Lawful, Rule, less, word}
 use Rattle.words.proofs.Lists.{all-at, all-from, all-map₂}
 use Rattle.words.proofs.Rising.{nth-less, nth-word}
-use Rattle.format.specs.Book.{Book, NoBook, Opened, book, fits, number, opened, trailerSize}
+use Rattle.format.specs.Book.{Book, NoBook, Opened, book, fits, opened, told}
 use Rattle.format.specs.Records.{longest, sound}
 use Rattle.format.proofs.Book.{book-length, book-opened, fits-parts, opened-book, parts-fits, read-field}
 use Rattle.format.proofs.Numbers.{all-bytes, bytes-all}
@@ -71,9 +71,9 @@ module _ (ρ : Rule) (ok : Lawful ρ) where
     opens = subst (λ (t : Bytes). opened ρ t ≡ Book k xs) (b .layout) (opened-book ρ k xs fit)
 
     -- the trailer's length is the book's
-    pub told-length : number s (length s - trailerSize + 10) ≡ length s
+    pub told-length : told s 5 ≡ length s
     told-length =
-        subst (λ (t : Bytes). number t (length t - trailerSize + 10) ≡ length t) (b .layout)
+        subst (λ (t : Bytes). told t 5 ≡ length t) (b .layout)
         (read-field ρ k xs (fits-parts ρ k xs fit) 5 (omega arith) ∙ sym (book-length ρ k xs))
 
   pub accepted-iff : (s : Bytes) (k : ℕ) (xs : List Bytes) → (InBytes s × (opened ρ s ≡ Book k xs)) ↔ BookOf ρ s k xs

@@ -17,7 +17,7 @@ use Rattle.words.specs.Words.{Bytes, Rule, both, pick}
 use Rattle.format.specs.Book.{Book, NoBook, Opened, opened}
 use Rattle.format.specs.Outcomes.{Answer, Written, given, over, refused, write}
 use Rattle.answers.specs.Calls.{Batched, Row, batch, build, check, goodRow, question, questionOf, readBack, readBackOf, rowAnswer}
-use Rattle.theorems.specs.Promises.{Alike, Answered, answerAt, rowAt, spanOf}
+use Rattle.theorems.specs.Demands.{Alike, Answered, answerAt, rowAt, spanOf}
 use Rattle.answers.proofs.Calls.{batch-rows}
 use Rattle.shapes.specs.Shapes.{answered}
 use Rattle.shapes.specs.declared.Answer.{Answer as Given}

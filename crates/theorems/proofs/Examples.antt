@@ -7,14 +7,14 @@ use lib.ListN.{length}
 use Rattle.words.specs.Words.{Bytes, begins, less, plain, same, shared}
 use Rattle.format.specs.Book.{allFields, blockPart, book, entryPart, fits, joined, namesOf, nodePart, number, numbers, opened, trailer}
 use Rattle.format.specs.Entries.{blocks, blocksFrom, decode, decodeFrom, entry, front, offsets}
-use Rattle.format.specs.Nodes.{depth, glue, groups, nodeTable, rowBy, table, tableWithin}
+use Rattle.format.specs.Nodes.{depth, glue, groups, rowBy, table, tableWithin}
+use Rattle.format.specs.Spans.{nodeTable}
 use Rattle.format.specs.Records.{rising, sound}
-use Rattle.format.specs.Example.{example, exampleBy2, exampleBy4, text}
+use Rattle.format.specs.Example.{example, exampleBy2, exampleBy4, text, Marked, marked}
 use Rattle.format.proofs.Example.{book-lengths, books}
 use Rattle.format.specs.Outcomes.{Answer, given}
 use Rattle.answers.specs.Calls.{question, questionOf}
 use Rattle.answers.specs.Questions.{answer, ask, childOf, count, exact, exactFrom, nearest, place, range, reachWithin, reached}
-use Rattle.answers.specs.Example.{Marked, marked}
 
 pub example-books : map (λ k. book plain k example) (2 ∷ 4 ∷ []) ≡ exampleBy2 ∷ exampleBy4 ∷ []
 example-books = books

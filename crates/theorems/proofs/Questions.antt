@@ -24,11 +24,10 @@ use Rattle.words.proofs.Words.{apart, both-true, less-nil, less-other, less-sam
 use Rattle.format.specs.Records.{sound}
 use Rattle.format.proofs.Records.{sound-rises}
 use Rattle.answers.specs.Questions.{Pair, answer, ask, nearest, place, range, reached}
-use Rattle.theorems.specs.Promises.{Greatest}
+use Rattle.theorems.specs.Demands.{Greatest, comesBefore}
 use Rattle.answers.proofs.Nearest.{reached-most, reached-within}
 use Rattle.answers.proofs.Places.{exact-place, place-at, range-at}
 use Rattle.descent.proofs.Cuts.{exact-here}
-use Rattle.theorems.specs.Demands.{comesBefore}
 
 module _ (ρ : Rule) (ok : Lawful ρ) (xs : List Bytes) (is : sound ρ xs ≡ true) (q : Bytes) where
   -- a name's word

@@ -17,14 +17,13 @@ use Rattle.words.specs.Words.{Bytes, Lawful, Rule, Words, at, shared, word}
 use Rattle.words.proofs.Lists.{all-head, all-left, all-map, all-right, all-tail}
 use Rattle.words.proofs.Rising.{rises-left, rises-right}
 use Rattle.words.proofs.Words.{shared-le}
-use Rattle.format.specs.Spans.{rowTable}
-use Rattle.format.specs.Nodes.{depth, fork, groups, leaf, nodeTable, table}
+use Rattle.format.specs.Spans.{rowTable, nodeTable}
+use Rattle.format.specs.Nodes.{depth, fork, groups, leaf, table}
 use Rattle.format.specs.Records.{longest, sound}
 use Rattle.format.proofs.Groups.{Parted, Same, Share, children, deeper, depth-length, depth-share, joinedGroups, node-more, node-one, part, row-run, whole}
 use Rattle.format.proofs.Records.{rising-sizes, sound-rises, sound-rising}
 use Rattle.format.proofs.Spans.{table-few}
-use Rattle.theorems.specs.Promises.{Climbing}
-use Rattle.theorems.specs.Demands.{Path, down, nodeDepth, stop}
+use Rattle.theorems.specs.Demands.{Climbing, Path, down, nodeDepth, stop}
 
 -- ---- the equations
 

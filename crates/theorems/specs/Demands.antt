@@ -2,20 +2,24 @@
 --     BookOf            the layout yields these bytes for this block size and this list of names
 --     RoundTrip         what a build that is not refused leaves, and what reading it back gives
 --     comesBefore       document 01's order, by bytes
---     Path              the depths of the nodes on a path down from the node of some words
+--     Path, Climbing    the depths of the nodes on a path down from the node of some words; each number is below the next
+--     Alike             two calls left the same, as far as their answers count
+--     rowAt, answerAt, spanOf, Answered     a batch, row by row; it is not refused
+--     Greatest          no name shares more with a question than the one at a position
 -- Assumes nothing: these are definitions.
 use Prim.Native.Nat.{ℕ, suc, _≤_, _<_}
 use mathlib.Core.Path.{_≡_}
 use mathlib.Core.Bool.{Bool, false, true}
 use mathlib.Core.List.{List, [], _∷_}
 use lib.Dec.{eqb, ltb}
-use lib.ListN.{length, getD, take}
-use Rattle.words.specs.Words.{Bytes, Words, Rule, InBytes, pick, word, less}
+use lib.ListN.{length, getD, take, drop}
+use Rattle.words.specs.Words.{Bytes, Words, Rule, InBytes, pick, word, less, shared}
 use Rattle.format.specs.Records.{encode, longest, mostNames}
 use Rattle.format.specs.Nodes.{depth, groups}
 use Rattle.format.specs.Book.{longestBook, book}
-use Rattle.format.specs.Outcomes.{Written, given, over}
-use Rattle.answers.specs.Calls.{check, readBack}
+use Rattle.format.specs.Outcomes.{Answer, Written, given, over, refused}
+use Rattle.answers.specs.Questions.{Pair}
+use Rattle.answers.specs.Calls.{Batched, Row, batch, check, readBack}
 
 pub record BookOf (ρ : Rule) (s : Bytes) (k : ℕ) (xs : List Bytes) : Type 0 where
   pub block : (1 ≤ k) × (k ≤ 64)
@@ -53,3 +57,29 @@ pub data Path : Words → List ℕ → Type 0 where
   stop : {ws : Words} {d : ℕ} → d ≡ nodeDepth ws → Path ws (d ∷ [])
   down : {ws : Words} {d : ℕ} {ds : List ℕ} → d ≡ nodeDepth ws → 1 < length ws → (j : ℕ) → j < length (groups d ws) → Path (getD (groups d ws) j []) ds
       → Path ws (d ∷ ds)
+
+-- the same answer, and the same bytes at the front, as many as the answer counts
+pub record Alike (a b : Written) : Type 0 where
+  pub answer : a .answer ≡ b .answer
+  pub front : take (a .answer .first) (a .room) ≡ take (b .answer .first) (b .room)
+
+abbrev pub rowAt : List Row → ℕ → Row
+rowAt rows i = getD rows i (record { kind = 0; start = 0; size = 0 })
+
+abbrev pub answerAt : Batched → ℕ → Answer
+answerAt b i = getD (b .rows) i (refused 11)
+
+-- a row's own bytes in the buffer
+abbrev pub spanOf : Bytes → Row → Bytes
+spanOf buffer r = take (r .size) (drop (r .start) buffer)
+
+abbrev pub Answered : Rule → Bytes → Bytes → List Row → List Answer → Type 0
+Answered ρ s buffer rows answers = batch ρ s buffer rows answers .answer .code ≡ 0
+
+pub record Greatest (ρ : Rule) (q : Bytes) (xs : List Bytes) (a : Pair) : Type 0 where
+  pub within : a .0 < length xs
+  pub shares : a .1 ≡ shared (word ρ q) (word ρ (getD xs (a .0) []))
+  pub most : (i : ℕ) → i < length xs → shared (word ρ q) (word ρ (getD xs i [])) ≤ a .1
+
+abbrev pub Climbing : List ℕ → Type 0
+Climbing ds = (i : ℕ) → suc i < length ds → getD ds i 0 < getD ds (suc i) 0

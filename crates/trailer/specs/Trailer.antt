@@ -7,7 +7,8 @@ use mathlib.Core.Path.{_≡_}
 use mathlib.Core.Bool.{Bool, false, true}
 use lib.ListN.{length}
 use Rattle.words.specs.Words.{Bytes}
-use Rattle.format.specs.Book.{longestBook, nodeSize, told, trailerSize}
+use Rattle.format.specs.Book.{longestBook, told, trailerSize}
+use Rattle.format.specs.Spans.{nodeSize}
 use Rattle.format.specs.Records.{mostNames}
 use Rattle.trailer.specs.declared.Trailer.{Trailer}
 

@@ -58,7 +58,7 @@ use denote.Exit.{yes}
 use Rattle.words.specs.Words.{plain}
 use Rattle.format.specs.Book.{opened}
 use Rattle.answers.specs.Calls.{batch, rowAnswer}
-use Rattle.shapes.specs.Shapes.{answered, rowOf}
+use Rattle.shapes.specs.Shapes.{answered, rowOf, batched}
 use Rattle.shapes.specs.declared.Answer.{Answer}
 use Rattle.shapes.specs.declared.Row.{Row}
 use Rattle.shapes.proofs.Shapes.{answerOf}
@@ -78,7 +78,6 @@ use Rattle.questions.proofs.answer_row as answers
 use Rattle.questions.proofs.answer_row.Symbol as answers-def
 use Rattle.questions.proofs.answer_row.Symbol.{name as #answer-row}
 use Rattle.questions.proofs.answer_row.Met as answers-thm
-use Rattle.book.specs.Answers.{batched}
 use Rattle.book.proofs.Batching.{batch-answered, batch-refused, filled, gets, length-filled, noRow, opening, opening-accepts}
 use Rattle.book.proofs.Walking.{guards, tests}
 use Rattle.book.proofs.book_batch.Key.{name as #book-batch}

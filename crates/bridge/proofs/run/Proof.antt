@@ -53,14 +53,13 @@ use denote.Triple.Walked.{says, needs, Stays, stay-dropped, walkOf, goes-dropped
 use denote.Exit.{yes}
 use Rattle.words.specs.Words.{plain}
 use Rattle.answers.specs.Calls.{Batched, batch}
-use Rattle.shapes.specs.Shapes.{answered, rowOf}
+use Rattle.shapes.specs.Shapes.{answered, rowOf, batched}
 use Rattle.shapes.specs.declared.Answer.{Answer}
 use Rattle.shapes.specs.declared.Row.{Row}
 use Rattle.shapes.proofs.Row as R
 use Rattle.shapes.proofs.Row.Laws as R′
 use Rattle.shapes.proofs.Answer as P
 use Rattle.shapes.proofs.Answer.Laws as P′
-use Rattle.book.specs.Answers.{batched}
 use Rattle.book.proofs.book_batch as batch′
 use Rattle.book.proofs.book_batch.Symbol as batch-def
 use Rattle.book.proofs.book_batch.Symbol.{name as #book-batch}
