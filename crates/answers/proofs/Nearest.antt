@@ -13,8 +13,8 @@ use mathlib.Core.List.{List, [], _∷_, _++_}
 use lib.Dec.{ltb, eqb}
 use lib.ListN.{length, length-append}
 use borrow.Author.Tests.{ltb-true, eqb-true, eqb-false}
-use Rattle.words.specs.Rising.{All, Rises, cons, nil}
-use Rattle.words.specs.Words.{Words, at, nth, pick, shared}
+use Rattle.words.specs.Rising.{All, Rises, cons, nil, nth}
+use Rattle.words.specs.Words.{Words, at, pick, shared}
 use Rattle.words.proofs.Lists.{Within, all-append, all-at, all-map, all-map₂, all-within, within-at, within-left, within-right}
 use Rattle.words.proofs.Rising.{rises-left, rises-right}
 use Rattle.words.proofs.Words.{blind, leaves, shared-le}

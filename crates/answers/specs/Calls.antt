@@ -1,6 +1,5 @@
 -- Document 01, 'Numbers given back when a call says no': each public call as one function of what came in. It gives the three numbers
--- and every lent byte and row afterwards; refusals stand in the document's order, the first match is given, and a refused call
--- changes nothing. A contract cites these functions, and nothing else.
+-- and every lent byte and row afterwards; refusals in the document's order, and a refused call changes nothing. Contracts cite these.
 --     build, check, readBack, question, batch
 -- The laws are in proofs/Calls.antt. Assumes nothing: these are definitions.
 use Prim.Native.Nat.{ℕ, _+_}

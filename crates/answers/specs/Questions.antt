@@ -1,15 +1,13 @@
 -- Document 01, 'Questions': the four kinds, over the plain list of words; nearest's position by the descent over groups of words.
---     exact, place, range, nearest
---     reached           the position of the first word of the node where the descent stops
---     ask               a kind by its number, 1 to 4 in this order
---     answer            the same for names and a question in bytes, under a rule
+--     exact, place, range, nearest, reached    the four; the position of the first word of the node where the descent stops
+--     ask, answer       a kind by its number, 1 to 4 in this order; for names and a question in bytes, under a rule
 -- The laws are in proofs/Places.antt and proofs/Nearest.antt. Assumes nothing: these are definitions.
 use Prim.Native.Nat.{ℕ, zero, suc, _+_}
 use mathlib.Core.Bool.{Bool}
 use mathlib.Core.List.{List, [], _∷_, map}
 use lib.Dec.{ltb, eqb}
-use lib.ListN.{length}
-use Rattle.words.specs.Words.{Bytes, Words, Rule, pick, word, at, shared, less, begins, same, nth}
+use lib.ListN.{getD, length}
+use Rattle.words.specs.Words.{Bytes, Words, Rule, pick, word, at, shared, less, begins, same}
 use Rattle.format.specs.Nodes.{first, depth, groups}
 
 abbrev pub Pair : Type 0
@@ -34,7 +32,6 @@ place q ws = count (λ w. less w q) ws
 unfoldable pub range : List ℕ → Words → Pair
 range q ws = (place q ws, count (begins q) ws)
 
--- ---- the descent
 -- along a row of groups, the first word number i, down into the one with symbol s at d; `stay` where none fits
 unfoldable pub childOf : (ℕ → Words → ℕ) → ℕ → ℕ → ℕ → ℕ → List Words → ℕ
 childOf down d s stay i [] = stay
@@ -43,8 +40,7 @@ childOf down d s stay i (g ∷ gs) =
     let more = childOf down d s stay (i + length g) gs in
     pick (eqb s (at (first g) d)) here more
 
--- From a group whose first word is number i: stop at a leaf, where the depth exceeds q's length, or where no child fits. A count of
--- the group's words is enough to count down.
+-- From a group whose first word is number i: stop at a leaf, where the depth exceeds q's length, or where no child fits.
 unfoldable pub reachWithin : ℕ → List ℕ → ℕ → Words → ℕ
 reachWithin zero q i ws = i
 reachWithin (suc n) q i [] = i
@@ -58,9 +54,8 @@ unfoldable pub reached : List ℕ → Words → ℕ
 reached q ws = reachWithin (length ws) q 0 ws
 
 unfoldable pub nearest : List ℕ → Words → Pair
-nearest q ws = (reached q ws, shared q (nth ws (reached q ws)))
+nearest q ws = (reached q ws, shared q (getD ws (reached q ws) []))
 
--- ---- by number
 unfoldable pub ask : ℕ → List ℕ → Words → Pair
 ask zero q ws = (0, 0)
 ask (suc zero) q ws = exact q ws

@@ -8,8 +8,8 @@ use mathlib.Core.Bool.{true}
 use mathlib.Core.List.{List, [], _∷_, _++_, map, append-assoc}
 use lib.ListN.{drop, length, length-append, length-map, take}
 use lib.Seq.{drop-at, slice, take-at}
-use Rattle.words.specs.Rising.{All, Rises, cons, nil}
-use Rattle.words.specs.Words.{Bytes, InBytes, Lawful, Rule, Words, nth, word}
+use Rattle.words.specs.Rising.{All, Rises, cons, nil, nth}
+use Rattle.words.specs.Words.{Bytes, InBytes, Lawful, Rule, Words, word}
 use Rattle.format.specs.Spans.{wordsOf}
 use Rattle.format.specs.Book.{Book, allFields, blockPart, book, entryPart, fits, mark, nodePart, numbers, opened, told}
 use Rattle.format.specs.Nodes.{table}

@@ -16,8 +16,8 @@ use lib.Dec.{ltb}
 use lib.ListN.{length, List·getD-eq-default}
 use lib.Seq.{take-length}
 use borrow.Author.Tests.{ltb-true, lt-ltb, le-ltb, eq-eqb}
-use Rattle.words.specs.Rising.{Positive, Rises, span}
-use Rattle.words.specs.Words.{Words, at, begins, both, less, nth, pick, same, shared}
+use Rattle.words.specs.Rising.{Positive, Rises, span, nth}
+use Rattle.words.specs.Words.{Words, at, begins, both, less, pick, same, shared}
 use Rattle.words.proofs.Lists.{all-from}
 use Rattle.words.proofs.Rising.{nth-less, span-all, span-length, span-split}
 use Rattle.words.proofs.Words.{Sides, apart, before, behind, both-true, false≠true, less-asym, less-by, less-irrefl, level, same-refl, same-side, same-true, shared-comm, short-no, sides}

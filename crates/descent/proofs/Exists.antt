@@ -10,8 +10,8 @@ use mathlib.Core.Path.{_≡_, refl}
 use mathlib.Core.Logic.{_⊎_, inl, inr}
 use mathlib.Core.List.{List}
 use lib.ListN.{length, set, replicate}
-use Rattle.words.specs.Rising.{Rises}
-use Rattle.words.specs.Words.{Words, at, nth}
+use Rattle.words.specs.Rising.{Rises, nth}
+use Rattle.words.specs.Words.{Words, at}
 use Rattle.words.proofs.Words.{apart}
 use Rattle.descent.proofs.Paths.{halt-end, halt-leaf, halt-other, halt-short, passed-few, passed-on, passed-room, passed-sits, passed-start, taken}
 use Rattle.descent.proofs.Rows.{seek-end, seek-found, seek-more, seek-some, seek-start}

@@ -13,8 +13,8 @@ use mathlib.Core.Logic.{_⊎_, inl, inr}
 use mathlib.Core.List.{List}
 use lib.ListN.{length, getD, set, length-set}
 use lib.Seq.{getD-set-same, getD-set-other}
-use Rattle.words.specs.Rising.{Rises}
-use Rattle.words.specs.Words.{Words, at, nth, shared}
+use Rattle.words.specs.Rising.{Rises, nth}
+use Rattle.words.specs.Words.{Words, at, shared}
 use Rattle.words.proofs.Rising.{nth-less, nth-positive}
 use Rattle.words.proofs.Words.{apart, further, leaves, shared-at, shared-comm, shared-le, shared-trans}
 use Rattle.format.specs.Spans.{deep}

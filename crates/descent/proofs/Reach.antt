@@ -15,8 +15,8 @@ use lib.Dec.{ltb, eqb}
 use lib.ListN.{length}
 use lib.Seq.{take-length, slice-cons}
 use borrow.Author.Tests.{eqb-true, eq-eqb, ne-eqb, lt-ltb, le-ltb}
-use Rattle.words.specs.Rising.{All, Rises, cons, span}
-use Rattle.words.specs.Words.{Words, at, nth, pick}
+use Rattle.words.specs.Rising.{All, Rises, cons, span, nth}
+use Rattle.words.specs.Words.{Words, at, pick}
 use Rattle.words.proofs.Rising.{rises-left, rises-right, span-all, span-length, span-one, span-rises, span-split, span-two}
 use Rattle.format.specs.Spans.{deep}
 use Rattle.format.specs.Nodes.{depth, first, glue, groups}

@@ -17,8 +17,8 @@ use mathlib.Core.Logic.{_⊎_, inl, inr}
 use mathlib.Core.List.{List, [], _∷_, _++_, append-assoc, append-nil}
 use lib.ListN.{length, getD, drop, length-append, length-drop}
 use lib.Seq.{take-length, drop-drop, drop-at}
-use Rattle.words.specs.Rising.{Rises, span}
-use Rattle.words.specs.Words.{Words, at, nth}
+use Rattle.words.specs.Rising.{Rises, span, nth}
+use Rattle.words.specs.Words.{Words, at}
 use Rattle.words.proofs.Rising.{span-length}
 use Rattle.words.proofs.Words.{apart}
 use Rattle.format.specs.Spans.{deep, rowTable, nodeTable}

@@ -16,8 +16,8 @@ use mathlib.Core.Path.{_≡_}
 use mathlib.Core.Logic.{_⊎_}
 use mathlib.Core.List.{List, _++_}
 use lib.ListN.{length, getD, drop}
-use Rattle.words.specs.Rising.{Rises, span}
-use Rattle.words.specs.Words.{Bytes, Rule, Words, at, nth, shared, word}
+use Rattle.words.specs.Rising.{Rises, span, nth}
+use Rattle.words.specs.Words.{Bytes, Rule, Words, at, shared, word}
 use Rattle.format.specs.Spans.{rowTable, wordsOf, Ranked, nodeTable}
 use Rattle.format.specs.Nodes.{Node, table}
 use Rattle.format.specs.Records.{longest, mostNames}

@@ -13,7 +13,7 @@ use lib.Seq.{take-append-seam, drop-append-seam, drop-append-add, drop-drop, dro
 use Rattle.words.specs.Words.{Bytes, shared}
 use Rattle.words.proofs.Words.{take-shared}
 use Rattle.format.specs.Book.{entryPart, joined}
-use Rattle.format.specs.Entries.{blockNames, blocks, blocksFrom, decode, decodeFrom, entry, front, offsets}
+use Rattle.format.specs.Entries.{blocks, blocksFrom, decode, decodeFrom, entry, front, offsets}
 
 pub decode-skip : (prev : Bytes) (n : ℕ) (s : Bytes) → decodeFrom prev n s ≡ decodeFrom prev 0 (drop n s)
 unfolding decodeFrom
@@ -87,14 +87,14 @@ by-blocks k h P none more xs = go (length xs) xs (omega arith)
     go (suc n) [] l = none
     go (suc n) (y ∷ ys) l = more y ys (go n (drop k (y ∷ ys)) (omega (arith, length-drop k (y ∷ ys))))
 
-pub joined-blocks : (k : ℕ) (xs : List Bytes) → 1 ≤ k → joinedNames (blockNames k xs) ≡ xs
+pub joined-blocks : (k : ℕ) (xs : List Bytes) → 1 ≤ k → joinedNames (blocksFrom k 0 xs) ≡ xs
 unfolding blocksFrom
 joined-blocks k xs h = by-blocks k h (λ (ys : List Bytes). joinedNames (blocksFrom k 0 ys) ≡ ys) refl
     (λ y ys ih. ap joinedNames (blocks-first k y ys h) ∙ ap (λ (r : List Bytes). take k (y ∷ ys) ++ r) ih ∙ take-append-drop k (y ∷ ys)) xs
 
 pub decode-entries : (k : ℕ) (xs : List Bytes) → 1 ≤ k → decode (entryPart k xs) ≡ xs
 unfolding decode blocks entryPart
-decode-entries k xs h = decode-blocks [] (blockNames k xs) ∙ joined-blocks k xs h
+decode-entries k xs h = decode-blocks [] (blocksFrom k 0 xs) ∙ joined-blocks k xs h
 
 -- the entries of a book are those of its first block, and then those of the book of the names after it
 pub entries-first : (k : ℕ) (x : Bytes) (xs : List Bytes) → 1 ≤ k → entryPart k (x ∷ xs) ≡ front [] (take k (x ∷ xs)) ++ entryPart k (drop k (x ∷ xs))
@@ -119,7 +119,7 @@ drop-joined (suc j) (b ∷ bs) =
     ap (λ (n : ℕ). drop n (b ++ joined bs)) (length-append b (joined (take j bs)))
     ∙ drop-append-add b (joined bs) (length (joined (take j bs))) ∙ drop-joined j bs
 
-drop-blocks : (k j : ℕ) (xs : List Bytes) → 1 ≤ k → drop j (blockNames k xs) ≡ blocksFrom k 0 (drop (j * k) xs)
+drop-blocks : (k j : ℕ) (xs : List Bytes) → 1 ≤ k → drop j (blocksFrom k 0 xs) ≡ blocksFrom k 0 (drop (j * k) xs)
 unfolding blocksFrom
 drop-blocks k zero xs h = let n : 0 ≡ 0 * k = omega arith in ap (λ (m : ℕ). blocksFrom k 0 (drop m xs)) n
 drop-blocks k (suc j) [] h = ap (blocksFrom k 0) (sym (drop-nil (suc j * k)))
@@ -129,7 +129,7 @@ drop-blocks k (suc j) (x ∷ xs) h =
     ∙ drop-blocks k j (drop k (x ∷ xs)) h
     ∙ ap (blocksFrom k 0) (drop-drop (j * k) k (x ∷ xs) ∙ ap (λ (m : ℕ). drop m (x ∷ xs)) n)
 
-some-block : (k : ℕ) (xs : List Bytes) → 0 < length xs → 0 < length (blockNames k xs)
+some-block : (k : ℕ) (xs : List Bytes) → 0 < length xs → 0 < length (blocksFrom k 0 xs)
 unfolding blocksFrom
 some-block k [] h = h
 some-block k (x ∷ xs) h = omega arith
@@ -145,7 +145,7 @@ pub decode-at : (k j : ℕ) (prev : Bytes) (xs : List Bytes) → 1 ≤ k → j *
 unfolding blocks entryPart
 decode-at k j prev xs h l =
     let ys : List Bytes = drop (j * k) xs in
-    let e : drop j (blocks k xs) ≡ blocks k ys = map-drop j (blockNames k xs) ∙ ap (map (front [])) (drop-blocks k j xs h) in
+    let e : drop j (blocks k xs) ≡ blocks k ys = map-drop j (blocksFrom k 0 xs) ∙ ap (map (front [])) (drop-blocks k j xs h) in
     let some : 0 < length (blocksFrom k 0 ys) = some-block k ys (omega (arith, length-drop (j * k) xs)) in
     let there : j < length (blocks k xs) = omega (arith, ap length e, length-drop j (blocks k xs), length-map (blocksFrom k 0 ys) (front [])) in
     let o : getD (offsets 0 (blocks k xs)) j 0 ≡ length (joined (take j (blocks k xs))) = omega (arith, offset-at 0 j (blocks k xs) there) in

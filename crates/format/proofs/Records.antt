@@ -15,8 +15,8 @@ use lib.Dec.{leb, ltb}
 use lib.ListN.{length, length-map, getD, take, drop, length-append, take-append-drop}
 use lib.Seq.{take-append-seam, drop-append-seam, length-take-le}
 use borrow.Author.Tests.{lt-ltb, ltb-true, leb-true, le-leb}
-use Rattle.words.specs.Rising.{All, Rises, cons, nil, rise, start}
-use Rattle.words.specs.Words.{Bytes, Lawful, Rule, both, less, nth, pick, word}
+use Rattle.words.specs.Rising.{All, Rises, cons, nil, rise, start, nth}
+use Rattle.words.specs.Words.{Bytes, Lawful, Rule, both, less, pick, word}
 use Rattle.words.proofs.Lists.{all-map}
 use Rattle.words.proofs.Rising.{Above}
 use Rattle.words.proofs.Words.{both-true, less-start, less-trans, word-positive}

@@ -14,8 +14,8 @@ use mathlib.Core.Logic.{_⊎_, inl, inr}
 use mathlib.Core.List.{List, [], _∷_, _++_, append-assoc}
 use lib.ListN.{length}
 use lib.Seq.{take-length, slice-empty, length-slice}
-use Rattle.words.specs.Rising.{All, Rises, cons, nil, span}
-use Rattle.words.specs.Words.{Words, at, nth, shared}
+use Rattle.words.specs.Rising.{All, Rises, cons, nil, span, nth}
+use Rattle.words.specs.Words.{Words, at, shared}
 use Rattle.words.proofs.Lists.{all-append}
 use Rattle.words.proofs.Rising.{nth-less, nth-positive, span-all, span-cons, span-length, span-one, span-rises, span-split, span-two}
 use Rattle.words.proofs.Words.{apart, between, less-at, less-parts, shared-comm, shared-le, shared-self, shared-trans}

@@ -1,11 +1,8 @@
--- Document 01, 'Layout of a book': the four parts without gaps, numbers wider than a byte in two bytes, low byte first; and demand
--- 3: what bytes are a book.
+-- Document 01, 'Layout of a book': four parts without gaps, numbers in two bytes, low byte first; demand 3: what bytes are a book.
 --     numbers, number   numbers as bytes; the number that stands at an offset
---     entryPart, blockPart, nodePart, trailer    the four parts
---     book              the whole, for a block size and names
+--     entryPart, blockPart, nodePart, trailer, book     the four parts; the whole, for a block size and names
 --     fits, told        a book can be built from these; what the trailer tells
---     namesOf           the names that bytes would be the book of
---     opened            the block size and the names of a book, or none
+--     namesOf, opened   the names that bytes would be the book of; the block size and the names of a book, or none
 -- The laws are in proofs/Book.antt. Assumes nothing: these are definitions.
 use Prim.Native.Nat.{ℕ, _+_, _-_, _*_, _/_, _%_}
 use mathlib.Core.Bool.{Bool}
@@ -67,7 +64,6 @@ book ρ k xs =
     let end = trailer (length xs) k (length es) (length es + length bs) (length rs) (length es + length bs + length ns + trailerSize) in
     es ++ (bs ++ (ns ++ end))
 
--- ---- what bytes are a book
 abbrev pub goodBlock : ℕ → Bool
 goodBlock k = both (leb 1 k) (leb k 64)
 

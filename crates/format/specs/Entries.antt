@@ -1,8 +1,6 @@
 -- Document 01, 'Layout of a book', parts 1 and 2: the entries, in blocks of k names, and where each block begins.
 --     entry, front      what a name adds to the one before it; the entries of names in a row
---     blockNames        the names in blocks
---     blocks            each block's entries
---     offsets           where each of them begins
+--     blocks, offsets   each block's entries; where each of them begins
 --     decode            the names that a run of entries tells
 -- The laws are in proofs/Entries.antt. Assumes nothing: these are definitions.
 use Prim.Native.Nat.{ℕ, zero, suc, _+_, pred}
@@ -27,20 +25,16 @@ blocksFrom k zero (x ∷ xs) = take k (x ∷ xs) ∷ blocksFrom k (pred k) xs
 blocksFrom k (suc skip) [] = []
 blocksFrom k (suc skip) (x ∷ xs) = blocksFrom k skip xs
 
-abbrev pub blockNames : ℕ → List Bytes → List (List Bytes)
-blockNames k xs = blocksFrom k 0 xs
-
 -- a block's first name comes after nothing, so its count is 0
 unfoldable pub blocks : ℕ → List Bytes → List Bytes
-blocks k xs = map (front []) (blockNames k xs)
+blocks k xs = map (front []) (blocksFrom k 0 xs)
 
 -- the first at o
 unfoldable pub offsets : ℕ → List Bytes → List ℕ
 offsets o [] = []
 offsets o (b ∷ bs) = o ∷ offsets (o + length b) bs
 
--- Each entry gives the name and the place of the next entry: after the name prev, with `skip` bytes of the entry before to pass.
--- It ends on any bytes; what it gives is judged by building the book again.
+-- After the name prev, with `skip` bytes of the entry before to pass. Total; what it gives is judged by building the book again.
 unfoldable pub decodeFrom : Bytes → ℕ → Bytes → List Bytes
 decodeFrom prev zero [] = []
 decodeFrom prev zero (c ∷ []) = []

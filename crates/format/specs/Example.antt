@@ -1,6 +1,5 @@
 -- Document 01, 'A book in full' and 'Checked on that book': Mar, Marina and Market Square, in blocks of two and in one block.
---     text, example     a text of ASCII as bytes; the three names
---     exampleBy2, exampleBy4     the two books, byte for byte
+--     text, example, exampleBy2, exampleBy4     a text of ASCII as bytes; the three names; the two books, byte for byte
 --     marked            the twelve rows marked P: kind, question and what it is to give
 -- That layout and questions yield them is computed, in proofs/Example.antt here and in answers, and of the books' bytes in theorems.
 use Prim.Native.Char.{code}
@@ -36,10 +35,7 @@ exampleBy4 =
     (0x00 ∷ 0x00 ∷ exampleNodes ++
     (0x03 ∷ 0x00 ∷ 0x04 ∷ 0x00 ∷ 0x16 ∷ 0x00 ∷ 0x18 ∷ 0x00 ∷ 0x04 ∷ 0x00 ∷ 0x50 ∷ 0x00 ∷ 0x4E ∷ 0x42 ∷ 0x4B ∷ 0x31 ∷ []))))
 
-abbrev pub Marked : Type 0
-Marked = ℕ × String × (ℕ × ℕ)
-
-abbrev pub marked : List Marked
+abbrev pub marked : List (ℕ × String × (ℕ × ℕ))
 marked =
     (1, "Marina", (1, 1)) ∷ (1, "Marin", (0, 0))
     ∷ (2, "", (0, 0)) ∷ (2, "Mark", (2, 0)) ∷ (2, "Maxim", (3, 0))

@@ -1,9 +1,6 @@
--- Document 01, 'Layout of a book', part 3: the node table. A node is a group of words that stand together in the list; there is no
--- tree besides the list.
---     depth             the count of leading symbols that a group shares
---     groups            a row of children: one group for each symbol that follows there
---     Node, leaf, fork  a record; that of one word; that of several
---     table             the whole
+-- Document 01, 'Layout of a book', part 3: the node table. A node is a group of words that stand together in the list.
+--     depth, groups     the count of leading symbols that a group shares; one group for each symbol that follows there
+--     Node, leaf, fork, table    a record; that of one word; that of several; the whole
 -- The laws are in proofs/Groups.antt and proofs/Spans.antt. Assumes nothing: these are definitions.
 use Prim.Native.Nat.{ℕ, zero, suc, _+_, min}
 use mathlib.Core.List.{List, [], _∷_, _++_}

@@ -1,11 +1,7 @@
 -- Document 01, 'Numbers given back when a call says no': what a call gives, and what it leaves in a lent room.
---     Answer            the code, and two numbers beside it
---     given, refused    code 0 and two numbers; a refusal, with 0 beside it
---     numbered          a refusal, or 0, and one number beside it
---     Written           an answer, and the lent room afterwards
---     over, write       the front of a room is written; 4 where it is too short
---     checkOf           what opened bytes give: how many names in blocks of how many, or 2
--- Assumes nothing: these are definitions.
+--     Answer            the code, and two numbers beside it; given, numbered, refused: with two, one and none of them
+--     Written, over, write   an answer, and the lent room afterwards; its front is written
+--     checkOf           what opened bytes give: how many names in blocks of how many, or 2. Assumes nothing: these are definitions.
 use Prim.Native.Nat.{ℕ}
 use mathlib.Core.List.{_++_}
 use lib.Dec.{leb}

@@ -1,9 +1,7 @@
 -- Document 01, 'A list is a run of records': one length byte, then that many bytes; names strictly rise, and the first bad record
 -- ends the reading with refusal 5, 6 or 7 and the record's number.
 --     longest, mostNames, goodLength    1 to 200 bytes; 2,000 names
---     readList          the names of a list, or the refusal
---     encode            the records of names
---     sound             names that a list can have
+--     readList, encode, sound           the names of a list, or the refusal; the records of names; names that a list can have
 -- The laws are in proofs/Records.antt. Assumes nothing: these are definitions.
 use Prim.Native.Nat.{ℕ, zero, suc}
 use mathlib.Core.Bool.{Bool, true}

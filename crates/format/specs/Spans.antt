@@ -10,8 +10,8 @@
 use Prim.Native.Nat.{ℕ, _*_, pred, _≤_}
 use mathlib.Core.List.{List, [], _∷_, map}
 use lib.ListN.{length}
-use Rattle.words.specs.Words.{Bytes, Rule, Words, at, nth, shared, word}
-use Rattle.words.specs.Rising.{All, Rises}
+use Rattle.words.specs.Words.{Bytes, Rule, Words, at, shared, word}
+use Rattle.words.specs.Rising.{All, Rises, nth}
 use Rattle.format.specs.Nodes.{Node, groups, rowBy, tableWithin}
 use Rattle.format.specs.Book.{namesOf}
 

@@ -7,7 +7,8 @@ use Prim.Native.Nat.{ℕ, suc, _+_, _*_, _≤_, _<_}
 use native.Mathlib.Omega.{arith}
 use mathlib.Core.Path.{_≡_, refl, sym, ap, _∙_, subst}
 use lib.ListN.{length}
-use Rattle.words.specs.Words.{Bytes, nth, plain}
+use Rattle.words.specs.Words.{Bytes, plain}
+use Rattle.words.specs.Rising.{nth}
 use Rattle.format.specs.Spans.{wordsOf, nodeSize}
 use Rattle.format.specs.Book.{namesOf}
 use Rattle.format.specs.Nodes.{Node, leaf}

@@ -10,7 +10,8 @@ use native.Mathlib.Omega.{arith}
 use mathlib.Core.Path.{_≡_, refl, sym, _∙_, subst}
 use mathlib.Core.Bool.{Bool, false, not, true}
 use lib.ListN.{length, getD}
-use Rattle.words.specs.Words.{Bytes, at, nth, plain, shared, word}
+use Rattle.words.specs.Words.{Bytes, at, plain, shared, word}
+use Rattle.words.specs.Rising.{nth}
 use Rattle.words.proofs.Words.{false≠true}
 use Rattle.format.specs.Book.{namesOf, trailerSize, told}
 use Rattle.format.specs.Spans.{deep, wordsOf, nodeSize}

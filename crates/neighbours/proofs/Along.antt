@@ -12,7 +12,8 @@ use mathlib.Core.List.{List, [], _++_}
 use lib.ListN.{length, getD, take, drop, length-take, length-drop, length-map}
 use lib.Seq.{length-take-le}
 use borrow.Author.Tests.{le-ltb, lt-ltb}
-use Rattle.words.specs.Words.{Bytes, less, nth, plain, shared}
+use Rattle.words.specs.Words.{Bytes, less, plain, shared}
+use Rattle.words.specs.Rising.{nth}
 use Rattle.words.proofs.Rising.{nth-less}
 use Rattle.words.proofs.Words.{Sides, apart, before, behind, less-short, level, plain-injective, shared-append, shared-comm, shared-front, shared-trans, shared-two, shared-word, sides}
 use Rattle.format.specs.Spans.{wordsOf}

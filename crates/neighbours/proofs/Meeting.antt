@@ -12,7 +12,8 @@ use mathlib.Core.List.{List, []}
 use lib.ListN.{length, getD}
 use mir.Val.{Fits}
 use mir.Syntax.{w64}
-use Rattle.words.specs.Words.{Bytes, nth, plain, shared}
+use Rattle.words.specs.Words.{Bytes, plain, shared}
+use Rattle.words.specs.Rising.{nth}
 use Rattle.words.proofs.Words.{apart, plain-injective, shared-word}
 use Rattle.format.specs.Spans.{wordsOf}
 use Rattle.format.specs.Book.{number, namesOf, told}

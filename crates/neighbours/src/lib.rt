@@ -3,7 +3,8 @@
 ghost use mathlib.Core.Path.{_≡_};
 ghost use Prim.Native.Nat.{pred, _≤_};
 ghost use lib.ListN.{drop, length};
-ghost use Rattle.words.specs.Words.{nth, plain, shared};
+ghost use Rattle.words.specs.Words.{plain, shared};
+ghost use Rattle.words.specs.Rising.{nth};
 ghost use Rattle.format.specs.Spans.{wordsOf};
 ghost use Rattle.streams.specs.Streams.{entryEnd, restAt};
 ghost use Rattle.neighbours.specs.Neighbours.{AlongAsk, AlongSays, MeetAsk, NextAsk, RestAsk, sharedNext};

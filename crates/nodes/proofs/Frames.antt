@@ -17,8 +17,8 @@ use mathlib.Core.Logic.{_⊎_, inl, inr}
 use mathlib.Core.List.{List, _++_, append-assoc, _∷_, [], append-nil}
 use lib.ListN.{length, getD, length-append, length-set, set}
 use lib.Seq.{getD-set-other, getD-set-same, length-sets, sets, take-length}
-use Rattle.words.specs.Rising.{Rises, span}
-use Rattle.words.specs.Words.{Words, at, nth, shared}
+use Rattle.words.specs.Rising.{Rises, span, nth}
+use Rattle.words.specs.Words.{Words, at, shared}
 use Rattle.words.proofs.Rising.{nth-less, nth-positive, span-length}
 use Rattle.words.proofs.Words.{between, less-parts, less-short, shared-at, shared-comm, shared-le, shared-self, shared-trans}
 use Rattle.format.specs.Spans.{deep, rowTable, Ranked, nodeTable}

@@ -14,7 +14,8 @@ use mathlib.Core.Path.{_≡_, refl, sym, ap, ap₂, _∙_, subst}
 use mathlib.Core.List.{List, [], _∷_, _++_}
 use lib.ListN.{length, getD, take, drop, length-append, length-drop, length-map, replicate}
 use lib.Seq.{drop-at, drop-drop, length-take-le, getD-drop, drop-length}
-use Rattle.words.specs.Words.{Bytes, Words, at, nth, plain, shared, word}
+use Rattle.words.specs.Words.{Bytes, Words, at, plain, shared, word}
+use Rattle.words.specs.Rising.{nth}
 use Rattle.words.proofs.Rising.{nth-less}
 use Rattle.words.proofs.Words.{at-past, less-short, plain-injective, shared-word}
 use Rattle.format.specs.Book.{allFields, fields, nodePart, numbers}

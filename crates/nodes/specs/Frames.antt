@@ -17,8 +17,8 @@ use mathlib.Core.Path.{_≡_}
 use mathlib.Core.List.{List, [], _∷_, _++_}
 use lib.ListN.{length, getD, drop}
 use lib.Seq.{sets}
-use Rattle.words.specs.Rising.{span}
-use Rattle.words.specs.Words.{Bytes, Words, at, shared, nth}
+use Rattle.words.specs.Rising.{span, nth}
+use Rattle.words.specs.Words.{Bytes, Words, at, shared}
 use Rattle.format.specs.Spans.{deep, rowTable, nodeSize, nodeTable}
 use Rattle.format.specs.Nodes.{Node}
 use Rattle.format.specs.Book.{nodePart, number, numbers}

@@ -12,8 +12,8 @@ use Prim.Native.Nat.{ℕ, suc, pred, _+_, _*_, _≤_, _<_}
 use mathlib.Core.Path.{_≡_}
 use mathlib.Core.List.{List, _∷_}
 use lib.ListN.{length, drop}
-use Rattle.words.specs.Rising.{Rises}
-use Rattle.words.specs.Words.{Bytes, Words, nth, plain, word}
+use Rattle.words.specs.Rising.{Rises, nth}
+use Rattle.words.specs.Words.{Bytes, Words, plain, word}
 use Rattle.format.specs.Nodes.{Node, table}
 use Rattle.format.specs.Book.{nodePart}
 use Rattle.format.specs.Spans.{nodeSize}

@@ -11,8 +11,8 @@ use mathlib.Core.Path.{_≡_, refl, sym, ap, _∙_}
 use mathlib.Core.List.{List, [], _∷_, _++_, append-assoc, append-nil}
 use lib.ListN.{length, getD, take, drop, length-append, length-map, take-append-drop}
 use lib.Seq.{getD-drop, take-suc, drop-drop, drop-cons, drop-at, take-at, take-all}
-use Rattle.words.specs.Rising.{Rises}
-use Rattle.words.specs.Words.{Bytes, nth, plain, word}
+use Rattle.words.specs.Rising.{Rises, nth}
+use Rattle.words.specs.Words.{Bytes, plain, word}
 use Rattle.words.proofs.Lists.{all-at}
 use Rattle.words.proofs.Rising.{nth-word}
 use Rattle.words.proofs.Words.{plain-lawful}

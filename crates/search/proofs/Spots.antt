@@ -14,8 +14,8 @@ use mathlib.Core.Path.{_≡_, _∙_, ap, ap₂, subst, sym}
 use mathlib.Core.Logic.{_⊎_, inl, inr}
 use mathlib.Core.List.{List, []}
 use lib.ListN.{getD, length, length-map, take}
-use Rattle.words.specs.Rising.{Positive}
-use Rattle.words.specs.Words.{Bytes, Words, at, begins, nth, plain, shared, word}
+use Rattle.words.specs.Rising.{Positive, nth}
+use Rattle.words.specs.Words.{Bytes, Words, at, begins, plain, shared, word}
 use Rattle.words.proofs.Rising.{nth-positive, nth-word}
 use Rattle.words.proofs.Words.{apart, at-past, plain-lawful, shared-le, shared-parts, shared-self, word-positive}
 use Rattle.format.specs.Nodes.{table}

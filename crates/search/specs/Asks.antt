@@ -12,7 +12,8 @@ use Prim.Native.Nat.{ℕ, _<_, _≤_}
 use mathlib.Core.Path.{_≡_}
 use mathlib.Core.List.{List}
 use lib.ListN.{getD, length}
-use Rattle.words.specs.Words.{Bytes, Words, at, nth, plain, shared}
+use Rattle.words.specs.Words.{Bytes, Words, at, plain, shared}
+use Rattle.words.specs.Rising.{nth}
 use Rattle.format.specs.Nodes.{table}
 use Rattle.answers.specs.Questions.{Pair as Numbers, reached}
 use Rattle.descent.specs.Vocabulary.{Halts, Located, Searchable, Sits, Taken, asked, node}

@@ -1,7 +1,5 @@
 -- What a call of the code leaves, as document 01's numbers.
---     answered, rowOf   an answer; a row of a batch
---     written           an answer, and the room that was left
---     batched           an answer, and the answer rows that were left
+--     answered, rowOf, written, batched     an answer; a row of a batch; an answer with the room, or the answer rows, that were left
 -- Their laws are in proofs/Shapes.antt. Assumes nothing: these are definitions.
 use mathlib.Core.List.{List, map}
 use Rattle.words.specs.Words.{Bytes}

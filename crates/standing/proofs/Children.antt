@@ -13,8 +13,8 @@ use mathlib.Core.Path.{_≡_, refl, sym, ap, _∙_, subst}
 use mathlib.Core.Logic.{inl, inr}
 use mathlib.Core.List.{List, [], _∷_, _++_}
 use lib.ListN.{length}
-use Rattle.words.specs.Rising.{Rises, span}
-use Rattle.words.specs.Words.{Bytes, Words, at, nth, shared}
+use Rattle.words.specs.Rising.{Rises, span, nth}
+use Rattle.words.specs.Words.{Bytes, Words, at, shared}
 use Rattle.words.proofs.Rising.{nth-less, nth-positive, span-length}
 use Rattle.words.proofs.Words.{further, less-parts, part-at, shared-at, shared-le, shared-self, shared-trans}
 use Rattle.format.specs.Spans.{deep, rowTable, nodeTable}

@@ -14,8 +14,8 @@ use native.Mathlib.Omega.{arith}
 use mathlib.Core.Path.{_≡_, refl, sym, ap, _∙_, subst}
 use mathlib.Core.Logic.{_⊎_, inl, inr}
 use lib.ListN.{length}
-use Rattle.words.specs.Rising.{Rises, span}
-use Rattle.words.specs.Words.{Bytes, Words, at, nth, shared}
+use Rattle.words.specs.Rising.{Rises, span, nth}
+use Rattle.words.specs.Words.{Bytes, Words, at, shared}
 use Rattle.words.proofs.Rising.{nth-less}
 use Rattle.words.proofs.Words.{less-short, shared-comm, shared-le}
 use Rattle.format.specs.Spans.{deep, rowTable, nodeTable}

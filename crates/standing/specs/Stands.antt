@@ -8,8 +8,8 @@
 use Prim.Native.Nat.{ℕ, suc, _+_, _≤_, _<_}
 use mathlib.Core.Path.{_≡_}
 use mathlib.Core.List.{List, [], _∷_}
-use Rattle.words.specs.Rising.{span}
-use Rattle.words.specs.Words.{Bytes, Words, at, nth}
+use Rattle.words.specs.Rising.{span, nth}
+use Rattle.words.specs.Words.{Bytes, Words, at}
 use Rattle.format.specs.Spans.{deep, rowTable, nodeTable}
 use Rattle.format.specs.Nodes.{Node}
 use Rattle.standing.specs.Maps.{Map, Roomy, recordAt}

@@ -14,7 +14,8 @@ use mathlib.Core.Logic.{inl, inr}
 use mathlib.Core.List.{List, [], _∷_, _++_}
 use lib.ListN.{length, getD, take, drop, length-append, length-take, length-drop, length-map}
 use lib.Seq.{drop-cons}
-use Rattle.words.specs.Words.{Bytes, at, nth, plain, word}
+use Rattle.words.specs.Words.{Bytes, at, plain, word}
+use Rattle.words.specs.Rising.{nth}
 use Rattle.words.proofs.Rising.{nth-word}
 use Rattle.words.proofs.Words.{Sides, before, behind, level, sides}
 use Rattle.format.specs.Records.{longest}

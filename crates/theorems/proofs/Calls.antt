@@ -17,7 +17,7 @@ use Rattle.words.specs.Words.{Bytes, Rule, both, pick}
 use Rattle.format.specs.Book.{Book, NoBook, Opened, opened}
 use Rattle.format.specs.Outcomes.{Answer, Written, given, over, refused, write}
 use Rattle.answers.specs.Calls.{Batched, Row, batch, build, check, goodRow, question, questionOf, readBack, readBackOf, rowAnswer}
-use Rattle.theorems.specs.Demands.{Alike, Answered, answerAt, rowAt, spanOf}
+use Rattle.theorems.specs.Demands.{Alike, answerAt, rowAt, spanOf}
 use Rattle.answers.proofs.Calls.{batch-rows}
 use Rattle.shapes.specs.Shapes.{answered}
 use Rattle.shapes.specs.declared.Answer.{Answer as Given}
@@ -90,7 +90,7 @@ module _ (room other : Bytes) (e : length room ≡ length other) where
 
 -- a row, and the answer row in its place; past the last one, a row of kind 0, and its answer
 module _ (ρ : Rule) (s : Bytes) where
-  module _ (buffer : Bytes) (rows : List Row) (answers : List Answer) (ok : Answered ρ s buffer rows answers) (i : ℕ) where
+  module _ (buffer : Bytes) (rows : List Row) (answers : List Answer) (ok : batch ρ s buffer rows answers .answer .code ≡ 0) (i : ℕ) where
     row-is : answerAt (batch ρ s buffer rows answers) i ≡ rowAnswer ρ (opened ρ s) buffer (rowAt rows i)
     unfolding rowAnswer
     row-is =
@@ -103,7 +103,7 @@ module _ (ρ : Rule) (s : Bytes) where
     batch-alone = row-is
 
   -- another call on the same book, with a buffer of the same length, in which row j is row i, with the same bytes
-  pub batch-regardless : (buffer other : Bytes) (rows others : List Row) (answers places : List Answer) → Answered ρ s buffer rows answers → Answered ρ s other others places
+  pub batch-regardless : (buffer other : Bytes) (rows others : List Row) (answers places : List Answer) → batch ρ s buffer rows answers .answer .code ≡ 0 → batch ρ s other others places .answer .code ≡ 0
       → (i j : ℕ) → rowAt rows i ≡ rowAt others j → length buffer ≡ length other → spanOf buffer (rowAt rows i) ≡ spanOf other (rowAt rows i)
       → answerAt (batch ρ s buffer rows answers) i ≡ answerAt (batch ρ s other others places) j
   unfolding rowAnswer

@@ -1,6 +1,8 @@
 -- Document 01's examples, computed: the two books byte for byte, and the twelve rows marked P, asked of the book's 85 bytes.
 --     example-books, example-lengths, example-rows
 -- Assumes nothing.
+use Prim.Native.Nat.{ℕ}
+use Prim.Native.String.{String}
 use mathlib.Core.Path.{_≡_, refl}
 use mathlib.Core.List.{[], _∷_, map}
 use lib.ListN.{length}
@@ -10,7 +12,7 @@ use Rattle.format.specs.Entries.{blocks, blocksFrom, decode, decodeFrom, entry,
 use Rattle.format.specs.Nodes.{depth, glue, groups, rowBy, table, tableWithin}
 use Rattle.format.specs.Spans.{nodeTable}
 use Rattle.format.specs.Records.{rising, sound}
-use Rattle.format.specs.Example.{example, exampleBy2, exampleBy4, text, Marked, marked}
+use Rattle.format.specs.Example.{example, exampleBy2, exampleBy4, text, marked}
 use Rattle.format.proofs.Example.{book-lengths, books}
 use Rattle.format.specs.Outcomes.{Answer, given}
 use Rattle.answers.specs.Calls.{question, questionOf}
@@ -23,10 +25,10 @@ pub example-lengths : map (λ (s : Bytes). length s) (exampleBy2 ∷ exampleBy4 
 example-lengths = book-lengths
 
 -- a row as the call gives it, and as the table has it
-abbrev asked : Marked → Answer
+abbrev asked : ℕ × String × (ℕ × ℕ) → Answer
 asked a = question plain (a .0) exampleBy2 (text (a .1))
 
-abbrev listed : Marked → Answer
+abbrev listed : ℕ × String × (ℕ × ℕ) → Answer
 listed a = given (a .2 .0) (a .2 .1)
 
 pub example-rows : map asked marked ≡ map listed marked

@@ -17,8 +17,8 @@ use mathlib.Core.List.{List, [], _∷_, map}
 use lib.Dec.{eqb, leb, ltb}
 use lib.ListN.{length, getD, length-map}
 use borrow.Author.Tests.{eq-eqb, le-ltb, lt-ltb, ltb-true, ne-eqb}
-use Rattle.words.specs.Rising.{Rises}
-use Rattle.words.specs.Words.{Bytes, Lawful, Rule, Words, begins, both, less, nth, pick, plain, same, shared, word}
+use Rattle.words.specs.Rising.{Rises, nth}
+use Rattle.words.specs.Words.{Bytes, Lawful, Rule, Words, begins, both, less, pick, plain, same, shared, word}
 use Rattle.words.proofs.Rising.{nth-word}
 use Rattle.words.proofs.Words.{apart, both-true, less-nil, less-other, less-same, less-start, plain-injective, plain-lawful, same-true, shared-word, word-injective, word-positive}
 use Rattle.format.specs.Records.{sound}

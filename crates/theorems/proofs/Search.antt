@@ -16,8 +16,8 @@ use mathlib.Core.Path.{_≡_, refl, sym, ap, ap₂, _∙_}
 use mathlib.Core.Bool.{true}
 use mathlib.Core.List.{List, map}
 use lib.ListN.{length, length-map}
-use Rattle.words.specs.Rising.{Rises}
-use Rattle.words.specs.Words.{Bytes, InBytes, Lawful, Rule, Words, at, begins, nth, shared, word}
+use Rattle.words.specs.Rising.{Rises, nth}
+use Rattle.words.specs.Words.{Bytes, InBytes, Lawful, Rule, Words, at, begins, shared, word}
 use Rattle.words.proofs.Words.{word-positive}
 use Rattle.format.specs.Book.{Book, opened, told}
 use Rattle.format.specs.Records.{sound}

@@ -1,12 +1,9 @@
 -- Demand 3, and document 01's 'A path from the root': what the theorems speak of besides the layout and the calls.
 --     BookOf            the layout yields these bytes for this block size and this list of names
---     RoundTrip         what a build that is not refused leaves, and what reading it back gives
---     comesBefore       document 01's order, by bytes
+--     RoundTrip, comesBefore     what a build leaves, and what reading it back gives; document 01's order, by bytes
 --     Path, Climbing    the depths of the nodes on a path down from the node of some words; each number is below the next
---     Alike             two calls left the same, as far as their answers count
---     rowAt, answerAt, spanOf, Answered     a batch, row by row; it is not refused
---     Greatest          no name shares more with a question than the one at a position
--- Assumes nothing: these are definitions.
+--     Alike, rowAt, answerAt, spanOf     two calls left the same, as far as their answers count; a batch, row by row
+--     Greatest          no name shares more with a question than the one at a position. Assumes nothing: these are definitions.
 use Prim.Native.Nat.{ℕ, suc, _≤_, _<_}
 use mathlib.Core.Path.{_≡_}
 use mathlib.Core.Bool.{Bool, false, true}
@@ -19,7 +16,7 @@ use Rattle.format.specs.Nodes.{depth, groups}
 use Rattle.format.specs.Book.{longestBook, book}
 use Rattle.format.specs.Outcomes.{Answer, Written, given, over, refused}
 use Rattle.answers.specs.Questions.{Pair}
-use Rattle.answers.specs.Calls.{Batched, Row, batch, check, readBack}
+use Rattle.answers.specs.Calls.{Batched, Row, check, readBack}
 
 pub record BookOf (ρ : Rule) (s : Bytes) (k : ℕ) (xs : List Bytes) : Type 0 where
   pub block : (1 ≤ k) × (k ≤ 64)
@@ -30,8 +27,7 @@ pub record BookOf (ρ : Rule) (s : Bytes) (k : ℕ) (xs : List Bytes) : Type 0 w
   pub layout : book ρ k xs ≡ s
   pub short : length s ≤ longestBook
 
--- w is what the build left; the list is the records of `names`, the room holds their book, and the bytes that the answer counts are checked
--- and read back as any book is, each name into any room that holds it
+-- w is what the build left; the bytes that its answer counts are checked and read back, each name into any room that holds it
 pub record RoundTrip (ρ : Rule) (list : Bytes) (k : ℕ) (room : Bytes) (w : Written) : Type 0 where
   pub names : List Bytes
   pub listed : encode names ≡ list
@@ -72,9 +68,6 @@ answerAt b i = getD (b .rows) i (refused 11)
 -- a row's own bytes in the buffer
 abbrev pub spanOf : Bytes → Row → Bytes
 spanOf buffer r = take (r .size) (drop (r .start) buffer)
-
-abbrev pub Answered : Rule → Bytes → Bytes → List Row → List Answer → Type 0
-Answered ρ s buffer rows answers = batch ρ s buffer rows answers .answer .code ≡ 0
 
 pub record Greatest (ρ : Rule) (q : Bytes) (xs : List Bytes) (a : Pair) : Type 0 where
   pub within : a .0 < length xs

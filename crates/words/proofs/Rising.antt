@@ -12,8 +12,8 @@ use mathlib.Core.Bool.{true}
 use mathlib.Core.List.{map, List, [], _∷_, _++_}
 use lib.ListN.{length, getD, take, drop, take-append-drop}
 use lib.Seq.{slice-empty, slice-cons, length-slice, take-take, drop-append-le, length-take-le}
-use Rattle.words.specs.Rising.{All, Positive, Rises, cons, nil, rise, span, start}
-use Rattle.words.specs.Words.{Bytes, Rule, Words, less, nth, word}
+use Rattle.words.specs.Rising.{All, Positive, Rises, cons, nil, rise, span, start, nth}
+use Rattle.words.specs.Words.{Bytes, Rule, Words, less, word}
 use Rattle.words.proofs.Lists.{all-at, all-left}
 
 abbrev pub Above : List ℕ → Words → Type 0

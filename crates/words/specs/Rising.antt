@@ -1,4 +1,5 @@
 -- Lists of words that rise, for contracts and laws; no public statement cites them.
+--     nth               one word of a list
 --     Positive          no symbol of a word is the end symbol
 --     span              the words from one position up to another
 --     All               every element has a property
@@ -8,8 +9,12 @@ use Prim.Native.Nat.{ℕ, _<_}
 use mathlib.Core.Path.{_≡_}
 use mathlib.Core.Bool.{true}
 use mathlib.Core.List.{List, [], _∷_}
+use lib.ListN.{getD}
 use lib.Seq.{slice}
 use Rattle.words.specs.Words.{Words, less}
+
+abbrev pub nth : Words → ℕ → List ℕ
+nth ws i = getD ws i []
 
 -- no symbol is the end symbol
 abbrev pub Positive : List ℕ → Type 0

@@ -1,11 +1,8 @@
 -- Document 01, 'Names, symbols and order': a name is a run of bytes, each byte has a symbol, after the last one stands the end
--- symbol 0, and order is by the first differing symbol. A rule gives the bytes their symbols. It enters once, in `word`; all
--- that follows is about lists of numbers.
+-- symbol 0, and order is by the first differing symbol. A rule gives the bytes their symbols; it enters once, in `word`.
 --     Rule, Lawful, plain        a symbol for each byte; from 1 to 256; document 01's own
 --     word, at                   a name's symbols, without the end symbol; symbol number d
---     shared                     how many leading elements are the same
---     less, begins, same         order, beginning and equality
---     nth                        one word of a list
+--     shared, less, begins, same how many leading elements are the same; order, beginning and equality
 -- The laws are in proofs/Words.antt. Assumes nothing: these are definitions.
 use Prim.Native.Nat.{ℕ, suc, _≤_, _<_}
 use mathlib.Core.Bool.{Bool, true, false}
@@ -38,7 +35,7 @@ pub record Lawful (ρ : Rule) : Type 0 where
   pub low : (b : ℕ) → 0 < ρ b
   pub high : (b : ℕ) → b < 256 → ρ b ≤ 256
 
--- each byte b is the symbol b + 1
+-- the symbol of b is b + 1
 abbrev pub plain : Rule
 plain b = suc b
 
@@ -64,6 +61,3 @@ begins q x = eqb (shared q x) (length q)
 
 unfoldable pub same : List ℕ → List ℕ → Bool
 same x y = both (eqb (length x) (length y)) (begins x y)
-
-abbrev pub nth : Words → ℕ → List ℕ
-nth ws i = getD ws i []
