@@ -17,7 +17,7 @@ use Rattle.format.proofs.Book.{Fits, blocksAt, book-length, book-opened, fits-p
 use Rattle.format.proofs.Book as layout
 use Rattle.format.proofs.Records.{sound-few, sound-rising}
 use Rattle.format.proofs.Numbers.{numbers-are}
-use Rattle.trailer.specs.Trailer.{Trail}
+use Rattle.trailer.specs.Trailer.{Trail, markBack, markFront}
 use Rattle.streams.specs.Runs.{Has}
 use Rattle.streams.proofs.Walks.{ends-at, has-length, has-names, has-sound}
 use Rattle.inspect.specs.Check.{isTable}
@@ -35,9 +35,9 @@ trailer-is : (b : Bytes) → InBytes b → (n k s u m t : ℕ) → Trail b → t
 unfolding numbers
 trailer-is b bytes n k s u m t h en ek es eu em et =
     ap (drop (length b - trailerSize)) (sym (take-length b))
-    ∙ numbers-are b bytes (n ∷ k ∷ s ∷ u ∷ m ∷ t ∷ 0x424E ∷ 0x314B ∷ []) (length b - trailerSize) (length b) (omega (arith, h .long)) (omega arith) at
+    ∙ numbers-are b bytes (n ∷ k ∷ s ∷ u ∷ m ∷ t ∷ markFront ∷ markBack ∷ []) (length b - trailerSize) (length b) (omega (arith, h .long)) (omega arith) at
   where
-    at : (j : ℕ) → j < 8 → told b j ≡ getD (n ∷ k ∷ s ∷ u ∷ m ∷ t ∷ 0x424E ∷ 0x314B ∷ []) j 0
+    at : (j : ℕ) → j < 8 → told b j ≡ getD (n ∷ k ∷ s ∷ u ∷ m ∷ t ∷ markFront ∷ markBack ∷ []) j 0
     at zero l = en
     at (suc zero) l = ek
     at (suc (suc zero)) l = es
@@ -149,11 +149,11 @@ module _ (k : ℕ) (xs : List Bytes) (f : Fits plain k xs) where
   marked : (j : ℕ) → told B j ≡ number end (2 * j)
   marked j = number-at B (length B - trailerSize) (2 * j) ∙ ap (λ (s : Bytes). number s (2 * j)) (ap (λ (x : ℕ). drop x B) at-end ∙ from-trailer)
 
-  mark-front : told B 6 ≡ 0x424E
+  mark-front : told B 6 ≡ markFront
   unfolding number numbers
   mark-front = marked 6
 
-  mark-back : told B 7 ≡ 0x314B
+  mark-back : told B 7 ≡ markBack
   unfolding number numbers
   mark-back = marked 7
 

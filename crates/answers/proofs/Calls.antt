@@ -22,6 +22,7 @@ use Rattle.format.proofs.Outcomes.{Kept, picked, same-kept, write-kept}
 use Rattle.format.proofs.Records.{read-refused}
 use Rattle.format.specs.Outcomes.{Answer, Written, given, refused, write}
 use Rattle.answers.specs.Calls.{Batched, Row, batch, batchOf, build, builtFrom, goodRow, questionOf, readBack, readBackOf, rowAnswer}
+use Rattle.answers.specs.Widths.{lastKind}
 use Rattle.answers.specs.Questions.{Pair, answer}
 
 -- ---- what the numbers count
@@ -108,13 +109,13 @@ module _ (ρ : Rule) (kind : ℕ) (q : Bytes) (k : ℕ) (xs : List Bytes) where
 
 pub record GoodRow (buffer : Bytes) (r : Row) : Type 0 where
   pub low : 1 ≤ r .kind
-  pub high : r .kind ≤ 4
+  pub high : r .kind ≤ lastKind
   pub within : r .start + r .size ≤ length buffer
 
 module _ (ρ : Rule) (o : Opened) (buffer : Bytes) (r : Row) where
   pub row-good : GoodRow buffer r → rowAnswer ρ o buffer r ≡ questionOf ρ (r .kind) (take (r .size) (drop (r .start) buffer)) o
   unfolding rowAnswer
-  row-good h = rw (le-leb 1 (r .kind) (h .low), le-leb (r .kind) 4 (h .high), le-leb (r .start + r .size) (length buffer) (h .within)) refl
+  row-good h = rw (le-leb 1 (r .kind) (h .low), le-leb (r .kind) lastKind (h .high), le-leb (r .start + r .size) (length buffer) (h .within)) refl
 
   pub row-bad : (GoodRow buffer r → ⊥) → rowAnswer ρ o buffer r ≡ refused 11
   unfolding rowAnswer
@@ -123,9 +124,9 @@ module _ (ρ : Rule) (o : Opened) (buffer : Bytes) (r : Row) where
       go : (t : Bool) → goodRow buffer r ≡ t → pick t (questionOf ρ (r .kind) (take (r .size) (drop (r .start) buffer)) o) (refused 11) ≡ refused 11
       go false p = refl
       go true p =
-          let f = both-true (both (leb 1 (r .kind)) (leb (r .kind) 4)) (leb (r .start + r .size) (length buffer)) p in
-          let g = both-true (leb 1 (r .kind)) (leb (r .kind) 4) (f .0) in
-          absurd (h (record { low = leb-true 1 (r .kind) (g .0); high = leb-true (r .kind) 4 (g .1); within = leb-true (r .start + r .size) (length buffer) (f .1) }))
+          let f = both-true (both (leb 1 (r .kind)) (leb (r .kind) lastKind)) (leb (r .start + r .size) (length buffer)) p in
+          let g = both-true (leb 1 (r .kind)) (leb (r .kind) lastKind) (f .0) in
+          absurd (h (record { low = leb-true 1 (r .kind) (g .0); high = leb-true (r .kind) lastKind (g .1); within = leb-true (r .start + r .size) (length buffer) (f .1) }))
 
 module _ (ρ : Rule) (s buffer : Bytes) (rows : List Row) (answers : List Answer) where
   abbrev OwnAnswers : Opened → Batched → Type 0

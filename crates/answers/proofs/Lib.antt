@@ -1,5 +1,6 @@
 -- Laws of the questions and of the calls. No contract cites them.
 pub mod Places
 pub mod Nearest
+pub mod Widths
 pub mod Calls
 pub mod Example

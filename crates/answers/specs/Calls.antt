@@ -11,6 +11,7 @@ use Rattle.words.specs.Words.{Bytes, Rule, pick, both}
 use Rattle.format.specs.Records.{Reading, Names, Refused, readList, longest}
 use Rattle.format.specs.Book.{Opened, Book, NoBook, longestBook, goodBlock, book, opened}
 use Rattle.format.specs.Outcomes.{Answer, Written, checkOf, given, numbered, refused, write}
+use Rattle.answers.specs.Widths.{lastKind}
 use Rattle.answers.specs.Questions.{answer}
 
 -- an answer, and the lent answer rows afterwards
@@ -39,7 +40,7 @@ readBackOf i room (Book k xs) = pick (ltb i (length xs)) (write (getD xs i []) r
 unfoldable pub readBack : Rule → Bytes → ℕ → Bytes → Written
 readBack ρ s i room = readBackOf i room (opened ρ s)
 
--- ---- a question of kind 1 to 4: 2, 1, 10
+-- ---- a question of kind 1 to 5: 2, 1, 10
 unfoldable pub questionOf : Rule → ℕ → Bytes → Opened → Answer
 questionOf ρ kind q NoBook = refused 2
 questionOf ρ kind q (Book k xs) =
@@ -57,9 +58,9 @@ pub record Row : Type 0 where
   pub start : ℕ
   pub size : ℕ
 
--- the kind is 1 to 4, and start plus length is not past the buffer
+-- the kind is 1 to 5, and start plus length is not past the buffer
 abbrev pub goodRow : Bytes → Row → Bool
-goodRow buffer r = both (both (leb 1 (r .kind)) (leb (r .kind) 4)) (leb (r .start + r .size) (length buffer))
+goodRow buffer r = both (both (leb 1 (r .kind)) (leb (r .kind) lastKind)) (leb (r .start + r .size) (length buffer))
 
 unfoldable pub rowAnswer : Rule → Opened → Bytes → Row → Answer
 rowAnswer ρ o buffer r = pick (goodRow buffer r) (questionOf ρ (r .kind) (take (r .size) (drop (r .start) buffer)) o) (refused 11)

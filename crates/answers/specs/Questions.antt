@@ -1,6 +1,6 @@
 -- Document 01, 'Questions': the four kinds, over the plain list of words; nearest's position by the descent over groups of words.
 --     exact, place, range, nearest, reached    the four; the position of the first word of the node where the descent stops
---     ask, answer       a kind by its number, 1 to 4 in this order; for names and a question in bytes, under a rule
+--     ask, answer       a kind by its number, 1 to 4 in this order, 5 is CR 1's; for names and a question in bytes, under a rule
 -- The laws are in proofs/Places.antt and proofs/Nearest.antt. Assumes nothing: these are definitions.
 use Prim.Native.Nat.{ℕ, zero, suc, _+_}
 use mathlib.Core.Bool.{Bool}
@@ -9,6 +9,7 @@ use lib.Dec.{ltb, eqb}
 use lib.ListN.{getD, length}
 use Rattle.words.specs.Words.{Bytes, Words, Rule, pick, word, at, shared, less, begins, same}
 use Rattle.format.specs.Nodes.{first, depth, groups}
+use Rattle.answers.specs.Widths.{width}
 
 abbrev pub Pair : Type 0
 Pair = ℕ × ℕ
@@ -62,7 +63,8 @@ ask (suc zero) q ws = exact q ws
 ask (suc (suc zero)) q ws = (place q ws, 0)
 ask (suc (suc (suc zero))) q ws = range q ws
 ask (suc (suc (suc (suc zero)))) q ws = nearest q ws
-ask (suc (suc (suc (suc (suc none))))) q ws = (0, 0)
+ask (suc (suc (suc (suc (suc zero))))) q ws = (width q ws, 0)
+ask (suc (suc (suc (suc (suc (suc none)))))) q ws = (0, 0)
 
 unfoldable pub answer : Rule → ℕ → Bytes → List Bytes → Pair
 answer ρ kind q xs = ask kind (word ρ q) (map (word ρ) xs)

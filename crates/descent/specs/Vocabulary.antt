@@ -26,7 +26,7 @@ use Rattle.answers.specs.Questions.{reachWithin, reached}
 
 -- past the table's end
 abbrev pub noNode : Node
-noNode = record { symbol = 0; depth = 0; first = 0; names = 0; nodes = 0 }
+noNode = record { symbol = 0; depth = 0; first = 0; names = 0; nodes = 0; width = 0 }
 
 unfoldable pub node : Words → ℕ → Node
 node ws v = getD (table ws) v noNode

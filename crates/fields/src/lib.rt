@@ -9,7 +9,7 @@ ghost use Rattle.standing.specs.Maps.{Roomy, inRows, recordAt};
 ghost use Rattle.fields.specs.Node.{nodeOf};
 
 // How many bytes a record has.
-pub const SIZE: usize = 10;
+pub const SIZE: usize = 12;
 
 // A node's numbers, in the record's order.
 pub struct Node {
@@ -18,6 +18,7 @@ pub struct Node {
     pub first: usize,
     pub names: usize,
     pub nodes: usize,
+    pub width: usize,
 }
 
 // Field number j of the record at an offset.
@@ -63,11 +64,25 @@ pub fn nodes(book: &[u8], at: usize) -> usize
     field(book, at, 4)
 }
 
+pub fn width(book: &[u8], at: usize) -> usize
+    requires { ⌜ Roomy inRows (now book) at ⌝ }
+    ensures { λ r. ⌜ (r ≡ recordAt inRows (now (book .entry)) at .width) × (r < 65536) ⌝ }
+{
+    field(book, at, 5)
+}
+
 // A node's record, in a part that is as long.
 pub fn put_node(part: &mut [u8], node: Node)
     requires { ⌜ length (now part) ≡ nodeSize ⌝ }
     ensures { λ _. ⌜ now (part .exit) ≡ numbers (fields (nodeOf node)) ⌝ }
 {
-    let fields = [node.symbol, node.depth, node.first, node.names, node.nodes];
+    let fields = [
+        node.symbol,
+        node.depth,
+        node.first,
+        node.names,
+        node.nodes,
+        node.width,
+    ];
     numbers::put_numbers(part, &fields);
 }

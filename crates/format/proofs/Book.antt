@@ -18,7 +18,7 @@ use Rattle.words.specs.Words.{Bytes, Rule, both, pick, same, word}
 use Rattle.words.proofs.Lists.{all-at}
 use Rattle.words.proofs.Words.{both-true, same-refl, same-true}
 use Rattle.format.specs.Book.{Book, NoBook, allFields, blockPart, book, entryPart, fits, goodBlock, longestBook, mark, namesOf, nodePart, number, numbers, opened, told, trailer, trailerSize}
-use Rattle.format.specs.Spans.{nodeSize}
+use Rattle.format.specs.Spans.{fieldCount, nodeSize}
 use Rattle.format.specs.Entries.{decode}
 use Rattle.format.specs.Nodes.{Node, table}
 use Rattle.format.specs.Records.{sound}
@@ -26,7 +26,7 @@ use Rattle.format.proofs.Entries.{decode-entries}
 use Rattle.format.proofs.Numbers.{number-past, numbers-at, numbers-length}
 use Rattle.format.proofs.Records.{sound-few}
 
-pub fields-length : (rs : List Node) → length (allFields rs) ≡ 5 * length rs
+pub fields-length : (rs : List Node) → length (allFields rs) ≡ fieldCount * length rs
 unfolding allFields
 fields-length [] = refl
 fields-length (r ∷ rs) = omega (arith, fields-length rs)

@@ -1,5 +1,5 @@
 -- Document 01, 'A book in full', computed: the two books of Mar, Marina and Market Square, byte for byte.
---     books             the 85 bytes with k = 2 and the 80 with k = 4
+--     books             the 93 bytes with k = 2 and the 88 with k = 4
 -- Assumes nothing.
 use mathlib.Core.Path.{_≡_, refl}
 use mathlib.Core.List.{[], _∷_, map}
@@ -10,11 +10,12 @@ use Rattle.format.specs.Book.{allFields, blockPart, book, entryPart, joi
 use Rattle.format.specs.Entries.{blocks, blocksFrom, entry, front, offsets}
 use Rattle.format.specs.Nodes.{depth, glue, groups, rowBy, table, tableWithin}
 use Rattle.format.specs.Spans.{nodeTable}
+use Rattle.format.specs.Widths.{widest}
 
 -- the books, and their lengths
 pub books : map (λ k. book plain k example) (2 ∷ 4 ∷ []) ≡ exampleBy2 ∷ exampleBy4 ∷ []
-unfolding shared depth glue groups rowBy tableWithin nodeTable table numbers joined entry blocksFrom front blocks offsets entryPart blockPart allFields nodePart trailer book
+unfolding shared depth glue groups widest rowBy tableWithin nodeTable table numbers joined entry blocksFrom front blocks offsets entryPart blockPart allFields nodePart trailer book
 books = refl
 
-pub book-lengths : map (λ (s : Bytes). length s) (exampleBy2 ∷ exampleBy4 ∷ []) ≡ 85 ∷ 80 ∷ []
+pub book-lengths : map (λ (s : Bytes). length s) (exampleBy2 ∷ exampleBy4 ∷ []) ≡ 93 ∷ 88 ∷ []
 book-lengths = refl

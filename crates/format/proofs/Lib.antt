@@ -2,6 +2,7 @@
 pub mod Records
 pub mod Entries
 pub mod Groups
+pub mod Widths
 pub mod Spans
 pub mod Numbers
 pub mod Book

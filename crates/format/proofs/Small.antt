@@ -11,18 +11,20 @@ use mathlib.Core.List.{List, [], _∷_, _++_}
 use lib.ListN.{length, take, drop, length-append, length-drop, take-append-drop}
 use Rattle.words.specs.Rising.{All, Rises, cons, nil}
 use Rattle.words.specs.Words.{Bytes, InBytes, Rule, Words, at, shared}
-use Rattle.words.proofs.Lists.{all-append, all-head, all-left, all-right}
+use Rattle.words.proofs.Lists.{all-append, all-head, all-left, all-map, all-right}
 use Rattle.words.proofs.Rising.{rises-left, rises-right}
 use Rattle.words.proofs.Words.{shared-comm, shared-le}
 use Rattle.format.specs.Book.{allFields, blockPart, book, entryPart, fields, joined, namesOf, nodePart, number, trailer, trailerSize}
 use Rattle.format.specs.Entries.{blocks, blocksFrom, decode, decodeFrom, entry, front}
 use Rattle.format.specs.Nodes.{Node, depth, groups, rowBy, table, tableWithin}
 use Rattle.format.specs.Spans.{nodeTable}
+use Rattle.format.specs.Widths.{widest}
 use Rattle.format.specs.Records.{longest}
 use Rattle.format.proofs.Book.{Fits, read-names}
 use Rattle.format.proofs.Entries.{by-blocks, entries-first}
 use Rattle.format.proofs.Groups.{Parted, Short, children, depth-length, joinedGroups, part, rowWithin, shorter, whole, within-few}
 use Rattle.format.proofs.Numbers.{bytes-all, numbers-bytes, take-bytes}
+use Rattle.format.proofs.Widths.{widest-low}
 
 -- a word that is short, and whose symbols are small
 pub record Modest (w : List ℕ) : Type 0 where
@@ -57,7 +59,8 @@ unfolding tableWithin allFields
 within-small zero i s ws r a l n h = nil
 within-small (suc f) i s [] r a l n h = nil
 within-small (suc f) i s (w ∷ []) r (cons m a) l n h =
-    cons {a = s} (omega arith) (cons {a = suc (length w)} (omega (arith, m .short)) (cons {a = i} (omega arith) (cons {a = 1} (omega arith) (cons {a = 1} (omega arith) nil))))
+    cons {a = s} (omega arith) (cons {a = suc (length w)} (omega (arith, m .short)) (cons {a = i} (omega arith) (cons {a = 1} (omega arith) (cons {a = 1} (omega arith)
+    (cons {a = length w} (omega (arith, m .short)) nil)))))
 within-small (suc f) i s (w ∷ v ∷ vs) r (cons m a) l n h =
     let d : ℕ = depth w (v ∷ vs) in
     let c = children w v vs r in
@@ -68,8 +71,9 @@ within-small (suc f) i s (w ∷ v ∷ vs) r (cons m a) l n h =
     (cons {a = i} (omega arith)
     (cons {a = length (w ∷ v ∷ vs)} (omega arith)
     (cons {a = suc (length row)} (omega arith)
+    (cons {a = widest (w ∷ v ∷ vs)} (omega (arith, widest-low longest (all-map (λ x k. k .short) (cons m a))))
     (row-small f (within-small f) i d (groups d (w ∷ v ∷ vs)) (c .parted) (c .rises) (subst (All Modest) (sym (c .all)) (cons m a))
-    (shorter _ (le-of-suc-le-suc l) (c .small)) (omega (arith, ap length (c .all))))))))
+    (shorter _ (le-of-suc-le-suc l) (c .small)) (omega (arith, ap length (c .all)))))))))
 
 pub table-small : (ws : Words) → Rises ws → All Modest ws → length ws ≤ 2000 → Two (allFields (table ws))
 unfolding table nodeTable
@@ -126,4 +130,4 @@ unfolding book blockPart nodePart trailer
 book-bytes ρ k xs h a =
     all-append (entries-bytes k xs h a)
     (all-append (numbers-bytes _) (all-append (numbers-bytes _) (all-append (numbers-bytes _)
-    (cons {a = 0x4E} (omega arith) (cons {a = 0x42} (omega arith) (cons {a = 0x4B} (omega arith) (cons {a = 0x31} (omega arith) nil)))))))
+    (cons {a = 0x4E} (omega arith) (cons {a = 0x42} (omega arith) (cons {a = 0x4B} (omega arith) (cons {a = 0x32} (omega arith) nil)))))))

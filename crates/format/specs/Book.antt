@@ -39,7 +39,7 @@ blockPart k xs = numbers (offsets 0 (blocks k xs))
 
 -- a node's numbers, in their order
 abbrev pub fields : Node → List ℕ
-fields r = r .symbol ∷ r .depth ∷ r .first ∷ r .names ∷ r .nodes ∷ []
+fields r = r .symbol ∷ r .depth ∷ r .first ∷ r .names ∷ r .nodes ∷ r .width ∷ []
 
 unfoldable pub allFields : List Node → List ℕ
 allFields [] = []
@@ -49,7 +49,7 @@ unfoldable pub nodePart : List Node → Bytes
 nodePart rs = numbers (allFields rs)
 
 abbrev pub mark : Bytes
-mark = 0x4E ∷ 0x42 ∷ 0x4B ∷ 0x31 ∷ []
+mark = 0x4E ∷ 0x42 ∷ 0x4B ∷ 0x32 ∷ []
 
 -- names, block size, start of block table, start of node table, number of nodes, length of the whole book, the mark
 unfoldable pub trailer : ℕ → ℕ → ℕ → ℕ → ℕ → ℕ → Bytes

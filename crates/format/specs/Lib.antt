@@ -1,5 +1,6 @@
 pub mod Records
 pub mod Entries
+pub mod Widths
 pub mod Nodes
 pub mod Book
 pub mod Outcomes

@@ -7,6 +7,7 @@ use mathlib.Core.List.{List, [], _∷_, _++_}
 use lib.Dec.{eqb}
 use lib.ListN.{length}
 use Rattle.words.specs.Words.{Words, pick, at, shared}
+use Rattle.format.specs.Widths.{widest}
 
 abbrev pub first : Words → List ℕ
 first [] = []
@@ -26,21 +27,22 @@ unfoldable pub groups : ℕ → Words → List Words
 groups d [] = []
 groups d (w ∷ ws) = glue d w (groups d ws)
 
--- symbol, depth, first name, number of names, number of nodes, the last two counted with the node itself
+-- symbol, depth, first name, number of names, number of nodes, counted with the node itself; the greatest length of its names (CR 1)
 pub record Node : Type 0 where
   pub symbol : ℕ
   pub depth : ℕ
   pub first : ℕ
   pub names : ℕ
   pub nodes : ℕ
+  pub width : ℕ
 
 -- the node of one word, number i, to which the symbol s led
 abbrev pub leaf : ℕ → ℕ → List ℕ → Node
-leaf i s w = record { symbol = s; depth = suc (length w); first = i; names = 1; nodes = 1 }
+leaf i s w = record { symbol = s; depth = suc (length w); first = i; names = 1; nodes = 1; width = length w }
 
 -- the node of several words, the first number i, with the records of its children
 abbrev pub fork : ℕ → ℕ → ℕ → Words → List Node → Node
-fork i s d ws row = record { symbol = s; depth = d; first = i; names = length ws; nodes = suc (length row) }
+fork i s d ws row = record { symbol = s; depth = d; first = i; names = length ws; nodes = suc (length row); width = widest ws }
 
 unfoldable pub rowBy : (ℕ → ℕ → Words → List Node) → ℕ → ℕ → List Words → List Node
 rowBy node i d [] = []

@@ -16,7 +16,7 @@ use Rattle.format.specs.Nodes.{Node, groups, rowBy, tableWithin}
 use Rattle.format.specs.Book.{namesOf}
 
 abbrev pub fieldCount : ℕ
-fieldCount = 5
+fieldCount = 6
 
 -- two bytes for each of them
 abbrev pub nodeSize : ℕ

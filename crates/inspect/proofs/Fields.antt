@@ -1,6 +1,6 @@
 -- A record, by its fields.
 --     led-symbol, led-first                ways out of `is_led_to`
---     leaf-depth, leaf-nodes               ways out of `is_leaf`
+--     leaf-depth, leaf-width, leaf-nodes   ways out of `is_leaf`
 --     fork-ends                            the last way out of `may_be_fork`
 -- Assumes nothing.
 use Prim.Native.Nat.{ℕ, suc, _+_, _-_, _*_, _≤_, _<_}
@@ -30,17 +30,21 @@ module _ (b : Bytes) (o i d a x s : ℕ) (xe : x ≡ recordAt inRows b o .symbol
       go true q = (sym xe ∙ same ∙ se, sym ze ∙ eqb-true z i q)
       go false q = λ k. eqb-false z i q (ze ∙ k .1)
 
--- x is the depth, w the number of nodes, l the name's length
+-- x is the depth, y the width, w the number of nodes, l the name's length
 module _ (b : Bytes) (o len x l : ℕ) (xe : x ≡ recordAt inRows b o .depth) (le : l ≡ len) where
   pub leaf-depth : (x ≡ l + 1 → ⊥) → LeafSays b o len false
   leaf-depth n k = n (xe ∙ k .0 ∙ ap suc (sym le) ∙ sym (add-one l))
 
-  pub leaf-nodes : x ≡ l + 1 → (w : ℕ) → w ≡ recordAt inRows b o .nodes → LeafSays b o len (eqb w 1)
-  leaf-nodes same w we = go (eqb w 1) refl
-    where
-      go : (t : Bool) → eqb w 1 ≡ t → LeafSays b o len t
-      go true q = (sym xe ∙ same ∙ add-one l ∙ ap suc le, sym we ∙ eqb-true w 1 q)
-      go false q = λ k. eqb-false w 1 q (we ∙ k .1)
+  module _ (y : ℕ) (ye : y ≡ recordAt inRows b o .width) where
+    pub leaf-width : (y ≡ l → ⊥) → LeafSays b o len false
+    leaf-width n k = n (ye ∙ k .2 ∙ sym le)
+
+    pub leaf-nodes : x ≡ l + 1 → y ≡ l → (w : ℕ) → w ≡ recordAt inRows b o .nodes → LeafSays b o len (eqb w 1)
+    leaf-nodes same wide w we = go (eqb w 1) refl
+      where
+        go : (t : Bool) → eqb w 1 ≡ t → LeafSays b o len t
+        go true q = (sym xe ∙ same ∙ add-one l ∙ ap suc le, sym we ∙ eqb-true w 1 q, sym ye ∙ wide ∙ le)
+        go false q = λ k. eqb-false w 1 q (we ∙ k .1)
 
 -- x is the number of names, y the depth, z the number of nodes; each way out before this is a field or its contrary
 pub fork-ends : (b : Bytes) (o e n d left x y z : ℕ) → x ≡ recordAt inRows b o .names → y ≡ recordAt inRows b o .depth → z ≡ recordAt inRows b o .nodes → 2 ≤ x → x < n → x ≤ left → d < y → y < 200

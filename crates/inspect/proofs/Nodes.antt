@@ -45,18 +45,18 @@ module _ (b : Bytes) (lo s o a : ℕ) (q : Ask b lo 1 a) where
   pub leaf-stands : Roomy inRows b o → recordAt inRows b o .symbol ≡ s → recordAt inRows b o .first ≡ lo → recordAt inRows b o .names ≡ 1 → LeafAt b o (lengthAt b a) → NodeAt inRows b (wordsOf plain b) lo (lo + 1) s o (o + nodeSize)
   leaf-stands room symbol first names k =
       let depth : recordAt inRows b o .depth ≡ suc (length (nth (wordsOf plain b) lo)) = k .0 ∙ ap suc size in
-      let told : recordAt inRows b o ≡ leaf lo s (nth (wordsOf plain b) lo) = rw (symbol, depth, first, names, k .1) refl in
+      let told : recordAt inRows b o ≡ leaf lo s (nth (wordsOf plain b) lo) = rw (symbol, depth, first, names, k .1, k .2 ∙ size) refl in
       subst (λ (m : ℕ). NodeAt inRows b (wordsOf plain b) lo m s o (o + nodeSize)) next (child.leaf-node (wordsOf plain b) (q .known .rises) inRows b s lo o lone room told)
 
   pub leaf-not : (LeafAt b o (lengthAt b a) → ⊥) → (e : ℕ) → NodeAt inRows b (wordsOf plain b) lo (lo + 1) s o e → ⊥
   leaf-not n e g =
       let f = child.node-leaf (wordsOf plain b) (q .known .rises) inRows b s lo o e lone (subst (λ (m : ℕ). NodeAt inRows b (wordsOf plain b) lo m s o e) (sym next) g) in
-      n (ap (λ (r : Node). r .depth) (f .told) ∙ ap suc (sym size), ap (λ (r : Node). r .nodes) (f .told))
+      n (ap (λ (r : Node). r .depth) (f .told) ∙ ap suc (sym size), ap (λ (r : Node). r .nodes) (f .told), ap (λ (r : Node). r .width) (f .told) ∙ sym size)
 
 -- ---- several names
 
 module _ (b : Bytes) (o a : ℕ) (q : NodeAsk b o a) where
-  -- d, lo, n and m are the numbers of the record
+  -- d, lo, n, m and w are the numbers of the record
   module _ (d lo n m : ℕ) (de : d ≡ recordAt inRows b o .depth) (le : lo ≡ recordAt inRows b o .first) (ne : n ≡ recordAt inRows b o .names) (me : m ≡ recordAt inRows b o .nodes) where
     pub node-asks : RowAsk b (o + m * nodeSize) lo n d a
     node-asks = record {
@@ -66,9 +66,11 @@ module _ (b : Bytes) (o a : ℕ) (q : NodeAsk b o a) where
       long = omega (arith, q .long);
     }
 
-    pub node-says : (r : ℕ) → RowSays b (o + nodeSize) (o + m * nodeSize) lo n d r → NodeSays b o r
-    node-says r says = record {
-      no-way = λ z g. row .no-way z ((child.node-split (wordsOf plain b) (q .ask .known .rises) inRows b (recordAt inRows b o .symbol) first (first + names) o end two few g) .group);
+    pub node-says : (w : ℕ) → w ≡ recordAt inRows b o .width → (r : ℕ) → RowSays b (o + nodeSize) (o + m * nodeSize) lo n d w r → NodeSays b o r
+    node-says w we r says = record {
+      no-way = λ z g.
+          let f = child.node-split (wordsOf plain b) (q .ask .known .rises) inRows b (recordAt inRows b o .symbol) first (first + names) o end two few g in
+          row .no-way z (record { group = f .group; wide = f .width });
       it-does = λ z.
           let s = row .it-does z in (
             child.node-join (wordsOf plain b) (q .ask .known .rises) inRows b (recordAt inRows b o .symbol) first (first + names) o end two few (omega arith) (record {
@@ -77,7 +79,8 @@ module _ (b : Bytes) (o a : ℕ) (q : NodeAsk b o a) where
               first = refl;
               names = omega arith;
               nodes = refl;
-              group = s .0;
+              width = s .0 .wide;
+              group = s .0 .group;
             }),
             s .1,
           );
@@ -98,5 +101,5 @@ module _ (b : Bytes) (o a : ℕ) (q : NodeAsk b o a) where
         few : first + names ≤ length (wordsOf plain b)
         few = omega (arith, q .ask .within, words-count b)
 
-        row : RowSays b (o + nodeSize) end first names (recordAt inRows b o .depth) r
-        row = rw (← de, ← le, ← ne, ← me) says
+        row : RowSays b (o + nodeSize) end first names (recordAt inRows b o .depth) (recordAt inRows b o .width) r
+        row = rw (← de, ← le, ← ne, ← me, ← we) says

@@ -4,18 +4,20 @@
 --     led-to, fork-like what a look at a record says, where it says yes
 --     rows-..           the ways
 -- Assumes nothing.
-use Prim.Native.Nat.{ℕ, suc, pred, _+_, _-_, _*_, _≤_, _<_}
+use Prim.Native.Nat.{ℕ, suc, pred, _+_, _-_, _*_, _≤_, _<_, max}
 use native.Mathlib.Nat.{lt-irrefl}
 use native.Mathlib.Omega.{arith}
-use mathlib.Core.Path.{_≡_, refl, sym, _∙_, subst}
+use mathlib.Core.Path.{_≡_, refl, sym, ap, _∙_, subst}
 use mathlib.Core.Bool.{Bool, false, not, true}
 use lib.ListN.{length, getD}
 use Rattle.words.specs.Words.{Bytes, at, plain, shared, word}
-use Rattle.words.specs.Rising.{nth}
+use Rattle.words.specs.Rising.{nth, span}
 use Rattle.words.proofs.Words.{false≠true}
 use Rattle.format.specs.Book.{namesOf, trailerSize, told}
 use Rattle.format.specs.Spans.{deep, wordsOf, nodeSize}
 use Rattle.format.specs.Records.{longest}
+use Rattle.format.specs.Widths.{widest}
+use Rattle.format.proofs.Widths.{widest-none, widest-span}
 use Rattle.streams.specs.Streams.{Here, InBlocks, Known, entryEnd, lengthAt, offsetFrom, restAt}
 use Rattle.streams.proofs.Here.{here-fits, here-next, here-rises, here-symbol, name-short, words-count}
 use Rattle.standing.specs.Maps.{Roomy, inRows, recordAt}
@@ -26,7 +28,7 @@ use Rattle.neighbours.proofs.Meeting.{meet-low}
 use Rattle.inspect.specs.Check.{Ask, ForkSays, LeafSays, LedSays, LedTo, MayBeFork, NodeAsk, NodeSays, RowAsk, RowSays}
 use Rattle.inspect.proofs.Nodes.{leaf-not, leaf-stands, says-no, says-yes}
 
-pub record Rows (b : Bytes) (lo₀ n d o₀ e o lo a : ℕ) : Type 0 where
+pub record Rows (b : Bytes) (lo₀ n d o₀ e o lo a g : ℕ) : Type 0 where
   pub known : Known b
   pub blocks : InBlocks b (told b 1) (told b 2)
   pub long : e + trailerSize ≤ length b
@@ -38,9 +40,10 @@ pub record Rows (b : Bytes) (lo₀ n d o₀ e o lo a : ℕ) : Type 0 where
   pub low : getD b a 0 ≤ d
   pub some : lo < length (namesOf b)
   pub fits : entryEnd b a ≤ length b
+  pub wide : g ≡ widest (span (wordsOf plain b) lo₀ lo)
 
-pub record Turn (b : Bytes) (lo₀ n d o₀ e o lo a x m c : ℕ) : Type 0 where
-  pub rows : Rows b lo₀ n d o₀ e o lo a
+pub record Turn (b : Bytes) (lo₀ n d o₀ e o lo a g x m c : ℕ) : Type 0 where
+  pub rows : Rows b lo₀ n d o₀ e o lo a g
   pub told : x ≡ recordAt inRows b o .names
   pub some : 1 ≤ x
   pub proper : x < n
@@ -59,7 +62,7 @@ fork-like b o e n d left true k h = k
 fork-like b o e n d left false never h = absurd (false≠true (sym h))
 
 module _ (b : Bytes) (lo₀ n d o₀ e : ℕ) where
-  pub rows-start : (a : ℕ) → RowAsk b e lo₀ n d a → Rows b lo₀ n d o₀ e o₀ lo₀ a
+  pub rows-start : (a : ℕ) → RowAsk b e lo₀ n d a → Rows b lo₀ n d o₀ e o₀ lo₀ a 0
   rows-start a q = record {
     known = q .ask .known;
     blocks = q .ask .blocks;
@@ -72,27 +75,28 @@ module _ (b : Bytes) (lo₀ n d o₀ e : ℕ) where
     low = q .low;
     some = omega (arith, q .ask .some, q .ask .within);
     fits = here-fits b lo₀ a (q .ask .known) (q .ask .here) (omega (arith, q .ask .some, q .ask .within));
+    wide = sym (widest-none (wordsOf plain b) lo₀);
   }
 
-  -- the row doesn't stand
-  abbrev Refused : Type 0
-  Refused = RowSays b o₀ e lo₀ n d 0
+  -- the row doesn't stand, of whatever width
+  abbrev Refused : ℕ → Type 0
+  Refused w = RowSays b o₀ e lo₀ n d w 0
 
-  module _ (o lo a : ℕ) where
-    two : Rows b lo₀ n d o₀ e o lo a → suc lo₀ < lo₀ + n
+  module _ (o lo a g : ℕ) where
+    two : Rows b lo₀ n d o₀ e o lo a g → suc lo₀ < lo₀ + n
     two r = omega (arith, r .several)
 
-    fit : Rows b lo₀ n d o₀ e o lo a → lo₀ + n ≤ length (wordsOf plain b)
+    fit : Rows b lo₀ n d o₀ e o lo a g → lo₀ + n ≤ length (wordsOf plain b)
     fit r = omega (arith, r .within, words-count b)
 
-    ahead : Rows b lo₀ n d o₀ e o lo a → GroupAt inRows b (wordsOf plain b) lo₀ (lo₀ + n) d o₀ e → Expected inRows b (wordsOf plain b) lo₀ (lo₀ + n) d lo o e
-    ahead r g = walk-next inRows b (wordsOf plain b) (r .known .rises) lo₀ (lo₀ + n) d o₀ (two r) (fit r) lo o (r .walk) e g
+    ahead : Rows b lo₀ n d o₀ e o lo a g → GroupAt inRows b (wordsOf plain b) lo₀ (lo₀ + n) d o₀ e → Expected inRows b (wordsOf plain b) lo₀ (lo₀ + n) d lo o e
+    ahead r k = walk-next inRows b (wordsOf plain b) (r .known .rises) lo₀ (lo₀ + n) d o₀ (two r) (fit r) lo o (r .walk) e k
 
     -- ---- up to the child
 
-    module _ (r : Rows b lo₀ n d o₀ e o lo a) where
-      pub rows-end : e ≤ o → Refused
-      rows-end h = says-no (λ g. lt-irrefl o (omega (arith, (ahead r g) .past)))
+    module _ (r : Rows b lo₀ n d o₀ e o lo a g) where
+      pub rows-end : {w : ℕ} → e ≤ o → Refused w
+      rows-end h = says-no (λ s. lt-irrefl o (omega (arith, (ahead r (s .group)) .past)))
 
       pub rows-room : o < e → Roomy inRows b o
       rows-room h = omega (arith, r .long)
@@ -100,9 +104,9 @@ module _ (b : Bytes) (lo₀ n d o₀ e : ℕ) where
       symbol-is : (s : ℕ) → s ≡ at (word plain (restAt b a)) (d - getD b a 0) → s ≡ at (nth (wordsOf plain b) lo) d
       symbol-is s se = here-symbol b lo a (r .known) (r .here) (r .some) d s (r .low) se
 
-      pub rows-other : (v : Bool) → LedSays b o lo d a v → not v ≡ true → Refused
+      pub rows-other : {w : ℕ} → (v : Bool) → LedSays b o lo d a v → not v ≡ true → Refused w
       rows-other true k h = absurd (false≠true h)
-      rows-other false never h = says-no (λ g. let k = ahead r g in never (k .symbol ∙ sym (symbol-is _ refl), k .first))
+      rows-other false never h = says-no (λ s. let k = ahead r (s .group) in never (k .symbol ∙ sym (symbol-is _ refl), k .first))
 
       -- the entry's symbol led to the record, and x is the number of names that it tells
       module _ (led : LedTo b o lo d a) (x : ℕ) (xe : x ≡ recordAt inRows b o .names) where
@@ -115,15 +119,15 @@ module _ (b : Bytes) (lo₀ n d o₀ e : ℕ) where
           lone : Ask b lo 1 a
           lone = record { known = r .known; blocks = r .blocks; some = omega arith; within = omega (arith, r .some); here = r .here }
 
-          pub rows-no-leaf : (v : Bool) → LeafSays b o (lengthAt b a) v → not v ≡ true → Refused
+          pub rows-no-leaf : {w : ℕ} → (v : Bool) → LeafSays b o (lengthAt b a) v → not v ≡ true → Refused w
           rows-no-leaf true k h = absurd (false≠true h)
-          rows-no-leaf false never h = says-no (λ g.
-              let k = ahead r g in
+          rows-no-leaf false never h = says-no (λ s.
+              let k = ahead r (s .group) in
               let z : lo + recordAt inRows b o .names ≡ lo + 1 = omega arith in
               leaf-not b lo (at (nth (wordsOf plain b) lo) d) o a lone never (o + recordAt inRows b o .nodes * nodeSize)
               (subst (λ (m : ℕ). NodeAt inRows b (wordsOf plain b) lo m (at (nth (wordsOf plain b) lo) d) o (o + recordAt inRows b o .nodes * nodeSize)) z (k .node)))
 
-          pub rows-leaf : o < e → (v : Bool) → LeafSays b o (lengthAt b a) v → not v ≡ false → Turn b lo₀ n d o₀ e o lo a x (o + nodeSize) a
+          pub rows-leaf : o < e → (v : Bool) → LeafSays b o (lengthAt b a) v → not v ≡ false → Turn b lo₀ n d o₀ e o lo a g x (o + nodeSize) a
           rows-leaf room false never h = absurd (false≠true (sym h))
           rows-leaf room true sure h =
               let z : lo + 1 ≡ lo + x = omega arith in
@@ -154,10 +158,10 @@ module _ (b : Bytes) (lo₀ n d o₀ e : ℕ) where
             let short : length (nth (wordsOf plain b) (pred (lo + recordAt inRows b o .names))) ≤ longest = name-short b (pred (lo + recordAt inRows b o .names)) (r .known) (omega (arith, end, words-count b)) in
             omega (arith, hd .depth (omega arith), deep-short (wordsOf plain b) (r .known .rises) lo (lo + recordAt inRows b o .names) longest (omega arith) end short)
 
-        pub rows-no-fork : (x ≡ 1 → ⊥) → (v : Bool) → ForkSays b o e n d (lo₀ + n - lo) v → not v ≡ true → Refused
+        pub rows-no-fork : {w : ℕ} → (x ≡ 1 → ⊥) → (v : Bool) → ForkSays b o e n d (lo₀ + n - lo) v → not v ≡ true → Refused w
         rows-no-fork more true k h = absurd (false≠true h)
-        rows-no-fork more false never h = says-no (λ g.
-            let k = ahead r g in
+        rows-no-fork more false never h = says-no (λ s.
+            let k = ahead r (s .group) in
             let many : 1 < recordAt inRows b o .names = omega (arith, k .some) in
             never (record {
               several = many;
@@ -180,12 +184,12 @@ module _ (b : Bytes) (lo₀ n d o₀ e : ℕ) where
 
           -- c is what the check of the node gave
           module _ (c : ℕ) (says : NodeSays b o c) where
-            pub rows-node : c ≡ 0 → Refused
-            rows-node z = says-no (λ g.
-                let k = ahead r g in
+            pub rows-node : {w : ℕ} → c ≡ 0 → Refused w
+            rows-node z = says-no (λ s.
+                let k = ahead r (s .group) in
                 says .no-way z (rw (led .1, k .symbol) (k .node)))
 
-            pub rows-fork : o < e → (c ≡ 0 → ⊥) → (m : ℕ) → m ≡ recordAt inRows b o .nodes → Turn b lo₀ n d o₀ e o lo a x (o + m * nodeSize) c
+            pub rows-fork : o < e → (c ≡ 0 → ⊥) → (m : ℕ) → m ≡ recordAt inRows b o .nodes → Turn b lo₀ n d o₀ e o lo a g x (o + m * nodeSize) c
             rows-fork room nz m me =
                 let s = says .it-does nz in
                 let up : lo + x ≤ lo₀ + n = omega (arith, f .upto, r .upto) in
@@ -210,8 +214,8 @@ module _ (b : Bytes) (lo₀ n d o₀ e : ℕ) where
 
     -- ---- and behind it
 
-    module _ (x m c : ℕ) (p : Turn b lo₀ n d o₀ e o lo a x m c) where
-      r : Rows b lo₀ n d o₀ e o lo a
+    module _ (x m c : ℕ) (p : Turn b lo₀ n d o₀ e o lo a g x m c) where
+      r : Rows b lo₀ n d o₀ e o lo a g
       r = p .rows
 
       stood : lo + x ≡ lo₀ + n → GroupAt inRows b (wordsOf plain b) lo₀ (lo₀ + n) d o₀ m
@@ -219,16 +223,34 @@ module _ (b : Bytes) (lo₀ n d o₀ e : ℕ) where
           walk-done inRows b (wordsOf plain b) (r .known .rises) lo₀ (lo₀ + n) d o₀ (two r) (fit r) lo o (r .walk) m (subst (λ (y : ℕ). Child inRows b (wordsOf plain b) d lo y o m) q (p .child))
           (omega (arith, p .proper, r .upto))
 
-      pub rows-apart : lo + x ≡ lo₀ + n → (m ≡ e → ⊥) → Refused
-      rows-apart q h = says-no (λ g. h (group-end inRows b (wordsOf plain b) lo₀ (lo₀ + n) d o₀ m e (stood q) g))
+      pub rows-apart : {w : ℕ} → lo + x ≡ lo₀ + n → (m ≡ e → ⊥) → Refused w
+      rows-apart q h = says-no (λ s. h (group-end inRows b (wordsOf plain b) lo₀ (lo₀ + n) d o₀ m e (stood q) (s .group)))
 
-      -- the last one of several names stands behind the first entry
-      pub rows-done : lo + x ≡ lo₀ + n → m ≡ e → RowSays b o₀ e lo₀ n d c
-      unfolding offsetFrom
-      rows-done q h =
-          let here : Here b (pred (lo₀ + n)) c = subst (λ (y : ℕ). Here b (pred y) c) q (p .here) in
-          says-yes (subst (GroupAt inRows b (wordsOf plain b) lo₀ (lo₀ + n) d o₀) h (stood q)) here
-          (λ z. lt-irrefl 0 (omega (arith, here-rises b 0 (pred (lo₀ + n)) (omega (arith, r .several)), here)))
+      -- v is the width that the child's record tells, y the greatest so far with it
+      module _ (v y : ℕ) (ve : v ≡ recordAt inRows b o .width) (ye : y ≡ max g v) where
+        wider : y ≡ widest (span (wordsOf plain b) lo₀ (lo + x))
+        wider =
+            let here : lo + x ≤ length (wordsOf plain b) = omega (arith, fit r, p .upto) in
+            omega (
+              arith,
+              r .wide,
+              (node-head inRows b (wordsOf plain b) (r .known .rises) _ lo (lo + x) o m (p .child .some) here (p .child .node)) .width,
+              widest-span (wordsOf plain b) lo₀ lo (lo + x) (r .walk .from) (omega arith) here,
+            )
+
+        whole : lo + x ≡ lo₀ + n → y ≡ widest (span (wordsOf plain b) lo₀ (lo₀ + n))
+        whole q = wider ∙ ap (λ (i : ℕ). widest (span (wordsOf plain b) lo₀ i)) q
+
+        pub rows-narrow : {w : ℕ} → lo + x ≡ lo₀ + n → (y ≡ w → ⊥) → Refused w
+        rows-narrow q h = says-no (λ s. h (whole q ∙ sym (s .wide)))
+
+        -- the last one of several names stands behind the first entry
+        pub rows-done : {w : ℕ} → lo + x ≡ lo₀ + n → m ≡ e → y ≡ w → RowSays b o₀ e lo₀ n d w c
+        unfolding offsetFrom
+        rows-done q h z =
+            let here : Here b (pred (lo₀ + n)) c = subst (λ (i : ℕ). Here b (pred i) c) q (p .here) in
+            says-yes (record { group = subst (GroupAt inRows b (wordsOf plain b) lo₀ (lo₀ + n) d o₀) h (stood q); wide = sym z ∙ whole q }) here
+            (λ k. lt-irrefl 0 (omega (arith, here-rises b 0 (pred (lo₀ + n)) (omega (arith, r .several)), here)))
 
       module _ (more : lo + x ≡ lo₀ + n → ⊥) where
         fewer : lo + x < lo₀ + n
@@ -250,12 +272,12 @@ module _ (b : Bytes) (lo₀ n d o₀ e : ℕ) where
 
           -- u is what the next name shares with the one before
           module _ (u : ℕ) (ue : u ≡ shared (nth (wordsOf plain b) (pred (lo + x))) (nth (wordsOf plain b) (lo + x))) where
-            pub rows-parted : (u ≡ d → ⊥) → Refused
-            rows-parted h = says-no (λ g.
-                h (ue ∙ subst (λ (y : ℕ). shared (nth (wordsOf plain b) (pred (lo + y))) (nth (wordsOf plain b) (lo + y)) ≡ d) (sym (p .told)) ((ahead r g) .edge (omega (arith, p .told, fewer)))))
+            pub rows-parted : {w : ℕ} → (u ≡ d → ⊥) → Refused w
+            rows-parted h = says-no (λ s.
+                h (ue ∙ subst (λ (y : ℕ). shared (nth (wordsOf plain b) (pred (lo + y))) (nth (wordsOf plain b) (lo + y)) ≡ d) (sym (p .told)) ((ahead r (s .group)) .edge (omega (arith, p .told, fewer)))))
 
-            pub rows-more : u ≡ d → Rows b lo₀ n d o₀ e m (lo + x) l
-            rows-more h = record {
+            pub rows-more : u ≡ d → (v y : ℕ) → v ≡ recordAt inRows b o .width → y ≡ max g v → Rows b lo₀ n d o₀ e m (lo + x) l y
+            rows-more h v y ve ye = record {
               known = r .known;
               blocks = r .blocks;
               long = r .long;
@@ -267,6 +289,7 @@ module _ (b : Bytes) (lo₀ n d o₀ e : ℕ) where
               low = low;
               some = inside;
               fits = here-fits b (lo + x) l (r .known) moved inside;
+              wide = wider v y ve ye;
             }
               where
                 low : getD b l 0 ≤ d

@@ -1,9 +1,10 @@
 -- What the check of a node table asks and says. It goes by the entries, and holds no name.
 --     LedTo, LedSays               a symbol led to a record, which tells its first name; whether it is so
---     LeafAt, LeafSays             a record of one name has a leaf's depth and number of nodes; whether it has
+--     LeafAt, LeafSays             a record of one name has a leaf's depth, number of nodes and width; whether it has
 --     MayBeFork, ForkSays          what is asked of a record of several names before its row is looked at; whether it holds
 --     Ask                          what is asked of the n names from number lo on
 --     NodeAsk, RowAsk              that, of a node of several names, and of a row
+--     WideRow                      a row that stands, and the greatest length of its names
 --     Says, NodeSays, RowSays      the node, or the row, stands, and where the entry of its last name is; or, with 0, it doesn't stand
 --     TableAsk                     n names, and a part of the bytes
 --     isTable                      that part is the node table of the names
@@ -13,10 +14,12 @@ use mathlib.Core.Path.{_≡_}
 use mathlib.Core.Bool.{Bool, false, true}
 use lib.ListN.{getD, length}
 use lib.Seq.{slice}
+use Rattle.words.specs.Rising.{span}
 use Rattle.words.specs.Words.{Bytes, at, plain, same, word}
 use Rattle.format.specs.Spans.{wordsOf, nodeSize}
 use Rattle.format.specs.Book.{namesOf, nodePart, trailerSize, told}
 use Rattle.format.specs.Nodes.{table}
+use Rattle.format.specs.Widths.{widest}
 use Rattle.format.specs.Records.{longest}
 use Rattle.streams.specs.Streams.{Here, InBlocks, Known, restAt}
 use Rattle.standing.specs.Maps.{Roomy, inRows, recordAt}
@@ -32,9 +35,9 @@ abbrev pub LedSays : Bytes → ℕ → ℕ → ℕ → ℕ → Bool → Type 0
 LedSays b o i d a true = LedTo b o i d a
 LedSays b o i d a false = LedTo b o i d a → ⊥
 
--- a leaf's depth, of a name of len bytes, and its number of nodes
+-- a leaf's depth, of a name of len bytes, its number of nodes and its width
 abbrev pub LeafAt : Bytes → ℕ → ℕ → Type 0
-LeafAt b o len = (recordAt inRows b o .depth ≡ suc len) × (recordAt inRows b o .nodes ≡ 1)
+LeafAt b o len = (recordAt inRows b o .depth ≡ suc len) × (recordAt inRows b o .nodes ≡ 1) × (recordAt inRows b o .width ≡ len)
 
 abbrev pub LeafSays : Bytes → ℕ → ℕ → Bool → Type 0
 LeafSays b o len true = LeafAt b o len
@@ -90,9 +93,13 @@ NodeSays b o r =
     Says (NodeAt inRows b (wordsOf plain b) (recordAt inRows b o .first) (recordAt inRows b o .first + recordAt inRows b o .names) (recordAt inRows b o .symbol) o (o + recordAt inRows b o .nodes * nodeSize))
     b (pred (recordAt inRows b o .first + recordAt inRows b o .names)) r
 
--- from o to e, of a node of depth d
-abbrev pub RowSays : Bytes → ℕ → ℕ → ℕ → ℕ → ℕ → ℕ → Type 0
-RowSays b o e lo n d r = Says (GroupAt inRows b (wordsOf plain b) lo (lo + n) d o e) b (pred (lo + n)) r
+-- the row from o to e of a node of depth d and width w stands, and no name is longer than w, but one is as long
+pub record WideRow (b : Bytes) (o e lo n d w : ℕ) : Type 0 where
+  pub group : GroupAt inRows b (wordsOf plain b) lo (lo + n) d o e
+  pub wide : w ≡ widest (span (wordsOf plain b) lo (lo + n))
+
+abbrev pub RowSays : Bytes → ℕ → ℕ → ℕ → ℕ → ℕ → ℕ → ℕ → Type 0
+RowSays b o e lo n d w r = Says (WideRow b o e lo n d w) b (pred (lo + n)) r
 
 -- ---- the whole table
 

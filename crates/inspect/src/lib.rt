@@ -37,12 +37,16 @@ fn is_led_to(book: &[u8], o: usize, i: usize, d: usize, a: usize) -> bool
     fields::first(book, o) == i
 }
 
-// Whether the record at an offset, of one name, whose entry stands at a, has a leaf's depth and number of nodes.
+// Whether the record at an offset, of one name, whose entry stands at a, has a leaf's depth, number of nodes and width.
 fn is_leaf(book: &[u8], o: usize, a: usize) -> bool
     requires { ⌜ Roomy inRows (now book) o × (a + 2 ≤ length (now book)) ⌝ }
     ensures { λ r. ⌜ LeafSays (now (book .entry)) o (lengthAt (now (book .entry)) a) r ⌝ }
 {
-    if fields::depth(book, o) != length_of(book, a) + 1 {
+    let length = length_of(book, a);
+    if fields::depth(book, o) != length + 1 {
+        return false;
+    }
+    if fields::width(book, o) != length {
         return false;
     }
     fields::nodes(book, o) == 1
@@ -85,17 +89,38 @@ fn check_node(book: &[u8], o: usize, a: usize) -> usize
     let lo = fields::first(book, o);
     let n = fields::names(book, o);
     let m = fields::nodes(book, o);
-    check_row(book, o + fields::SIZE, o + m * fields::SIZE, lo, n, d, a)
+    let width = fields::width(book, o);
+    check_row(
+        book,
+        o + fields::SIZE,
+        o + m * fields::SIZE,
+        lo,
+        n,
+        d,
+        width,
+        a,
+    )
 }
 
-// The row from an offset to `end` of the n names from number lo on, whose node has depth d; the first one's entry stands at a.
-fn check_row(book: &[u8], o: usize, end: usize, lo: usize, n: usize, d: usize, a: usize) -> usize
+// The row from an offset to `end` of the n names from number lo on, whose node has depth d and that width; the first one's entry stands
+// at a. What a child's record says of its width is held to its names where the child is looked at, so the greatest of them is the row's.
+fn check_row(
+    book: &[u8],
+    o: usize,
+    end: usize,
+    lo: usize,
+    n: usize,
+    d: usize,
+    width: usize,
+    a: usize,
+) -> usize
     requires { ⌜ RowAsk (now book) end lo n d a ⌝ }
-    ensures { λ r. ⌜ RowSays (now (book .entry)) o end lo n d r ⌝ }
+    ensures { λ r. ⌜ RowSays (now (book .entry)) o end lo n d width r ⌝ }
 {
     let mut child = o;
     let mut first = lo;
     let mut entry = a;
+    let mut greatest = 0;
     loop {
         if end <= child {
             return 0;
@@ -104,6 +129,7 @@ fn check_row(book: &[u8], o: usize, end: usize, lo: usize, n: usize, d: usize, a
             return 0;
         }
         let names = fields::names(book, child);
+        greatest = numbers::greater(greatest, fields::width(book, child));
         if names == 1 {
             if !is_leaf(book, child, entry) {
                 return 0;
@@ -122,6 +148,9 @@ fn check_row(book: &[u8], o: usize, end: usize, lo: usize, n: usize, d: usize, a
         first += names;
         if first == lo + n {
             if child != end {
+                return 0;
+            }
+            if greatest != width {
                 return 0;
             }
             return entry;

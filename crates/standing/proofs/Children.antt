@@ -19,6 +19,7 @@ use Rattle.words.proofs.Rising.{nth-less, nth-positive, span-length}
 use Rattle.words.proofs.Words.{further, less-parts, part-at, shared-at, shared-le, shared-self, shared-trans}
 use Rattle.format.specs.Spans.{deep, rowTable, nodeTable}
 use Rattle.format.specs.Nodes.{Node, fork, leaf}
+use Rattle.format.specs.Widths.{widest}
 use Rattle.format.proofs.Spans.{ranked-within, span-share, table-more, table-none, table-one, table-run}
 use Rattle.standing.specs.Maps.{Map, Roomy, recordAt}
 use Rattle.standing.specs.Stands.{Child, GroupAt, NodeAt, RowAt, Stands}
@@ -206,6 +207,7 @@ module _ (ws : Words) (r : Rises ws) where
       pub symbol : recordAt μ b o .symbol ≡ s
       pub first : recordAt μ b o .first ≡ lo
       pub names : recordAt μ b o .names ≡ hi - lo
+      pub width : recordAt μ b o .width ≡ widest (span ws lo hi)
       pub nodes : o + recordAt μ b o .nodes * μ .stride ≡ e
       pub group : GroupAt μ b ws lo hi (recordAt μ b o .depth) (o + μ .stride) e
 
@@ -227,6 +229,7 @@ module _ (ws : Words) (r : Rises ws) where
             symbol = ap (λ (x : Node). x .symbol) (h .1);
             first = ap (λ (x : Node). x .first) (h .1);
             names = ap (λ (x : Node). x .names) (h .1) ∙ span-length ws lo hi l;
+            width = ap (λ (x : Node). x .width) (h .1);
             nodes = omega (arith, stands-end μ b row (o + μ .stride) e (h .2), ap (λ (x : ℕ). x * μ .stride) m);
             group = record { share = t; stands = subst (λ (x : ℕ). Stands μ b (o + μ .stride) (rowTable lo x (span ws lo hi)) e) (sym t) (h .2) };
           }
@@ -238,5 +241,5 @@ module _ (ws : Words) (r : Rises ws) where
           let g : Stands μ b (o + μ .stride) row e = subst (λ (x : ℕ). Stands μ b (o + μ .stride) (rowTable lo x (span ws lo hi)) e) t (f .group .stands) in
           let m : recordAt μ b o .nodes ≡ suc (length row) = strides-differ (μ .stride) wide (recordAt μ b o .nodes) (suc (length row)) (omega (arith, stands-end μ b row (o + μ .stride) e g, f .nodes)) in
           let told : recordAt μ b o ≡ fork lo s d (span ws lo hi) row =
-          rw (f .symbol, t, f .first, f .names ∙ sym (span-length ws lo hi l), m) refl in
+          rw (f .symbol, t, f .first, f .names ∙ sym (span-length ws lo hi l), m, f .width) refl in
           record { stands = subst (λ (rs : List Node). Stands μ b o rs e) (sym (table-more ws s lo hi r a l)) (f .room, told, g) }

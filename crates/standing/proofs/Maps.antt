@@ -19,10 +19,11 @@ module _ (μ : Map) (b : Bytes) (o : ℕ) where
   fields-are (suc (suc zero)) h = refl
   fields-are (suc (suc (suc zero))) h = refl
   fields-are (suc (suc (suc (suc zero)))) h = refl
-  fields-are (suc (suc (suc (suc (suc j))))) h = absurd (omega arith)
+  fields-are (suc (suc (suc (suc (suc zero))))) h = refl
+  fields-are (suc (suc (suc (suc (suc (suc j)))))) h = absurd (omega arith)
 
   pub record-is : (r : Node) → ((j : ℕ) → j < fieldCount → number b (o + j * μ .step) ≡ getD (fields r) j 0) → recordAt μ b o ≡ r
-  record-is r h = rw (field 0 (omega arith), field 1 (omega arith), field 2 (omega arith), field 3 (omega arith), field 4 (omega arith)) refl
+  record-is r h = rw (field 0 (omega arith), field 1 (omega arith), field 2 (omega arith), field 3 (omega arith), field 4 (omega arith), field 5 (omega arith)) refl
     where
       field : (j : ℕ) → j < fieldCount → getD (fields (recordAt μ b o)) j 0 ≡ getD (fields r) j 0
       field j l = sym (fields-are j l) ∙ h j l

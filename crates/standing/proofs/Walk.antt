@@ -20,7 +20,9 @@ use Rattle.words.proofs.Rising.{nth-less}
 use Rattle.words.proofs.Words.{less-short, shared-comm, shared-le}
 use Rattle.format.specs.Spans.{deep, rowTable, nodeTable}
 use Rattle.format.specs.Nodes.{Node}
+use Rattle.format.specs.Widths.{widest}
 use Rattle.format.proofs.Spans.{span-share}
+use Rattle.format.proofs.Widths.{widest-one}
 use Rattle.standing.specs.Maps.{Map, Roomy, recordAt}
 use Rattle.standing.specs.Stands.{Child, GroupAt, NodeAt, RowAt}
 use Rattle.standing.proofs.Records.{stands-end}
@@ -34,6 +36,7 @@ pub record Head (μ : Map) (b : Bytes) (ws : Words) (s lo hi o e : ℕ) : Type 0
   pub first : recordAt μ b o .first ≡ lo
   pub nodes : o + recordAt μ b o .nodes * μ .stride ≡ e
   pub names : recordAt μ b o .names ≡ hi - lo
+  pub width : recordAt μ b o .width ≡ widest (span ws lo hi)
   pub depth : suc lo < hi → recordAt μ b o .depth ≡ deep ws lo hi
 
 -- the row of the group from lo₀ to hi, of depth d, stands from o₀ on just where the row of its words from lo on stands from o on
@@ -82,6 +85,7 @@ module _ (μ : Map) (b : Bytes) (ws : Words) (r : Rises ws) where
             first = ap (λ (x : Node). x .first) (f .told);
             nodes = omega (arith, f .end, ap (λ (x : ℕ). x * μ .stride) n);
             names = omega arith;
+            width = ap (λ (x : Node). x .width) (f .told) ∙ sym (widest-one ws lo (omega arith)) ∙ ap (λ (x : ℕ). widest (span ws lo x)) k;
             depth = λ q. absurd (lt-irrefl hi (omega arith));
           }
       go (inr k) =
@@ -93,6 +97,7 @@ module _ (μ : Map) (b : Bytes) (ws : Words) (r : Rises ws) where
             first = f .first;
             nodes = f .nodes;
             names = f .names;
+            width = f .width;
             depth = λ q. f .group .share;
           }
 

@@ -34,6 +34,7 @@ recordAt μ b o = record {
   first = number b (o + 2 * μ .step);
   names = number b (o + 3 * μ .step);
   nodes = number b (o + 4 * μ .step);
+  width = number b (o + 5 * μ .step);
 }
 
 abbrev pub Roomy : Map → Bytes → ℕ → Type 0

@@ -1,8 +1,9 @@
 -- The trailer as the code has it at hand, and what is asked of it.
 --     trailerIn         the numbers that the trailer of some bytes tells
+--     markFront, markBack     the mark 4E 42 4B 32 as two numbers
 --     Trail, TrailSays  what is asked of the trailer alone; whether it holds
 -- Assumes nothing: these are definitions.
-use Prim.Native.Nat.{_*_, _+_, _≤_}
+use Prim.Native.Nat.{ℕ, _*_, _+_, _≤_}
 use mathlib.Core.Path.{_≡_}
 use mathlib.Core.Bool.{Bool, false, true}
 use lib.ListN.{length}
@@ -15,7 +16,13 @@ use Rattle.trailer.specs.declared.Trailer.{Trailer}
 abbrev pub trailerIn : Bytes → Trailer
 trailerIn b = record { names = told b 0; block = told b 1; blocks = told b 2; nodes = told b 3; count = told b 4 }
 
--- one field for each test of the code; the mark as two numbers
+abbrev pub markFront : ℕ
+markFront = 0x424E
+
+abbrev pub markBack : ℕ
+markBack = 0x324B
+
+-- one field for each test of the code
 pub record Trail (b : Bytes) : Type 0 where
   pub long : trailerSize ≤ length b
   pub short : length b ≤ longestBook
@@ -25,8 +32,8 @@ pub record Trail (b : Bytes) : Type 0 where
   pub order : told b 2 ≤ told b 3
   pub total : told b 3 + told b 4 * nodeSize + trailerSize ≡ length b
   pub whole : told b 5 ≡ length b
-  pub front : told b 6 ≡ 0x424E
-  pub back : told b 7 ≡ 0x314B
+  pub front : told b 6 ≡ markFront
+  pub back : told b 7 ≡ markBack
 
 abbrev pub TrailSays : Bytes → Bool → Type 0
 TrailSays b true = Trail b

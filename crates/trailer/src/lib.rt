@@ -9,6 +9,11 @@ ghost use Rattle.trailer.specs.Trailer.{TrailSays, trailerIn};
 // How many bytes a trailer has.
 pub const SIZE: usize = 16;
 
+// The mark 4E 42 4B 32 as two numbers, its front and its back.
+const FRONT: usize = 0x424E;
+
+const BACK: usize = 0x324B;
+
 // What the trailer tells of its book, but for its length. As narrow as they are stored, the numbers cost a guest no more stack than two
 // of them did.
 pub struct Trailer {
@@ -91,17 +96,17 @@ pub fn is_trailer(book: &[u8]) -> bool
     if number(book, 5) != book.len() {
         return false;
     }
-    if number(book, 6) != 0x424E {
+    if number(book, 6) != FRONT {
         return false;
     }
-    if number(book, 7) != 0x314B {
+    if number(book, 7) != BACK {
         return false;
     }
     true
 }
 
 // The trailer of a book of so many names in blocks of so many, with these starts of its tables, so many nodes and so many bytes in all. The
-// mark 4E 42 4B 31 is two numbers more.
+// mark is two numbers more.
 pub fn put_trailer(
     part: &mut [u8],
     names: usize,
@@ -114,6 +119,6 @@ pub fn put_trailer(
     requires { ⌜ length (now part) ≡ trailerSize ⌝ }
     ensures { λ _. ⌜ now (part .exit) ≡ trailer names block blocks nodes count total ⌝ }
 {
-    let fields = [names, block, blocks, nodes, count, total, 0x424E, 0x314B];
+    let fields = [names, block, blocks, nodes, count, total, FRONT, BACK];
     numbers::put_numbers(part, &fields);
 }

@@ -1,7 +1,7 @@
 -- `inspect::is_leaf` meets its contract.
 -- Assumes nothing.
 use borrow.Author.Needs.{needs}
-use Rattle.inspect.proofs.Fields.{leaf-depth, leaf-nodes}
+use Rattle.inspect.proofs.Fields.{leaf-depth, leaf-nodes, leaf-width}
 use Rattle.inspect.proofs.is_leaf.Statement.{statement}
 use Rattle.inspect.proofs.is_leaf.Tie as tie
 
@@ -12,6 +12,8 @@ is-leaf-spec =
     (λ c κs. search needs)
     (λ c κs. search needs)
     (λ c. search needs)
-    (λ c. leaf-depth _ _ _ _ _ (c .before .before .depth .ensures .0) (c .before .length-of .ensures .0) (c .if1 .taken))
+    (λ c. leaf-depth _ _ _ _ _ (c .before .depth .ensures .0) (c .before .before .length-of .ensures .0) (c .if1 .taken))
     (λ c κs. search needs)
-    (λ c. leaf-nodes _ _ _ _ _ (c .before .before .before .depth .ensures .0) (c .before .before .length-of .ensures .0) (c .before .if1 .left) _ (c .nodes .ensures .0)))
+    (λ c. search leaf-width)
+    (λ c κs. search needs)
+    (λ c. search leaf-nodes))
