@@ -18,10 +18,10 @@ use Rattle.words.specs.Words.{Bytes}
 use Rattle.records.specs.Lists.{Ready, words}
 use Rattle.records.proofs.Starts.{ready-rises}
 use Rattle.nodes.specs.declared.LeftOpen.{LeftOpen}
-use Rattle.nodes.specs.Frames.{depthIn, frameCount, frameSize, withFrame}
+use Rattle.nodes.specs.Frames.{depthIn, frameCount, frameSize, raised, withFrame}
 use Rattle.nodes.specs.Writing.{NameAsk, NamePut, Passing, Rowing}
 use Rattle.nodes.specs.Counting.{CountAsk, Deeper, NodeCount, StaysOpen}
-use Rattle.nodes.proofs.Frames.{depth-below, open-depth, with-depth}
+use Rattle.nodes.proofs.Frames.{frame-below, frame-raised, open-depth, with-depth}
 use Rattle.nodes.proofs.Writing.{all-words, back-full, leaf-put, node-put, passing-deeper, passing-on, rowing-all, rowing-closing, rowing-keep, rowing-left, rowing-name, rowing-push, rowing-room, rowing-start}
 
 -- ---- frame after frame
@@ -70,7 +70,7 @@ module _ {rest : Bytes} {skip j left : ℕ} {frames : List ℕ} {first count : �
   unwound depths same d zero {p} l e k = record { p = p; top-is = omega arith; count-is = omega arith; passing = k }
   unwound {r} depths same d (suc m) {p} l e k =
       let h : left < depthIn frames (p .top) = omega (arith, d .deeper (p .top) (omega arith) l, same (p .top) l) in
-      let put = node-put (passing-deeper k refl _ refl a h) (back-full [] (p .count) _ (omega arith)) _ _ refl refl refl refl refl refl in
+      let put = node-put (passing-deeper k refl _ refl a h) (back-full [] (p .count) _ (omega arith)) _ _ _ refl refl refl refl refl refl refl refl in
       let u = unwound depths same d m (omega arith) (omega arith) (passing-on k (put .onward)) in
       record { p = u .p; top-is = u .top-is; count-is = omega (arith, u .count-is); passing = u .passing }
 
@@ -174,13 +174,13 @@ module _ {n : ℕ} {shares : List ℕ} (a : CountAsk n shares) where
 
           kept : left ≤ x → Uncounted s n depths r count (j - 1)
           kept g = record {
-            frames = o .frames;
-            same = λ t b. o .same t (omega (arith, u .above .within));
+            frames = raised (o .frames) (closed .p .top) (closed .p .width);
+            same = λ t b. frame-raised (o .frames) (closed .p .top) (closed .p .width) t .depth ∙ o .same t (omega (arith, u .above .within));
             written = closed .p .count;
             end = o .end - len - 1;
             rowing =
-                subst (λ (t : ℕ). Rowing s n [] [] (o .frames) t (closed .p .count) (o .end - len - 1) (j - 1)) (closed .top-is)
-                (rowing-keep ready (o .rowing) h len refl left z l put x top-depth g);
+                subst (λ (t : ℕ). Rowing s n [] [] (raised (o .frames) (closed .p .top) (closed .p .width)) t (closed .p .count) (o .end - len - 1) (j - 1)) (closed .top-is)
+                (rowing-keep ready (o .rowing) h len refl left z l put x top-depth g _ refl);
             is = omega (arith, o .is, closed .count-is, u .above .within);
             closed = bottom;
           }
@@ -189,17 +189,17 @@ module _ {n : ℕ} {shares : List ℕ} (a : CountAsk n shares) where
           pushed g =
               let slot : r + 1 < frameCount = omega (arith, rowing-room ready (o .rowing) h len refl left z l put x top-depth g .slot, closed .top-is) in
               record {
-                frames = withFrame (o .frames) (r + 1) left (closed .p .end) (closed .p .mark);
+                frames = withFrame (o .frames) (r + 1) left (closed .p .width) (closed .p .end) (closed .p .mark);
                 same = λ t b. elim (ℕ-discrete t (r + 1)) [
-                  | yes q ↦ rw q (with-depth (o .frames) (r + 1) left (closed .p .end) (closed .p .mark) (omega (arith, o .rowing .framed .slots))
+                  | yes q ↦ rw q (with-depth (o .frames) (r + 1) left (closed .p .width) (closed .p .end) (closed .p .mark) (omega (arith, o .rowing .framed .slots))
                       ∙ sym (getD-set-same depths (r + 1) left 0 (omega (arith, k .slots))))
-                  | no q ↦ depth-below (o .frames) (r + 1) left (closed .p .end) (closed .p .mark) t (omega arith)
+                  | no q ↦ frame-below (o .frames) (r + 1) left (closed .p .width) (closed .p .end) (closed .p .mark) t (omega arith) .depth
                       ∙ o .same t (omega (arith, u .above .within)) ∙ sym (getD-set-other depths (r + 1) t left 0 q)
                 ];
                 written = closed .p .count;
                 end = o .end - len - 1;
                 rowing =
-                    subst (λ (t : ℕ). Rowing s n [] [] (withFrame (o .frames) (t + 1) left (closed .p .end) (closed .p .mark)) (t + 1) (closed .p .count) (o .end - len - 1) (j - 1)) (closed .top-is)
+                    subst (λ (t : ℕ). Rowing s n [] [] (withFrame (o .frames) (t + 1) left (closed .p .width) (closed .p .end) (closed .p .mark)) (t + 1) (closed .p .count) (o .end - len - 1) (j - 1)) (closed .top-is)
                     (rowing-push ready (o .rowing) h len refl left z l put x top-depth g _ refl);
                 is = omega (arith, o .is, closed .count-is, u .above .within);
                 closed = λ q. absurd (lt-irrefl x (omega (arith, z q)));

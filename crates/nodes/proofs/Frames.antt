@@ -1,7 +1,8 @@
 -- Laws of the open nodes.
 --     nodeBy            a record by its numbers
---     with-stored       a frame's numbers, stored one by one; with-depth, .., depth-below, ..: what stands in the row then
---     framed-with       one frame more on top
+--     with-stored, raised-stored     a frame's numbers, stored one by one; a greater width; with-depth, ..: what stands in the row then
+--     SameFrame, frame-below, frame-raised     a frame keeps its numbers where another is stored, and all but its width where names come in
+--     framed-with, framed-raised               one frame more on top; names more in the top frame
 --     deep-down         the depth of a span that begins one name earlier
 --     shares-part       two neighbours differ where they part
 --     open-depth, open-within, open-few    bounds
@@ -24,14 +25,16 @@ use Rattle.words.proofs.Words.{between, less-parts, less-short, shared-at, shar
 use Rattle.format.specs.Spans.{deep, rowTable, Ranked, nodeTable}
 use Rattle.format.specs.Nodes.{Node, fork, leaf, table}
 use Rattle.format.specs.Book.{number, numbers}
+use Rattle.format.specs.Widths.{widest}
 use Rattle.format.proofs.Numbers.{two-bytes}
 use Rattle.format.proofs.Groups.{row-few, table-root}
+use Rattle.format.proofs.Widths.{widest-one, widest-span}
 use Rattle.format.proofs.Spans.{ranked-rest, ranked-span, ranked-within, span-few, table-more, table-none, table-one, table-run}
-use Rattle.nodes.specs.Frames.{Cur, Framed, Open, depthIn, endIn, frameCount, frameSize, markIn, more, none, sharesAt, symbolOf, withFrame}
+use Rattle.nodes.specs.Frames.{Cur, Framed, Open, depthIn, endIn, frameCount, frameSize, markIn, more, none, raised, sharesAt, symbolOf, widthIn, withFrame}
 
 -- a record by its numbers
-abbrev pub nodeBy : ℕ → ℕ → ℕ → ℕ → ℕ → Node
-nodeBy s d f n m = record { symbol = s; depth = d; first = f; names = n; nodes = m }
+abbrev pub nodeBy : ℕ → ℕ → ℕ → ℕ → ℕ → ℕ → Node
+nodeBy s d f n m w = record { symbol = s; depth = d; first = f; names = n; nodes = m; width = w }
 
 -- ---- the row of frames
 
@@ -49,71 +52,129 @@ in-sets (v ∷ vs) l i (suc k) h g =
     let z : i + suc k ≡ suc i + k = omega arith in
     ap (λ (a : ℕ). getD (sets (set l i v) (suc i) vs) a 0) z ∙ in-sets vs (set l i v) (suc i) k (omega arith) (omega (arith, length-set l i v))
 
-module _ (frames : List ℕ) (t d e m : ℕ) where
+module _ (frames : List ℕ) (t d w e m : ℕ) where
   -- the bytes of a frame
   abbrev made : List ℕ
-  made = d ∷ e % 256 ∷ e / 256 % 256 ∷ m % 256 ∷ m / 256 % 256 ∷ []
+  made = d ∷ w ∷ e % 256 ∷ e / 256 % 256 ∷ m % 256 ∷ m / 256 % 256 ∷ []
 
-  with-made : sets frames (frameSize * t) made ≡ withFrame frames t d e m
+  with-made : sets frames (frameSize * t) made ≡ withFrame frames t d w e m
   unfolding withFrame numbers
   with-made = refl
 
-  pub with-stored : set (set (set (set (set frames (frameSize * t) d) (frameSize * t + 1) (e % 256)) (frameSize * t + 2) (e / 256 % 256)) (frameSize * t + 3) (m % 256)) (frameSize * t + 4) (m / 256 % 256)
-      ≡ withFrame frames t d e m
+  pub with-stored : set (set (set (set (set (set frames (frameSize * t) d) (frameSize * t + 1) w) (frameSize * t + 2) (e % 256)) (frameSize * t + 3) (e / 256 % 256)) (frameSize * t + 4) (m % 256)) (frameSize * t + 5) (m / 256 % 256)
+      ≡ withFrame frames t d w e m
   unfolding withFrame numbers
   with-stored =
-      let o : ℕ = frameSize * t in
       let one : frameSize * t + 1 ≡ suc (frameSize * t) = omega arith in
       let two : frameSize * t + 2 ≡ suc (suc (frameSize * t)) = omega arith in
       let three : frameSize * t + 3 ≡ suc (suc (suc (frameSize * t))) = omega arith in
       let four : frameSize * t + 4 ≡ suc (suc (suc (suc (frameSize * t)))) = omega arith in
-      rw (one, two, three, four) refl
+      let five : frameSize * t + 5 ≡ suc (suc (suc (suc (suc (frameSize * t))))) = omega arith in
+      rw (one, two, three, four, five) refl
 
-  with-length : length (withFrame frames t d e m) ≡ length frames
+  with-length : length (withFrame frames t d w e m) ≡ length frames
   with-length = ap length (sym with-made) ∙ length-sets frames (frameSize * t) made
 
   module _ (h : frameSize * suc t ≤ length frames) where
     -- byte k of the frame
-    with-byte : (k : ℕ) → k < 5 → getD (withFrame frames t d e m) (frameSize * t + k) 0 ≡ getD made k 0
+    with-byte : (k : ℕ) → k < frameSize → getD (withFrame frames t d w e m) (frameSize * t + k) 0 ≡ getD made k 0
     with-byte k l = ap (λ (s : List ℕ). getD s (frameSize * t + k) 0) (sym with-made) ∙ in-sets made frames (frameSize * t) k l (omega arith)
 
-    pub with-depth : depthIn (withFrame frames t d e m) t ≡ d
+    -- bytes k and k + 1 are a number
+    with-number : (k n : ℕ) → suc k < frameSize → getD made k 0 ≡ n % 256 → getD made (suc k) 0 ≡ n / 256 % 256 → n < 65536
+        → number (withFrame frames t d w e m) (frameSize * t + k) ≡ n
+    unfolding number
+    with-number k n l low high small =
+        let z : frameSize * t + k + 1 ≡ frameSize * t + suc k = omega arith in
+        ap₂ (λ (a b : ℕ). a + 256 * b) (with-byte k (omega arith) ∙ low) (ap (λ (a : ℕ). getD (withFrame frames t d w e m) a 0) z ∙ with-byte (suc k) l ∙ high) ∙ two-bytes n small
+
+    pub with-depth : depthIn (withFrame frames t d w e m) t ≡ d
     with-depth =
         let z : frameSize * t ≡ frameSize * t + 0 = omega arith in
-        ap (λ (a : ℕ). getD (withFrame frames t d e m) a 0) z ∙ with-byte 0 (omega arith)
+        ap (λ (a : ℕ). getD (withFrame frames t d w e m) a 0) z ∙ with-byte 0 (omega arith)
 
-    with-end : e < 65536 → endIn (withFrame frames t d e m) t ≡ e
-    unfolding number
-    with-end small =
-        let z : frameSize * t + 1 + 1 ≡ frameSize * t + 2 = omega arith in
-        ap₂ (λ (a b : ℕ). a + 256 * b) (with-byte 1 (omega arith)) (ap (λ (a : ℕ). getD (withFrame frames t d e m) a 0) z ∙ with-byte 2 (omega arith)) ∙ two-bytes e small
+    with-width : widthIn (withFrame frames t d w e m) t ≡ w
+    with-width = with-byte 1 (omega arith)
 
-    with-mark : m < 65536 → markIn (withFrame frames t d e m) t ≡ m
-    unfolding number
-    with-mark small =
-        let z : frameSize * t + 3 + 1 ≡ frameSize * t + 4 = omega arith in
-        ap₂ (λ (a b : ℕ). a + 256 * b) (with-byte 3 (omega arith)) (ap (λ (a : ℕ). getD (withFrame frames t d e m) a 0) z ∙ with-byte 4 (omega arith)) ∙ two-bytes m small
+    with-end : e < 65536 → endIn (withFrame frames t d w e m) t ≡ e
+    with-end small = with-number 2 e (omega arith) refl refl small
 
-  module _ (i : ℕ) (h : i < t) where
-    byte-below : (a : ℕ) → a < frameSize * t → getD (withFrame frames t d e m) a 0 ≡ getD frames a 0
-    byte-below a l = ap (λ (s : List ℕ). getD s a 0) (sym with-made) ∙ before-sets made frames (frameSize * t) a l
+    with-mark : m < 65536 → markIn (withFrame frames t d w e m) t ≡ m
+    with-mark small = with-number 4 m (omega arith) refl refl small
 
-    pub depth-below : depthIn (withFrame frames t d e m) i ≡ depthIn frames i
-    depth-below = byte-below (frameSize * i) (omega arith)
+-- ---- frames that keep their bytes
 
-    end-below : endIn (withFrame frames t d e m) i ≡ endIn frames i
-    unfolding number
-    end-below = ap₂ (λ (a b : ℕ). a + 256 * b) (byte-below (frameSize * i + 1) (omega arith)) (byte-below (frameSize * i + 1 + 1) (omega arith))
+-- frame t has the same bytes in both rows, but for its width
+pub record SameFrame (frames others : List ℕ) (t : ℕ) : Type 0 where
+  pub depth : depthIn others t ≡ depthIn frames t
+  pub end : endIn others t ≡ endIn frames t
+  pub mark : markIn others t ≡ markIn frames t
 
-    mark-below : markIn (withFrame frames t d e m) i ≡ markIn frames i
-    unfolding number
-    mark-below = ap₂ (λ (a b : ℕ). a + 256 * b) (byte-below (frameSize * i + 3) (omega arith)) (byte-below (frameSize * i + 3 + 1) (omega arith))
+-- .. where each byte is the same but that of the width
+same-frame : (frames others : List ℕ) (t : ℕ) → ((k : ℕ) → k < frameSize → (k ≡ 1 → ⊥) → getD others (frameSize * t + k) 0 ≡ getD frames (frameSize * t + k) 0) → SameFrame frames others t
+unfolding number
+same-frame frames others t same = record {
+  depth =
+      let z : frameSize * t ≡ frameSize * t + 0 = omega arith in
+      subst (λ (a : ℕ). getD others a 0 ≡ getD frames a 0) (sym z) (same 0 (omega arith) (λ e. lt-irrefl 0 (omega arith)));
+  end = two 2 (omega arith) (omega arith);
+  mark = two 4 (omega arith) (omega arith);
+}
+  where
+    two : (k : ℕ) → 2 ≤ k → suc k < frameSize → getD others (frameSize * t + k) 0 + 256 * getD others (frameSize * t + k + 1) 0 ≡ getD frames (frameSize * t + k) 0 + 256 * getD frames (frameSize * t + k + 1) 0
+    two k l h =
+        let z : frameSize * t + suc k ≡ frameSize * t + k + 1 = omega arith in
+        ap₂ (λ (a b : ℕ). a + 256 * b) (same k (omega arith) (λ e. lt-irrefl 1 (omega arith)))
+        (subst (λ (a : ℕ). getD others a 0 ≡ getD frames a 0) z (same (suc k) h (λ e. lt-irrefl 1 (omega arith))))
 
-pub framed-with : {frames : List ℕ} {t : ℕ} (d e m : ℕ) → Framed frames t → suc t < frameCount → Framed (withFrame frames (suc t) d e m) (suc t)
-framed-with {frames} {t} d e m f h = record {
-  sentinel = depth-below frames (suc t) d e m 0 (omega arith) ∙ f .sentinel;
-  slots = with-length frames (suc t) d e m ∙ f .slots;
+module _ (frames : List ℕ) (t d w e m i : ℕ) (h : i < t) where
+  byte-below : (a : ℕ) → a < frameSize * t → getD (withFrame frames t d w e m) a 0 ≡ getD frames a 0
+  byte-below a l = ap (λ (s : List ℕ). getD s a 0) (sym (with-made frames t d w e m)) ∙ before-sets (made frames t d w e m) frames (frameSize * t) a l
+
+  pub frame-below : SameFrame frames (withFrame frames t d w e m) i
+  frame-below = same-frame frames (withFrame frames t d w e m) i (λ k l n. byte-below (frameSize * i + k) (omega arith))
+
+  width-below : widthIn (withFrame frames t d w e m) i ≡ widthIn frames i
+  width-below = byte-below (frameSize * i + 1) (omega arith)
+
+module _ (frames : List ℕ) (t w : ℕ) where
+  pub raised-stored : (y z : ℕ) → y ≡ widthIn frames t → z ≡ max w y → set frames (frameSize * t + 1) z ≡ raised frames t w
+  unfolding raised
+  raised-stored y z ye ze = ap (set frames (frameSize * t + 1)) (ze ∙ ap (max w) ye)
+
+  byte-other : (a : ℕ) → (a ≡ frameSize * t + 1 → ⊥) → getD (raised frames t w) a 0 ≡ getD frames a 0
+  unfolding raised
+  byte-other a n = getD-set-other frames (frameSize * t + 1) a (max w (widthIn frames t)) 0 n
+
+  pub frame-raised : (i : ℕ) → SameFrame frames (raised frames t w) i
+  frame-raised i = same-frame frames (raised frames t w) i (λ k l n. byte-other (frameSize * i + k) (λ e. n (remainder k l e)))
+    where
+      remainder : (k : ℕ) → k < frameSize → frameSize * i + k ≡ frameSize * t + 1 → k ≡ 1
+      remainder k l e = omega arith
+
+  width-other : (i : ℕ) → i < t → widthIn (raised frames t w) i ≡ widthIn frames i
+  width-other i l = byte-other (frameSize * i + 1) (λ e. lt-irrefl i (omega arith))
+
+  width-raised : frameSize * suc t ≤ length frames → widthIn (raised frames t w) t ≡ max w (widthIn frames t)
+  unfolding raised
+  width-raised h = getD-set-same frames (frameSize * t + 1) (max w (widthIn frames t)) 0 (omega arith)
+
+  raised-length : length (raised frames t w) ≡ length frames
+  unfolding raised
+  raised-length = length-set frames (frameSize * t + 1) (max w (widthIn frames t))
+
+pub framed-with : {frames : List ℕ} {t : ℕ} (d w e m : ℕ) → Framed frames t → suc t < frameCount → Framed (withFrame frames (suc t) d w e m) (suc t)
+framed-with {frames} {t} d w e m f h = record {
+  sentinel = frame-below frames (suc t) d w e m 0 (omega arith) .depth ∙ f .sentinel;
+  slots = with-length frames (suc t) d w e m ∙ f .slots;
   slot = h;
+}
+
+pub framed-raised : {frames : List ℕ} {t : ℕ} (w : ℕ) → Framed frames t → Framed (raised frames t w) t
+framed-raised {frames} {t} w f = record {
+  sentinel = frame-raised frames t w 0 .depth ∙ f .sentinel;
+  slots = raised-length frames t w ∙ f .slots;
+  slot = f .slot;
 }
 
 -- ---- words
@@ -187,16 +248,16 @@ module _ (ws : Words) (r : Rises ws) where
 
     pub open-depth : depthIn frames 0 ≡ 0 → {j t c : ℕ} {rest : List Node} → Open ws frames j t c rest → t ≤ depthIn frames t
     open-depth z (none e) = zero-le
-    open-depth z (more d e m l a b s g o) = omega (arith, open-depth z o)
+    open-depth z (more d v e m l a b s g o) = omega (arith, open-depth z o)
 
     pub open-within : {j t c : ℕ} {rest : List Node} → Open ws frames j t c rest → c ≤ length ws
     open-within (none e) = omega arith
-    open-within (more d e m l a b s g o) = omega arith
+    open-within (more d v e m l a b s g o) = omega arith
 
     -- as many records as twice the names, at most
     pub open-few : {j t c : ℕ} {rest : List Node} → Open ws frames j t c rest → j < c → length rest + 2 * c ≤ 2 * length ws
     open-few (none e) h = omega arith
-    open-few {j = j} {c = c} (more {d = d} {e = e} {rest = rest} p q m l a b s g o) h =
+    open-few {j = j} {c = c} (more {d = d} {e = e} {rest = rest} p v q m l a b s g o) h =
         let k : Ranked d (span ws j e) = subst (λ (x : ℕ). Ranked x (span ws j e)) g (ranked-span ws j e r (omega arith) b) in
         omega (
           arith,
@@ -212,34 +273,36 @@ module _ (ws : Words) (r : Rises ws) where
     open-down : (j : ℕ) → 0 < j → {t c : ℕ} {rest : List Node} → Open ws frames j t c rest → j < c → depthIn frames t ≤ suc (sharesAt ws j)
         → Open ws frames (pred j) t c rest
     open-down j z (none e) h l = none e
-    open-down j z (more {t = t} {d = d} {e = e} p q m k a b s g o) h l =
+    open-down j z (more {t = t} {d = d} {e = e} p v q m k a b s g o) h l =
         let f : suc (pred j) ≡ j = omega arith in
         let down : deep ws (pred j) e ≡ d =
         deep-down (pred j) e (omega arith) b ∙ ap (λ (i : ℕ). min (sharesAt ws i) (deep ws i e)) f ∙ omega arith in
-        more p q m k a b s down (open-down j z o (omega arith) (omega arith))
+        more p v q m k a b s down (open-down j z o (omega arith) (omega arith))
 
-    -- what is stored above the top frame does not touch those below
-    open-with : {j t c : ℕ} {rest : List Node} → Open ws frames j t c rest → (i x y z : ℕ) → t < i → Open ws (withFrame frames i x y z) j t c rest
-    open-with (none e) i x y z l = none e
-    open-with (more {t = t} p q m k a b s g o) i x y z l =
-        more (depth-below frames i x y z (suc t) l ∙ p) (end-below frames i x y z (suc t) l ∙ q) (mark-below frames i x y z (suc t) l ∙ m)
-        (omega (arith, depth-below frames i x y z t (omega arith))) a b s g (open-with o i x y z (omega arith))
+    -- what is stored in frames from number i on does not touch those below
+    open-other : (others : List ℕ) (i : ℕ) → ((t : ℕ) → t < i → SameFrame frames others t) → ((t : ℕ) → t < i → widthIn others t ≡ widthIn frames t)
+        → {j t c : ℕ} {rest : List Node} → Open ws frames j t c rest → t < i → Open ws others j t c rest
+    open-other others i same wide (none e) l = none e
+    open-other others i same wide (more {t = t} p v q m k a b s g o) l =
+        let f = same (suc t) l in
+        more (f .depth ∙ p) (wide (suc t) l ∙ v) (f .end ∙ q) (f .mark ∙ m) (omega (arith, same t (omega arith) .depth)) a b s g (open-other others i same wide o (omega arith))
 
     -- ---- the node at hand
 
     -- a name by itself
     pub cur-leaf : {j top : ℕ} {rest : List Node} (left : ℕ) → Open ws frames j top (suc j) rest
-        → Cur ws frames j left top (suc j) (length rest) (leaf j (symbolOf (max left (depthIn frames top)) (nth ws j)) (nth ws j) ∷ rest)
+        → Cur ws frames j left top (suc j) (length rest) (length (nth ws j)) (leaf j (symbolOf (max left (depthIn frames top)) (nth ws j)) (nth ws j) ∷ rest)
     cur-leaf {j} {top} {rest} left o = record {
       rest = rest;
       open-rows = o;
       some = omega arith;
       is = ap (λ (x : List Node). x ++ rest) (sym (table-one ws (symbolOf (max left (depthIn frames top)) (nth ws j)) j (open-within o)));
       behind = refl;
+      wide = sym (widest-one ws j (open-within o));
       below = λ h. absurd (lt-irrefl (suc j) h);
     }
 
-    module _ {j left top c mark : ℕ} {done : List Node} (k : Cur ws frames j left top c mark done) where
+    module _ {j left top c mark width : ℕ} {done : List Node} (k : Cur ws frames j left top c mark width done) where
       pub cur-few : length done + 2 * j < 2 * length ws
       cur-few =
           let node : List Node = nodeTable j (symbolOf (max left (depthIn frames top)) (nth ws j)) (span ws j c) in
@@ -262,14 +325,19 @@ module _ (ws : Words) (r : Rises ws) where
           ∙ join j c d e rest some (omega arith) b (subst (λ (x : ℕ). Ranked x (span ws j e)) g (ranked-span ws j e r (omega arith) b))
           (λ h. omega (arith, k .below h)) (λ h. s)
 
+      -- the greatest length of the node's names with those of the top frame's rows
+      wider : (e : ℕ) → widthIn frames top ≡ widest (span ws c e) → c < e → e ≤ length ws → max width (widthIn frames top) ≡ widest (span ws j e)
+      wider e v a b = let some : j < c = k .some in omega (arith, k .wide, widest-span ws j c e (omega arith) (omega arith) b)
+
       -- what the top frame's numbers are where it is deeper than left
       pub record Closes : Type 0 where
         pub some : 0 < top
         pub end-behind : c < endIn frames top
         pub end-within : endIn frames top ≤ length ws
         pub mark-behind : markIn frames top ≤ length done
-        pub next : Cur ws frames j left (top - 1) (endIn frames top) (markIn frames top)
-            (nodeBy (symbolOf (max left (depthIn frames (top - 1))) (nth ws j)) (depthIn frames top - 1) j (endIn frames top - j) (length done - markIn frames top + 1) ∷ done)
+        pub next : Cur ws frames j left (top - 1) (endIn frames top) (markIn frames top) (max width (widthIn frames top))
+            (nodeBy (symbolOf (max left (depthIn frames (top - 1))) (nth ws j)) (depthIn frames top - 1) j (endIn frames top - j) (length done - markIn frames top + 1)
+            (max width (widthIn frames top)) ∷ done)
 
       pub cur-close : depthIn frames 0 ≡ 0 → left < depthIn frames top → Closes
       cur-close z h = go top refl (k .open-rows) (k .is)
@@ -277,22 +345,23 @@ module _ (ws : Words) (r : Rises ws) where
           go : (n : ℕ) {rest : List Node} → n ≡ top → Open ws frames j n c rest
               → done ≡ nodeTable j (symbolOf (max left (depthIn frames top)) (nth ws j)) (span ws j c) ++ rest → Closes
           go n e (none f) i = absurd (lt-irrefl left (omega (arith, ap (λ (x : ℕ). depthIn frames x) e)))
-          go n e (more {t = t} {d = d} {e = f} {rest = rest} p q m l a b s g o) i =
+          go n e (more {t = t} {d = d} {e = f} {rest = rest} p v q m l a b s g o) i =
               let p′ : depthIn frames top ≡ suc d = ap (λ (x : ℕ). depthIn frames x) (sym e) ∙ p in
               let q′ : endIn frames top ≡ f = ap (λ (x : ℕ). endIn frames x) (sym e) ∙ q in
               let m′ : markIn frames top ≡ length rest = ap (λ (x : ℕ). markIn frames x) (sym e) ∙ m in
               let t′ : top - 1 ≡ t = omega arith in
+              let some : j < c = k .some in
+              let w′ : max width (widthIn frames top) ≡ widest (span ws j f) = wider f (ap (λ (x : ℕ). widthIn frames x) (sym e) ∙ v) (omega arith) b in
               let row : List Node = rowTable j d (span ws j f) in
               let whole : done ≡ row ++ rest = row-of d f rest p′ (omega arith) i a b s g in
               let sym-of : ℕ = symbolOf (max left (depthIn frames t)) (nth ws j) in
-              let some : j < c = k .some in
               let size : length done ≡ length row + length rest = ap length whole ∙ length-append row rest in
               let tab : nodeTable j sym-of (span ws j f) ≡ fork j sym-of d (span ws j f) row ∷ row =
               table-more ws sym-of j f r (omega arith) b ∙ ap (λ (x : ℕ). fork j sym-of x (span ws j f) (rowTable j x (span ws j f)) ∷ rowTable j x (span ws j f)) g in
-              let rec : Node = nodeBy sym-of d j (f - j) (suc (length row)) in
-              let is-fork : _≡_ {A = Node} rec (fork j sym-of d (span ws j f) row) = ap (λ (x : ℕ). nodeBy sym-of d j x (suc (length row))) (sym (span-length ws j f b)) in
-              let fields : nodeBy (symbolOf (max left (depthIn frames (top - 1))) (nth ws j)) (depthIn frames top - 1) j (endIn frames top - j) (length done - markIn frames top + 1) ≡ rec =
-              eq5 (ap (λ (x : ℕ). symbolOf (max left (depthIn frames x)) (nth ws j)) t′) (omega arith) (omega arith) (omega arith) in
+              let rec : Node = nodeBy sym-of d j (f - j) (suc (length row)) (widest (span ws j f)) in
+              let is-fork : _≡_ {A = Node} rec (fork j sym-of d (span ws j f) row) = ap (λ (x : ℕ). nodeBy sym-of d j x (suc (length row)) (widest (span ws j f))) (sym (span-length ws j f b)) in
+              let fields : nodeBy (symbolOf (max left (depthIn frames (top - 1))) (nth ws j)) (depthIn frames top - 1) j (endIn frames top - j) (length done - markIn frames top + 1) (max width (widthIn frames top)) ≡ rec =
+              same-numbers (ap (λ (x : ℕ). symbolOf (max left (depthIn frames x)) (nth ws j)) t′) (omega arith) (omega arith) (omega arith) w′ in
               record {
                 some = omega arith;
                 end-behind = omega arith;
@@ -304,16 +373,17 @@ module _ (ws : Words) (r : Rises ws) where
                   some = omega arith;
                   is = cc;
                   behind = refl;
+                  wide = w′;
                   below = λ y. omega arith;
                 });
               }
             where
-              eq5 : {a b c d e f g h : ℕ} → a ≡ b → c ≡ d → e ≡ f → g ≡ h → nodeBy a c j e g ≡ nodeBy b d j f h
-              eq5 x y z w = rw (x, y, z, w) refl
+              same-numbers : {a b c d e f g h u v : ℕ} → a ≡ b → c ≡ d → e ≡ f → g ≡ h → u ≡ v → nodeBy a c j e g u ≡ nodeBy b d j f h v
+              same-numbers x y z w q = rw (x, y, z, w, q) refl
 
       -- on to the name before: a new frame, for a node that name j shares with it and with no frame yet
       pub cur-push : c < 65536 → mark < 65536 → 0 < j → left ≡ suc (sharesAt ws j) → depthIn frames top < left → frameSize * suc (suc top) ≤ length frames
-          → Open ws (withFrame frames (suc top) left c mark) (pred j) (suc top) j done
+          → Open ws (withFrame frames (suc top) left width c mark) (pred j) (suc top) j done
       cur-push cs ms h e l x =
           let d : ℕ = sharesAt ws j in
           let some : j < c = k .some in
@@ -327,19 +397,22 @@ module _ (ws : Words) (r : Rises ws) where
           k .is ∙ ap (λ (i : ℕ). nodeTable j (symbolOf i (nth ws j)) (span ws j c) ++ k .rest) q
           ∙ ap (λ (i : List Node). nodeTable j (at (nth ws j) d) (span ws j c) ++ (i ++ k .rest)) (sym (table-none ws d c))
           ∙ join j c d c (k .rest) some (omega arith) within (ranked-within ws r d j c some within (omega (arith, beyond))) (λ m. omega (arith, k .below m)) (λ m. absurd (lt-irrefl c m)) in
-          subst (Open ws (withFrame frames (suc top) left c mark) (pred j) (suc top) j) (sym whole)
-          (more (with-depth frames (suc top) left c mark x ∙ e) (with-end frames (suc top) left c mark x cs) (with-mark frames (suc top) left c mark x ms ∙ k .behind)
-          (omega (arith, depth-below frames (suc top) left c mark top (omega arith))) some within refl down
-          (open-with (open-down j h (k .open-rows) some (omega arith)) (suc top) left c mark (omega arith)))
+          let pushed : List ℕ = withFrame frames (suc top) left width c mark in
+          subst (Open ws pushed (pred j) (suc top) j) (sym whole)
+          (more (with-depth frames (suc top) left width c mark x ∙ e) (with-width frames (suc top) left width c mark x ∙ k .wide) (with-end frames (suc top) left width c mark x cs)
+          (with-mark frames (suc top) left width c mark x ms ∙ k .behind) (omega (arith, frame-below frames (suc top) left width c mark top (omega arith) .depth)) some within refl down
+          (open-other pushed (suc top) (λ i l. frame-below frames (suc top) left width c mark i l) (λ i l. width-below frames (suc top) left width c mark i l)
+          (open-down j h (k .open-rows) some (omega arith)) (omega arith)))
 
       -- on to the name before, which the top frame's node holds too
-      pub cur-keep : depthIn frames 0 ≡ 0 → 0 < j → left ≡ suc (sharesAt ws j) → depthIn frames top ≡ left → Open ws frames (pred j) top j done
-      cur-keep z h e l = go top refl (k .open-rows) (k .is)
+      pub cur-keep : depthIn frames 0 ≡ 0 → 0 < j → left ≡ suc (sharesAt ws j) → depthIn frames top ≡ left → frameSize * suc top ≤ length frames
+          → Open ws (raised frames top width) (pred j) top j done
+      cur-keep z h e l room = go top refl (k .open-rows) (k .is)
         where
           go : (n : ℕ) {rest : List Node} → n ≡ top → Open ws frames j n c rest
-              → done ≡ nodeTable j (symbolOf (max left (depthIn frames top)) (nth ws j)) (span ws j c) ++ rest → Open ws frames (pred j) top j done
+              → done ≡ nodeTable j (symbolOf (max left (depthIn frames top)) (nth ws j)) (span ws j c) ++ rest → Open ws (raised frames top width) (pred j) top j done
           go n f (none g) i = absurd (lt-irrefl 0 (omega (arith, z, ap (λ (x : ℕ). depthIn frames x) f)))
-          go n f (more {t = t} {d = d} {e = x} {rest = rest} p q m u a b s g o) i =
+          go n f (more {t = t} {d = d} {e = x} {rest = rest} p v q m u a b s g o) i =
               let p′ : depthIn frames top ≡ suc d = ap (λ (y : ℕ). depthIn frames y) (sym f) ∙ p in
               let some : j < c = k .some in
               let back : suc (pred j) ≡ j = omega arith in
@@ -347,9 +420,14 @@ module _ (ws : Words) (r : Rises ws) where
               let down : deep ws (pred j) x ≡ d =
               deep-down (pred j) x (omega arith) b ∙ ap (λ (y : ℕ). min (sharesAt ws y) (deep ws y x)) back ∙ omega arith in
               let whole : done ≡ rowTable j d (span ws j x) ++ rest = row-of d x rest p′ (omega arith) i a b s g in
-              subst (λ (y : ℕ). Open ws frames (pred j) y j done) f
-              (subst (Open ws frames (pred j) (suc t) j) (sym whole)
-              (more p q m u (omega arith) b step down (open-down j h o (omega arith) (omega arith))))
+              let grown : List ℕ = raised frames top width in
+              let same = frame-raised frames top width in
+              let wide : widthIn grown (suc t) ≡ widest (span ws j x) =
+              ap (widthIn grown) f ∙ width-raised frames top width room ∙ wider x (ap (λ (y : ℕ). widthIn frames y) (sym f) ∙ v) (omega arith) b in
+              subst (λ (y : ℕ). Open ws grown (pred j) y j done) f
+              (subst (Open ws grown (pred j) (suc t) j) (sym whole)
+              (more (same (suc t) .depth ∙ p) wide (same (suc t) .end ∙ q) (same (suc t) .mark ∙ m) (omega (arith, same t .depth)) (omega arith) b step down
+              (open-other grown (suc t) (λ i y. same i) (λ i y. width-other frames top width i (omega arith)) (open-down j h o (omega arith) (omega arith)) (omega arith))))
 
       -- the first name: the whole table
       pub cur-all : depthIn frames 0 ≡ 0 → j ≡ 0 → left ≡ 0 → depthIn frames top ≤ left → done ≡ table ws
@@ -361,4 +439,4 @@ module _ (ws : Words) (r : Rises ws) where
               let q : max left (depthIn frames top) ≡ 0 = omega arith in
               i ∙ ap (λ (x : ℕ). nodeTable j (symbolOf x (nth ws j)) (span ws j c) ++ []) q ∙ append-nil (nodeTable j 0 (span ws j c))
               ∙ ap₂ (λ (x y : ℕ). nodeTable x 0 (span ws x y)) h g ∙ ap (nodeTable 0 0) (take-length ws) ∙ sym (table-root ws)
-          go n f (more {t = t} p q m u a b s g o) i = absurd (lt-irrefl 0 (omega (arith, ap (λ (x : ℕ). depthIn frames x) f)))
+          go n f (more {t = t} p v q m u a b s g o) i = absurd (lt-irrefl 0 (omega (arith, ap (λ (x : ℕ). depthIn frames x) f)))

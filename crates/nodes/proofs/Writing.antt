@@ -16,19 +16,20 @@ use lib.ListN.{length, getD, take, drop, length-append, length-drop, length-map,
 use lib.Seq.{drop-at, drop-drop, length-take-le, getD-drop, drop-length}
 use Rattle.words.specs.Words.{Bytes, Words, at, plain, shared, word}
 use Rattle.words.specs.Rising.{nth}
-use Rattle.words.proofs.Rising.{nth-less}
+use Rattle.words.proofs.Rising.{nth-less, span-all}
 use Rattle.words.proofs.Words.{at-past, less-short, plain-injective, shared-word}
 use Rattle.format.specs.Book.{allFields, fields, nodePart, numbers}
 use Rattle.format.specs.Spans.{nodeSize}
 use Rattle.format.specs.Nodes.{Node, leaf, table}
 use Rattle.format.proofs.Groups.{table-empty}
 use Rattle.format.proofs.Numbers.{numbers-append, numbers-length}
+use Rattle.format.proofs.Widths.{widest-low}
 use Rattle.records.specs.Lists.{Ready, names, startOf, words}
 use Rattle.records.proofs.Starts.{ready-rises, ready-size, ready-word, start-all, start-fits, start-name, start-next, words-length}
 use Rattle.nodes.specs.declared.LeftOpen.{LeftOpen}
-use Rattle.nodes.specs.Frames.{Cur, Framed, Tail, depthIn, endIn, frameCount, frameSize, leftOf, markIn, none, sharesAt, symbolOf, withFrame}
-use Rattle.nodes.specs.Writing.{Behind, Closing, Counted, LeafPut, NameAsk, NameAt, NamePut, NodeAsk, NodePut, NodesPut, Onward, Passing, PushAsk, PutBack, Rowing}
-use Rattle.nodes.proofs.Frames.{Closes, cur-all, cur-close, cur-few, cur-keep, cur-leaf, cur-push, framed-with, nodeBy, open-depth, open-few, open-within}
+use Rattle.nodes.specs.Frames.{Cur, Framed, Tail, depthIn, endIn, frameCount, frameSize, leftOf, markIn, none, raised, sharesAt, symbolOf, widthIn, withFrame}
+use Rattle.nodes.specs.Writing.{Behind, Closing, Counted, LeafPut, NameAsk, NameAt, NamePut, NodeAsk, NodePut, NodesPut, Onward, Passing, PushAsk, PutBack, RaiseAsk, Rowing}
+use Rattle.nodes.proofs.Frames.{Closes, cur-all, cur-close, cur-few, cur-keep, cur-leaf, cur-push, framed-raised, framed-with, nodeBy, open-depth, open-few, open-within}
 
 -- ---- one record more, in front of those at the end of a room
 
@@ -89,22 +90,22 @@ module _ {rest : Bytes} {skip j left : ℕ} where
         ∙ getD-drop skip (nth ws j) (p - skip) 0 ∙ ap (at (nth ws j)) back
 
     module _ {frames : List ℕ} where
-      leaf-closing : {top count : ℕ} {room₀ room : Bytes} {sy : ℕ} → Behind ws j frames top count room₀ → PutBack room₀ room count (nodeBy sy (skip + length rest + 1) j 1 1)
-          → sy ≡ symbolOf (max left (depthIn frames top)) (nth ws j) → Closing ws j left frames (record { top = top; count = count + 1; end = j + 1; mark = count }) room
+      leaf-closing : {top count : ℕ} {room₀ room : Bytes} {sy : ℕ} → Behind ws j frames top count room₀ → PutBack room₀ room count (nodeBy sy (skip + length rest + 1) j 1 1 (skip + length rest))
+          → sy ≡ symbolOf (max left (depthIn frames top)) (nth ws j)
+          → Closing ws j left frames (record { top = top; count = count + 1; end = j + 1; mark = count; width = skip + length rest }) room
       leaf-closing {top} {count} {room₀} {room} {sy} b put e =
           let w : Counted (length ws) (suc j) count room₀ (b .done) = b .written in
-          let size : skip + length rest + 1 ≡ suc (length (nth ws j)) = omega (arith, a .whole) in
+          let size : skip + length rest ≡ length (nth ws j) = sym (a .whole) in
           let node : Node = leaf j (symbolOf (max left (depthIn frames top)) (nth ws j)) (nth ws j) in
-          let c : Cur ws frames j left top (suc j) (length (b .done)) (node ∷ b .done) = cur-leaf ws (a .rises) frames left (b .rows) in
+          let c : Cur ws frames j left top (suc j) (length (b .done)) (length (nth ws j)) (node ∷ b .done) = cur-leaf ws (a .rises) frames left (b .rows) in
           record {
             done = node ∷ b .done;
             written = record {
               counted = omega (arith, w .counted);
-              tail = subst (Tail room) (ap₂ (λ (x y : ℕ). nodeBy x y j 1 1 ∷ b .done) e size) (put .tail (b .done) (sym (w .counted)) (w .tail));
+              tail = subst (Tail room) (ap₂ (λ (x y : ℕ). nodeBy x y j 1 1 (length (nth ws j)) ∷ b .done) e (add-one (length (nth ws j)))) (rw size at put .tail (b .done) (sym (w .counted)) (w .tail));
               few = omega (arith, w .few);
             };
-            cur = subst (λ (x : ℕ). Cur ws frames j left top x count (node ∷ b .done)) (sym (add-one j))
-                (subst (λ (x : ℕ). Cur ws frames j left top (suc j) x (node ∷ b .done)) (sym (w .counted)) c);
+            cur = rw (add-one j, w .counted, size) c;
           }
 
       module _ {p : LeftOpen} {room₀ : Bytes} (f : Framed frames (p .top)) (h : left < depthIn frames (p .top)) (k : Closing ws j left frames p room₀) where
@@ -112,12 +113,13 @@ module _ {rest : Bytes} {skip j left : ℕ} where
         closes = cur-close ws (a .rises) frames (k .cur) (f .sentinel) h
 
         node-closing : {room : Bytes} (sy : ℕ) → sy ≡ symbolOf (max left (depthIn frames (p .top - 1))) (nth ws j)
-            → PutBack room₀ room (p .count) (nodeBy sy (depthIn frames (p .top) - 1) j (endIn frames (p .top) - j) (p .count - markIn frames (p .top) + 1))
-            → Closing ws j left frames (record { top = p .top - 1; count = p .count + 1; end = endIn frames (p .top); mark = markIn frames (p .top) }) room
+            → PutBack room₀ room (p .count) (nodeBy sy (depthIn frames (p .top) - 1) j (endIn frames (p .top) - j) (p .count - markIn frames (p .top) + 1)
+            (max (p .width) (widthIn frames (p .top))))
+            → Closing ws j left frames (record { top = p .top - 1; count = p .count + 1; end = endIn frames (p .top); mark = markIn frames (p .top); width = max (p .width) (widthIn frames (p .top)) }) room
         node-closing {room} sy e put =
             let w : Counted (length ws) j (p .count) room₀ (k .done) = k .written in
             let c = closes .next in
-            let node : ℕ → ℕ → Node = λ (x y : ℕ). nodeBy x (depthIn frames (p .top) - 1) j (endIn frames (p .top) - j) (y - markIn frames (p .top) + 1) in
+            let node : ℕ → ℕ → Node = λ (x y : ℕ). nodeBy x (depthIn frames (p .top) - 1) j (endIn frames (p .top) - j) (y - markIn frames (p .top) + 1) (max (p .width) (widthIn frames (p .top))) in
             record {
               done = node (symbolOf (max left (depthIn frames (p .top - 1))) (nth ws j)) (length (k .done)) ∷ k .done;
               written = record {
@@ -129,9 +131,9 @@ module _ {rest : Bytes} {skip j left : ℕ} where
             }
 
   module _ {frames : List ℕ} where
-    pub leaf-put : {room₀ room : Bytes} {count sy : ℕ} → PutBack room₀ room count (nodeBy sy (skip + length rest + 1) j 1 1) → {top : ℕ} → NameAsk rest skip j left frames top count room₀
+    pub leaf-put : {room₀ room : Bytes} {count sy : ℕ} → PutBack room₀ room count (nodeBy sy (skip + length rest + 1) j 1 1 (skip + length rest)) → {top : ℕ} → NameAsk rest skip j left frames top count room₀
         → (x p : ℕ) → x ≡ depthIn frames top → p ≡ max left x → sy ≡ symbolOf (p - skip) (word plain rest)
-        → LeafPut rest skip j left frames top count room₀ (record { top = top; count = count + 1; end = j + 1; mark = count }) room
+        → LeafPut rest skip j left frames top count room₀ (record { top = top; count = count + 1; end = j + 1; mark = count; width = skip + length rest }) room
     leaf-put put {top} ask x p d e f = record {
       passing = record {
         kept = put .kept;
@@ -155,19 +157,23 @@ module _ {rest : Bytes} {skip j left : ℕ} where
       pub node-mark : (m : ℕ) → m ≡ markIn frames (p .top) → m ≤ p .count
       node-mark m is = omega (arith, last .mark-behind, a .closing .written .counted)
 
-    pub node-put : {room₀ room : Bytes} {p : LeftOpen} {sy d e m : ℕ} → NodeAsk rest skip j left frames p room₀
-        → PutBack room₀ room (p .count) (nodeBy sy (d - 1) j (e - j) (p .count - m + 1)) → (x q : ℕ) → d ≡ depthIn frames (p .top) → e ≡ endIn frames (p .top) → m ≡ markIn frames (p .top)
+    pub node-put : {room₀ room : Bytes} {p : LeftOpen} {sy d e m w : ℕ} → NodeAsk rest skip j left frames p room₀
+        → PutBack room₀ room (p .count) (nodeBy sy (d - 1) j (e - j) (p .count - m + 1) w) → (x q y : ℕ) → d ≡ depthIn frames (p .top) → e ≡ endIn frames (p .top) → m ≡ markIn frames (p .top)
+        → y ≡ widthIn frames (p .top) → w ≡ max (p .width) y
         → x ≡ depthIn frames (p .top - 1) → q ≡ max left x → sy ≡ symbolOf (q - skip) (word plain rest)
-        → NodePut rest skip j left frames p room₀ (record { top = p .top - 1; count = p .count + 1; end = e; mark = m }) room
-    node-put {p = p} {sy = sy} a put x q de ee me xe qe f = record {
+        → NodePut rest skip j left frames p room₀ (record { top = p .top - 1; count = p .count + 1; end = e; mark = m; width = w }) room
+    node-put {p = p} {sy = sy} {w = w} a put x q y de ee me ye we xe qe f = record {
       onward = record {
         kept = put .kept;
         down = omega arith;
-        closing = λ ws name k. rw (ee, me)
-            (node-closing name (a .framed) (a .deeper) k sy (f ∙ symbol-is name q (omega arith) ∙ ap (λ (i : ℕ). symbolOf i (nth ws j)) (qe ∙ ap (max left) xe)) (rw (de, ee, me) at put));
+        closing = λ ws name k. rw (ee, me, wide)
+            (node-closing name (a .framed) (a .deeper) k sy (f ∙ symbol-is name q (omega arith) ∙ ap (λ (i : ℕ). symbolOf i (nth ws j)) (qe ∙ ap (max left) xe)) (rw (de, ee, me, wide) at put));
       };
       fewer = omega (arith, node-some a);
     }
+      where
+        wide : w ≡ max (p .width) (widthIn frames (p .top))
+        wide = we ∙ ap (max (p .width)) ye
 
     -- ---- frame after frame
 
@@ -314,8 +320,22 @@ module _ {s : Bytes} {n : ℕ} {lens shares : List ℕ} (a : Ready s n lens shar
           pub rowing-closing : Closing (words s) i left frames p new
           rowing-closing = t .passing .closing (words s) name behind
 
-          cur : Cur (words s) frames i left (p .top) (p .end) (p .mark) (rowing-closing .done)
+          cur : Cur (words s) frames i left (p .top) (p .end) (p .mark) (p .width) (rowing-closing .done)
           cur = rowing-closing .cur
+
+          -- no name is longer than 200 bytes
+          narrow : p .width < 256
+          narrow =
+              let end : p .end ≤ length (words s) = open-within (words s) (ready-rises a) frames (cur .open-rows) in
+              omega (
+                arith,
+                cur .wide,
+                widest-low 200 (span-all (words s) i (p .end) (omega (arith, cur .some)) end (λ x l m.
+                    omega (arith, ap length (ready-word a x), length-map (getD (names s) x []) plain, ready-size a x (omega (arith, all-words)) .1))),
+              )
+
+          pub rowing-wide : RaiseAsk frames (p .top) (p .width)
+          rowing-wide = record { slots = k .framed .slots; slot = t .passing .framed .slot; width-fits = narrow }
 
           -- frames deepen, so there are at most as many as depths
           pub rowing-room : (x : ℕ) → x ≡ depthIn frames (p .top) → x < left → PushAsk frames left p
@@ -323,6 +343,7 @@ module _ {s : Bytes} {n : ℕ} {lens shares : List ℕ} (a : Ready s n lens shar
             slots = k .framed .slots;
             slot = omega (arith, open-depth (words s) (ready-rises a) frames (k .framed .sentinel) (cur .open-rows), rowing-left);
             depth-fits = omega (arith, rowing-left);
+            width-fits = narrow;
             end-fits = omega (arith, open-within (words s) (ready-rises a) frames (cur .open-rows), all-words, a .few);
             mark-fits = omega (arith, open-few (words s) (ready-rises a) frames (cur .open-rows) (cur .some), cur .behind, all-words, a .few);
           }
@@ -334,25 +355,26 @@ module _ {s : Bytes} {n : ℕ} {lens shares : List ℕ} (a : Ready s n lens shar
               go zero q = absurd (not-suc-le-zero q)
               go (suc m) q = refl
 
-          pub rowing-keep : (x : ℕ) → x ≡ depthIn frames (p .top) → left ≤ x → Rowing s n room₀ new frames (p .top) (p .count) (end - len - 1) i
-          rowing-keep x d g = record {
+          pub rowing-keep : (x : ℕ) → x ≡ depthIn frames (p .top) → left ≤ x → (more : List ℕ) → more ≡ raised frames (p .top) (p .width)
+              → Rowing s n room₀ new more (p .top) (p .count) (end - len - 1) i
+          rowing-keep x d g more e = rw e (record {
             low = omega (arith, k .low);
             here = start-is;
             kept = t .passing .kept ∙ k .kept;
-            framed = t .passing .framed;
+            framed = framed-raised (p .width) (t .passing .framed);
             done = rowing-closing .done;
             written = rowing-closing .written;
-            rows = λ q. cur-keep (words s) (ready-rises a) frames cur (k .framed .sentinel) q (left-shares q) (omega (arith, t .shallow));
+            rows = λ q. cur-keep (words s) (ready-rises a) frames cur (k .framed .sentinel) q (left-shares q) (omega (arith, t .shallow)) (omega (arith, k .framed .slots, t .passing .framed .slot));
             all = λ q. cur-all (words s) (ready-rises a) frames cur (k .framed .sentinel) q (z q) (t .shallow);
-          }
+          })
 
-          pub rowing-push : (x : ℕ) → x ≡ depthIn frames (p .top) → x < left → (more : List ℕ) → more ≡ withFrame frames (p .top + 1) left (p .end) (p .mark)
+          pub rowing-push : (x : ℕ) → x ≡ depthIn frames (p .top) → x < left → (more : List ℕ) → more ≡ withFrame frames (p .top + 1) left (p .width) (p .end) (p .mark)
               → Rowing s n room₀ new more (p .top + 1) (p .count) (end - len - 1) i
           rowing-push x d g more e = let slot : p .top + 1 < frameCount = rowing-room x d g .slot in rw (e, add-one (p .top)) (record {
             low = omega (arith, k .low);
             here = start-is;
             kept = t .passing .kept ∙ k .kept;
-            framed = framed-with left (p .end) (p .mark) (t .passing .framed) (omega arith);
+            framed = framed-with left (p .width) (p .end) (p .mark) (t .passing .framed) (omega arith);
             done = rowing-closing .done;
             written = rowing-closing .written;
             rows = λ q. cur-push (words s) (ready-rises a) frames cur (rowing-room x d g .end-fits) (rowing-room x d g .mark-fits) q (left-shares q) (omega arith) (omega (arith, k .framed .slots));

@@ -1,11 +1,11 @@
 -- The nodes that are open while the node table is written from its end. Going back over the names, the nodes that hold the name at
--- hand and are not yet written form a stack, deepest on top. A frame has three numbers: one more than the node's depth, in one byte,
--- where its names end, and how many records stand behind its last one, in two each. Frames stand in one row of bytes and count from 1;
--- number 0 is no node and has depth 0.
+-- hand and are not yet written form a stack, deepest on top. A frame has four numbers: one more than the node's depth and the greatest
+-- length of its names so far, in one byte each, where its names end, and how many records stand behind its last one, in two each. Frames
+-- stand in one row of bytes and count from 1; number 0 is no node and has depth 0.
 --     sharesAt, leftOf          what a word shares with the one before it; the same shifted, 0 for the first word
 --     frameSize, frameCount     how many bytes a frame has; for how many frames there is a place
---     depthIn, endIn, markIn    the numbers of frame t
---     withFrame                 the row with frame t anew
+--     depthIn, widthIn, endIn, markIn    the numbers of frame t
+--     withFrame, raised         the row with frame t anew; with names of that length in frame t, too
 --     Framed                    a row of frames with one on top
 --     Open                      the frames of the nodes that hold name j; from name c on the rows that they have so far
 --     symbolOf                  the symbol that leads to a node from a parent whose shifted depth is p; 0 for the root
@@ -15,12 +15,13 @@
 use Prim.Native.Nat.{ℕ, zero, suc, pred, _+_, _-_, _*_, _≤_, _<_, max}
 use mathlib.Core.Path.{_≡_}
 use mathlib.Core.List.{List, [], _∷_, _++_}
-use lib.ListN.{length, getD, drop}
+use lib.ListN.{length, getD, drop, set}
 use lib.Seq.{sets}
 use Rattle.words.specs.Rising.{span, nth}
 use Rattle.words.specs.Words.{Bytes, Words, at, shared}
 use Rattle.format.specs.Spans.{deep, rowTable, nodeSize, nodeTable}
 use Rattle.format.specs.Nodes.{Node}
+use Rattle.format.specs.Widths.{widest}
 use Rattle.format.specs.Book.{nodePart, number, numbers}
 
 abbrev pub sharesAt : Words → ℕ → ℕ
@@ -38,7 +39,7 @@ symbolOf (suc p) w = at w p
 -- ---- the row of frames
 
 abbrev pub frameSize : ℕ
-frameSize = 5
+frameSize = 6
 
 -- more than there are depths
 abbrev pub frameCount : ℕ
@@ -47,14 +48,20 @@ frameCount = 203
 abbrev pub depthIn : Bytes → ℕ → ℕ
 depthIn frames t = getD frames (frameSize * t) 0
 
+abbrev pub widthIn : Bytes → ℕ → ℕ
+widthIn frames t = getD frames (frameSize * t + 1) 0
+
 abbrev pub endIn : Bytes → ℕ → ℕ
-endIn frames t = number frames (frameSize * t + 1)
+endIn frames t = number frames (frameSize * t + 2)
 
 abbrev pub markIn : Bytes → ℕ → ℕ
-markIn frames t = number frames (frameSize * t + 3)
+markIn frames t = number frames (frameSize * t + 4)
 
-unfoldable pub withFrame : Bytes → ℕ → ℕ → ℕ → ℕ → Bytes
-withFrame frames t depth end mark = sets frames (frameSize * t) (depth ∷ numbers (end ∷ mark ∷ []))
+unfoldable pub withFrame : Bytes → ℕ → ℕ → ℕ → ℕ → ℕ → Bytes
+withFrame frames t depth width end mark = sets frames (frameSize * t) (depth ∷ width ∷ numbers (end ∷ mark ∷ []))
+
+unfoldable pub raised : Bytes → ℕ → ℕ → Bytes
+raised frames t width = set frames (frameSize * t + 1) (max width (widthIn frames t))
 
 pub record Framed (frames : List ℕ) (top : ℕ) : Type 0 where
   pub sentinel : depthIn frames 0 ≡ 0
@@ -65,17 +72,18 @@ pub record Framed (frames : List ℕ) (top : ℕ) : Type 0 where
 
 pub data Open (ws : Words) (frames : List ℕ) (j : ℕ) : ℕ → ℕ → List Node → Type 0 where
   none : {c : ℕ} → c ≡ length ws → Open ws frames j zero c []
-  more : {t c d e : ℕ} {rest : List Node} → depthIn frames (suc t) ≡ suc d → endIn frames (suc t) ≡ e → markIn frames (suc t) ≡ length rest
+  more : {t c d e : ℕ} {rest : List Node} → depthIn frames (suc t) ≡ suc d → widthIn frames (suc t) ≡ widest (span ws c e) → endIn frames (suc t) ≡ e → markIn frames (suc t) ≡ length rest
       → depthIn frames t < suc d → c < e → e ≤ length ws → sharesAt ws c ≡ d → deep ws j e ≡ d → Open ws frames j t e rest
       → Open ws frames j (suc t) c (rowTable c d (span ws c e) ++ rest)
 
 -- top is the number of the top frame, left the shifted depth at which name j parts from the name before it
-pub record Cur (ws : Words) (frames : List ℕ) (j left top c mark : ℕ) (done : List Node) : Type 0 where
+pub record Cur (ws : Words) (frames : List ℕ) (j left top c mark width : ℕ) (done : List Node) : Type 0 where
   pub rest : List Node
   pub open-rows : Open ws frames j top c rest
   pub some : j < c
   pub is : done ≡ nodeTable j (symbolOf (max left (depthIn frames top)) (nth ws j)) (span ws j c) ++ rest
   pub behind : mark ≡ length rest
+  pub wide : width ≡ widest (span ws j c)
   pub below : suc j < c → max left (depthIn frames top) ≤ deep ws j c
 
 abbrev pub Tail : Bytes → List Node → Type 0

@@ -5,7 +5,7 @@
 --     NameAt            a piece of name j; Behind: the names behind j; Closing: the name, and nodes that begin with it
 --     NameAsk           what is asked of a name; Passing: its leaf, and nodes in front of it; LeafPut, NamePut: none, and all of them
 --     NodeAsk, NodePut  the same of the node of one frame; Onward: of those of several
---     PushAsk           what one frame more asks
+--     PushAsk, RaiseAsk what one frame more asks, and names more in a frame
 --     Rowing, NodesPut  the walk over all names; the whole table
 -- The laws are in proofs/. Assumes nothing: these are definitions.
 use Prim.Native.Nat.{ℕ, suc, pred, _+_, _*_, _≤_, _<_}
@@ -51,7 +51,7 @@ pub record Behind (ws : Words) (j : ℕ) (frames : List ℕ) (top count : ℕ) (
 pub record Closing (ws : Words) (j left : ℕ) (frames : List ℕ) (p : LeftOpen) (room : Bytes) : Type 0 where
   pub done : List Node
   pub written : Counted (length ws) j (p .count) room done
-  pub cur : Cur ws frames j left (p .top) (p .end) (p .mark) done
+  pub cur : Cur ws frames j left (p .top) (p .end) (p .mark) (p .width) done
 
 -- ---- one name
 
@@ -102,8 +102,14 @@ pub record PushAsk (frames : List ℕ) (depth : ℕ) (p : LeftOpen) : Type 0 whe
   pub slots : length frames ≡ frameSize * frameCount
   pub slot : p .top + 1 < frameCount
   pub depth-fits : depth < 256
+  pub width-fits : p .width < 256
   pub end-fits : p .end < 65536
   pub mark-fits : p .mark < 65536
+
+pub record RaiseAsk (frames : List ℕ) (t width : ℕ) : Type 0 where
+  pub slots : length frames ≡ frameSize * frameCount
+  pub slot : t < frameCount
+  pub width-fits : width < 256
 
 -- The names from j on are written, and the name before j ends at `end`; the frames are those of the nodes that hold it.
 pub record Rowing (s : Bytes) (n : ℕ) (room₀ room : Bytes) (frames : List ℕ) (top count end j : ℕ) : Type 0 where

@@ -9,13 +9,13 @@ ghost use lib.ListN.{length, getD};
 ghost use Rattle.words.specs.Words.{plain, word};
 ghost use Rattle.fields.specs.Node.{nodeOf};
 ghost use Rattle.records.specs.Lists.{Ready};
-ghost use Rattle.nodes.specs.Frames.{depthIn, endIn, frameCount, frameSize, markIn, symbolOf, withFrame};
+ghost use Rattle.nodes.specs.Frames.{depthIn, endIn, frameCount, frameSize, markIn, raised, symbolOf, widthIn, withFrame};
 ghost use Rattle.nodes.specs.Counting.{CountAsk, NodeCount, StaysOpen};
-ghost use Rattle.nodes.specs.Writing.{LeafPut, NameAsk, NamePut, NodeAsk, NodePut, NodesPut, PushAsk, PutBack};
+ghost use Rattle.nodes.specs.Writing.{LeafPut, NameAsk, NamePut, NodeAsk, NodePut, NodesPut, PushAsk, PutBack, RaiseAsk};
 
-// How many bytes a frame has: one more than its node's depth, in one; where its names end and how many records stand behind it, in two
-// each.
-const FRAME: usize = 5;
+// How many bytes a frame has: one more than its node's depth and the greatest length of its names so far, in one each; where its names end
+// and how many records stand behind it, in two each.
+const FRAME: usize = 6;
 
 // For how many frames there is a place.
 const FRAMES: usize = 203;
@@ -61,12 +61,13 @@ fn left_of(shares: &[u8], j: usize) -> usize
 }
 
 // What is left open when a name is written: the number of the top frame, how many records there are, and of the node that begins
-// with the name where its names end and how many records stand behind it.
+// with the name where its names end, how many records stand behind it and the greatest length of its names.
 pub struct LeftOpen {
     pub top: usize,
     pub count: usize,
     pub end: usize,
     pub mark: usize,
+    pub width: usize,
 }
 
 // The numbers of frame t.
@@ -81,27 +82,44 @@ fn end_in(frames: &[u8], t: usize) -> usize
     requires { ⌜ (length (now frames) ≡ frameSize * frameCount) × (t < frameCount) ⌝ }
     ensures { λ r. ⌜ r ≡ endIn (now (frames .entry)) t ⌝ }
 {
-    numbers::number_at(frames, FRAME * t + 1)
+    numbers::number_at(frames, FRAME * t + 2)
 }
 
 fn mark_in(frames: &[u8], t: usize) -> usize
     requires { ⌜ (length (now frames) ≡ frameSize * frameCount) × (t < frameCount) ⌝ }
     ensures { λ r. ⌜ r ≡ markIn (now (frames .entry)) t ⌝ }
 {
-    numbers::number_at(frames, FRAME * t + 3)
+    numbers::number_at(frames, FRAME * t + 4)
+}
+
+fn width_in(frames: &[u8], t: usize) -> usize
+    requires { ⌜ (length (now frames) ≡ frameSize * frameCount) × (t < frameCount) ⌝ }
+    ensures { λ r. ⌜ (r ≡ widthIn (now (frames .entry)) t) × (r < 256) ⌝ }
+{
+    numbers::wide(frames[FRAME * t + 1])
 }
 
 // A frame on top of those that are left: of a node of that shifted depth, whose first node so far is the one that begins with the name.
 fn push_frame(frames: &mut [u8], depth: usize, p: LeftOpen)
     requires { ⌜ PushAsk (now frames) depth p ⌝ }
-    ensures { λ _. ⌜ now (frames .exit) ≡ withFrame (now (frames .entry)) (p .top + 1) depth (p .end) (p .mark) ⌝ }
+    ensures { λ _. ⌜ now (frames .exit) ≡ withFrame (now (frames .entry)) (p .top + 1) depth (p .width) (p .end) (p .mark) ⌝ }
 {
     let at = FRAME * (p.top + 1);
     frames[at] = depth as u8;
-    frames[at + 1] = (p.end % 256) as u8;
-    frames[at + 2] = (p.end / 256 % 256) as u8;
-    frames[at + 3] = (p.mark % 256) as u8;
-    frames[at + 4] = (p.mark / 256 % 256) as u8;
+    frames[at + 1] = p.width as u8;
+    frames[at + 2] = (p.end % 256) as u8;
+    frames[at + 3] = (p.end / 256 % 256) as u8;
+    frames[at + 4] = (p.mark % 256) as u8;
+    frames[at + 5] = (p.mark / 256 % 256) as u8;
+}
+
+// Frame t holds names of that length, too.
+fn raise_frame(frames: &mut [u8], t: usize, width: usize)
+    requires { ⌜ RaiseAsk (now frames) t width ⌝ }
+    ensures { λ _. ⌜ now (frames .exit) ≡ raised (now (frames .entry)) t width ⌝ }
+{
+    let greatest = numbers::greater(width, width_in(frames, t));
+    frames[FRAME * t + 1] = greatest as u8;
 }
 
 // The leaf of name j.
@@ -119,12 +137,14 @@ fn put_leaf(
     ensures { λ r. ⌜ LeafPut (now (rest .entry)) skip j left (now (frames .entry)) top count (now (room .entry)) r (now (room .exit)) ⌝ }
 {
     let p = numbers::greater(left, depth_in(frames, top));
+    let length = skip + rest.len();
     let node = fields::Node {
         symbol: symbol_of(rest, skip, p),
-        depth: skip + rest.len() + 1,
+        depth: length + 1,
         first: j,
         names: 1,
         nodes: 1,
+        width: length,
     };
     put_back(room, count, node);
     LeftOpen {
@@ -132,6 +152,7 @@ fn put_leaf(
         count: count + 1,
         end: j + 1,
         mark: count,
+        width: length,
     }
 }
 
@@ -152,6 +173,7 @@ fn close_node(
     let count = p.count;
     let end = end_in(frames, top);
     let mark = mark_in(frames, top);
+    let width = numbers::greater(p.width, width_in(frames, top));
     let q = numbers::greater(left, depth_in(frames, top - 1));
     let node = fields::Node {
         symbol: symbol_of(rest, skip, q),
@@ -159,6 +181,7 @@ fn close_node(
         first: j,
         names: end - j,
         nodes: count - mark + 1,
+        width,
     };
     put_back(room, count, node);
     LeftOpen {
@@ -166,6 +189,7 @@ fn close_node(
         count: count + 1,
         end,
         mark,
+        width,
     }
 }
 
@@ -213,6 +237,8 @@ pub fn write_nodes(list: &[u8], n: usize, lens: &[u8], shares: &[u8], room: &mut
         if depth_in(&frames, top) < left {
             push_frame(&mut frames, left, p);
             top += 1;
+        } else {
+            raise_frame(&mut frames, top, p.width);
         }
     }
     count

@@ -9,14 +9,17 @@ returns : tie.Need-returns
 returns c =
     let depth = c .before .before .before .before in
     let greater = depth .before .before in
-    let mark = greater .before .before in
-    node-put (mark .before .before .before .before .before .pre) (c .before .before .put-back .ensures) _ _ (depth .depth-in2 .ensures) (mark .before .end-in .ensures)
-    (mark .mark-in .ensures) (greater .before .depth-in .ensures) (greater .greater .ensures) (depth .before .symbol-of .ensures)
+    let wide = greater .before .before in
+    let mark = wide .before .before in
+    node-put (mark .before .before .before .before .before .pre) (c .before .before .put-back .ensures) _ _ _ (depth .depth-in2 .ensures) (mark .before .end-in .ensures)
+    (mark .mark-in .ensures) (wide .before .width-in .ensures .0) (wide .greater .ensures) (greater .before .depth-in .ensures) (greater .greater2 .ensures) (depth .before .symbol-of .ensures)
 
 pub close-node-spec : {M : Type 1} → statement M
 close-node-spec =
     tie.close
     (tie.spec
+    (λ c κs. search needs)
+    (λ c κs. search needs)
     (λ c κs. search needs)
     (λ c κs. search needs)
     (λ c. search node-some)

@@ -27,5 +27,8 @@ push-frame-spec =
     (λ c. search needs)
     (λ c. search needs)
     (λ c. simp length-set (omega arith))
+    (λ c. search needs)
+    (λ c. search needs)
+    (λ c. simp length-set (omega arith))
     (λ c. simp length-set)
     (λ c. search with-stored))

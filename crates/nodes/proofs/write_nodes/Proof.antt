@@ -3,7 +3,7 @@
 use native.Mathlib.Omega.{arith}
 use borrow.Author.Needs.{needs}
 use Rattle.nodes.specs.Writing.{Rowing}
-use Rattle.nodes.proofs.Writing.{rowing-start, rowing-name-fits, rowing-back, rowing-within, rowing-name, rowing-room, rowing-keep, rowing-push, rowing-all}
+use Rattle.nodes.proofs.Writing.{rowing-start, rowing-name-fits, rowing-back, rowing-within, rowing-name, rowing-room, rowing-wide, rowing-keep, rowing-push, rowing-all}
 use Rattle.nodes.proofs.write_nodes.Statement.{statement}
 use Rattle.nodes.proofs.write_nodes.Tie as tie
 
@@ -23,15 +23,35 @@ push-frame-requires c κs =
     rowing-room (turn .before .before .before .before .before .before .pre) (turn .before .loop .inv) (turn .loop-test .taken) _ (len .wide .ensures .0)
     _ (left .left-of .ensures .0) (left .left-of .ensures .1) (name .write-name .ensures) _ (depth .depth-in .ensures) (c .before .if1 .taken)
 
+raise-frame-requires : tie.Need-raise-frame-requires Inv-loop μ-loop
+raise-frame-requires c κs =
+    let depth = c .before .before in
+    let name = depth .before .before .before .before in
+    let len = name .before .before .before .before in
+    let left = len .before .before in
+    let turn = left .before in
+    rowing-wide (turn .before .before .before .before .before .before .pre) (turn .before .loop .inv) (turn .loop-test .taken) _ (len .wide .ensures .0)
+    _ (left .left-of .ensures .0) (left .left-of .ensures .1) (name .write-name .ensures)
+
 loop-again : tie.Need-loop-again Inv-loop μ-loop
 loop-again c =
-    let loop = c .before .before .before .before .before .before .before .before .before .before .before .before .before .before .before .before in
-    search (rowing-push (loop .before .before .before .before .before .pre) (loop .loop .inv))
+    let depth = c .before .before .before .before in
+    let name = depth .before .before .before .before in
+    let len = name .before .before .before .before in
+    let left = len .before .before in
+    let turn = left .before in
+    rowing-push (turn .before .before .before .before .before .before .pre) (turn .before .loop .inv) (turn .loop-test .taken) _ (len .wide .ensures .0)
+    _ (left .left-of .ensures .0) (left .left-of .ensures .1) (name .write-name .ensures) _ (depth .depth-in .ensures) (c .before .before .before .if1 .taken) _ (c .before .push-frame .ensures)
 
 loop-again-2 : tie.Need-loop-again-2 Inv-loop μ-loop
 loop-again-2 c =
-    let loop = c .before .before .before .before .before .before .before .before .before .before .before .before .before in
-    search (rowing-keep (loop .before .before .before .before .before .pre) (loop .loop .inv))
+    let depth = c .before .before .before .before in
+    let name = depth .before .before .before .before in
+    let len = name .before .before .before .before in
+    let left = len .before .before in
+    let turn = left .before in
+    rowing-keep (turn .before .before .before .before .before .before .pre) (turn .before .loop .inv) (turn .loop-test .taken) _ (len .wide .ensures .0)
+    _ (left .left-of .ensures .0) (left .left-of .ensures .1) (name .write-name .ensures) _ (depth .depth-in .ensures) (c .before .before .before .if1 .left) _ (c .before .raise-frame .ensures)
 
 pub write-nodes-spec : {M : Type 1} → statement M
 write-nodes-spec =
@@ -58,6 +78,8 @@ write-nodes-spec =
     (λ c. search needs)
     (λ c. omega arith)
     loop-again
+    (λ c. search needs)
+    raise-frame-requires
     (λ c. omega arith)
     loop-again-2
     (λ c. omega arith)
