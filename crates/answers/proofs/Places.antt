@@ -1,5 +1,5 @@
 -- Where the words below a question, those that begin with it and the one that is it stand in a rising list.
---     count-append, count-all, count-none, count-at
+--     count-append, count-all, count-none, count-at, count-found
 --     place-at, place-le    word i lies below q just where i is below q's place
 --     range-at              the words that begin with q stand in a row from q's place on
 --     begins-none           no word begins with a question of which less is shared
@@ -43,6 +43,21 @@ pub count-none : (f : List ℕ → Bool) (xs : Words) → All (λ y. f y ≡ fal
 unfolding count
 count-none f [] a = refl
 count-none f (x ∷ xs) (cons h t) = rw h (count-none f xs t)
+
+-- word number `index` passes
+pub record Passes (f : List ℕ → Bool) (ws : Words) : Type 0 where
+  pub index : ℕ
+  pub within : index < length ws
+  pub passes : f (getD ws index []) ≡ true
+
+pub count-found : (f : List ℕ → Bool) (ws : Words) → 0 < count f ws → Passes f ws
+unfolding count
+count-found f [] h = absurd (not-suc-le-zero h)
+count-found f (w ∷ ws) h = go (count-found f ws) (f w) refl h
+  where
+    go : (0 < count f ws → Passes f ws) → (t : Bool) → f w ≡ t → 0 < pick t (suc (count f ws)) (count f ws) → Passes f (w ∷ ws)
+    go more true e l = record { index = 0; within = omega arith; passes = e }
+    go more false e l = let p = more l in record { index = suc (p .index); within = omega (arith, p .within); passes = p .passes }
 
 -- ---- A test that whatever lies below a word passes where the word does: the words that pass stand first.
 module _ (f : List ℕ → Bool) (down : (x y : List ℕ) → less x y ≡ true → f y ≡ true → f x ≡ true) where

@@ -2,7 +2,7 @@
 --     width-append          of two lists, the greater
 --     width-all, width-none     where all words begin with q it is the greatest length of all; where none does it is 0
 --     width-at              no word that begins with q is longer
---     Wide, width-found     where a word begins with q, one that does is as long
+--     Wide, width-some, width-found     where the width is not 0, or a word begins with q, one that does is as long
 -- Assumes nothing.
 use Prim.Native.Nat.{ℕ, zero, suc, _≤_, _<_, max}
 use native.Mathlib.Nat.{le-of-suc-le-suc, not-suc-le-zero}
@@ -56,7 +56,7 @@ module _ (q : List ℕ) where
     pub begun : begins q (nth ws index) ≡ true
     pub is : length (nth ws index) ≡ width q ws
 
-  width-some : (ws : Words) → 0 < width q ws → Wide ws
+  pub width-some : (ws : Words) → 0 < width q ws → Wide ws
   unfolding width
   width-some [] h = absurd (not-suc-le-zero h)
   width-some (w ∷ ws) h = go (width-some ws) (begins q w) refl h

@@ -112,6 +112,14 @@ pub extern "C" fn book_nearest(book: &[u8], question: &[u8]) -> Answer
     questions::ask_alone(book, 4, question)
 }
 
+// The greatest length of the names that begin with the question; 0 where none does. Refusals: 2, 1.
+#[no_mangle]
+pub extern "C" fn book_width(book: &[u8], question: &[u8]) -> Answer
+    ensures { λ r. ⌜ answered r ≡ askedOf plain 5 (now (book .entry)) (now (question .entry)) ⌝ }
+{
+    questions::ask_alone(book, 5, question)
+}
+
 // As many answers as rows, each what its row's question alone would get. Refusals: 12, 2; for each row 11, 1, 10, and the others go on.
 #[no_mangle]
 pub extern "C" fn book_batch(

@@ -1,8 +1,8 @@
 -- What is known of a question where the group of names that share most with it is known.
 --     place-cut       names before r lie below q and those from r on do not: r is the place
 --     group-place     a group cut at q's symbol: the cut is the place
---     whole-place, whole-range    a group that shares all of q: the place is its start, and it is the range
---     range-none      no name begins with a question of which less is shared
+--     whole-place, whole-range, whole-width    a group that shares all of q: the place is its start, it is the range, and its greatest length the width
+--     range-none, none-wide       no name begins with a question of which less is shared
 --     exact-here, exact-nowhere
 -- Assumes nothing.
 use Prim.Native.Nat.{ℕ, _-_, _≤_, _<_, zero-le}
@@ -16,13 +16,16 @@ use lib.Dec.{ltb}
 use lib.ListN.{length, List·getD-eq-default}
 use lib.Seq.{take-length}
 use borrow.Author.Tests.{ltb-true, lt-ltb, le-ltb, eq-eqb}
-use Rattle.words.specs.Rising.{Positive, Rises, span, nth}
+use Rattle.words.specs.Rising.{All, Positive, Rises, span, nth}
 use Rattle.words.specs.Words.{Words, at, begins, both, less, pick, same, shared}
 use Rattle.words.proofs.Lists.{all-from}
 use Rattle.words.proofs.Rising.{nth-less, span-all, span-length, span-split}
 use Rattle.words.proofs.Words.{Sides, apart, before, behind, both-true, false≠true, less-asym, less-by, less-irrefl, level, same-refl, same-side, same-true, shared-comm, short-no, sides}
+use Rattle.format.specs.Widths.{widest}
 use Rattle.answers.specs.Questions.{Pair, count, exact, place}
+use Rattle.answers.specs.Widths.{width}
 use Rattle.answers.proofs.Places.{begins-none, count-all, count-append, count-none, exact-place, place-at, place-le}
+use Rattle.answers.proofs.Widths.{width-all, width-append, width-none}
 use Rattle.descent.specs.Vocabulary.{Cut, Group}
 
 module _ (ws : Words) (q : List ℕ) (r : Rises ws) where
@@ -83,31 +86,63 @@ module _ (ws : Words) (q : List ℕ) (r : Rises ws) where
         let z : at q n ≡ 0 = List·getD-eq-default q 0 (omega arith) in
         group-place lo (record { low = omega arith; high = omega arith; below = λ i l h. absurd (lt-irrefl i (omega arith)); above = λ i l h. omega arith })
 
-    pub whole-range : n ≡ length q → hi - lo ≡ count (begins q) ws
-    unfolding begins
-    whole-range e =
+    -- the words before the group, those of it and those behind it
+    three : ws ≡ span ws 0 lo ++ (span ws lo hi ++ span ws hi (length ws))
+    three =
         let s : lo < hi = g .some in
         let w : hi ≤ length ws = g .within in
-        let f : List ℕ → Bool = begins q in
-        omega (
-          arith,
-          count-none f (span ws 0 lo) (span-all ws 0 lo zero-le (omega arith) (λ i l h. off i (omega arith) (inl h))),
-          count-all f (span ws lo hi) (span-all ws lo hi (omega arith) w (λ i l h. eq-eqb (shared q (nth ws i)) (length q) (g .inside i l h ∙ e))),
-          count-none f (span ws hi (length ws)) (span-all ws hi (length ws) w (omega arith) (λ i l h. off i h (inr l))),
-          span-length ws lo hi w,
-          ap (count f) (sym (take-length ws) ∙ span-split ws 0 lo (length ws) zero-le (omega arith) (omega arith)
-              ∙ ap (λ (x : Words). span ws 0 lo ++ x) (span-split ws lo hi (length ws) (omega arith) w (omega arith))),
-          count-append f (span ws 0 lo) (span ws lo hi ++ span ws hi (length ws)),
-          count-append f (span ws lo hi) (span ws hi (length ws)),
-        )
-      where
-        off : (i : ℕ) → i < length ws → (i < lo) ⊎ (hi ≤ i) → begins q (nth ws i) ≡ false
-        off i h o = short-no q (nth ws i) (omega (arith, g .outside i h o))
+        sym (take-length ws) ∙ span-split ws 0 lo (length ws) zero-le (omega arith) (omega arith)
+        ∙ ap (λ (x : Words). span ws 0 lo ++ x) (span-split ws lo hi (length ws) (omega arith) w (omega arith))
+
+    module _ (e : n ≡ length q) where
+      off : (i : ℕ) → i < length ws → (i < lo) ⊎ (hi ≤ i) → begins q (nth ws i) ≡ false
+      off i h o = short-no q (nth ws i) (omega (arith, g .outside i h o))
+
+      none-before : All (λ y. begins q y ≡ false) (span ws 0 lo)
+      none-before = let s : lo < hi = g .some in let w : hi ≤ length ws = g .within in span-all ws 0 lo zero-le (omega arith) (λ i l h. off i (omega arith) (inl h))
+
+      none-behind : All (λ y. begins q y ≡ false) (span ws hi (length ws))
+      none-behind = span-all ws hi (length ws) (g .within) (omega arith) (λ i l h. off i h (inr l))
+
+      all-within : All (λ y. begins q y ≡ true) (span ws lo hi)
+      unfolding begins
+      all-within =
+          let s : lo < hi = g .some in
+          span-all ws lo hi (omega arith) (g .within) (λ i l h. eq-eqb (shared q (nth ws i)) (length q) (g .inside i l h ∙ e))
+
+      pub whole-range : hi - lo ≡ count (begins q) ws
+      whole-range =
+          let f : List ℕ → Bool = begins q in
+          omega (
+            arith,
+            count-none f (span ws 0 lo) none-before,
+            count-all f (span ws lo hi) all-within,
+            count-none f (span ws hi (length ws)) none-behind,
+            span-length ws lo hi (g .within),
+            ap (count f) three,
+            count-append f (span ws 0 lo) (span ws lo hi ++ span ws hi (length ws)),
+            count-append f (span ws lo hi) (span ws hi (length ws)),
+          )
+
+      pub whole-width : widest (span ws lo hi) ≡ width q ws
+      whole-width =
+          omega (
+            arith,
+            width-none q (span ws 0 lo) none-before,
+            width-all q (span ws lo hi) all-within,
+            width-none q (span ws hi (length ws)) none-behind,
+            ap (width q) three,
+            width-append q (span ws 0 lo) (span ws lo hi ++ span ws hi (length ws)),
+            width-append q (span ws lo hi) (span ws hi (length ws)),
+          )
 
   -- ---- the range's count where less is shared, and exact
 
   pub range-none : (n : ℕ) → ((i : ℕ) → i < length ws → shared q (nth ws i) ≤ n) → n < length q → 0 ≡ count (begins q) ws
   range-none n most h = sym (begins-none q n ws (all-from [] ws most) h)
+
+  pub none-wide : (n : ℕ) → ((i : ℕ) → i < length ws → shared q (nth ws i) ≤ n) → n < length q → 0 ≡ width q ws
+  none-wide n most h = sym (width-none q ws (all-from [] ws (λ i l. short-no q (nth ws i) (omega (arith, most i l)))))
 
   module _ (p : Positive q) where
     pub exact-here : (i : ℕ) → i < length ws → nth ws i ≡ q → exact q ws ≡ (i, 1)

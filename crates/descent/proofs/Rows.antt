@@ -24,6 +24,8 @@ use Rattle.words.proofs.Words.{apart}
 use Rattle.format.specs.Spans.{deep, rowTable, nodeTable}
 use Rattle.format.specs.Nodes.{Node, fork, leaf, table}
 use Rattle.format.proofs.Groups.{table-root}
+use Rattle.format.specs.Widths.{widest}
+use Rattle.format.proofs.Widths.{widest-one}
 use Rattle.format.proofs.Spans.{at-rises, ranked-rest, ranked-span, span-share, table-more, table-none, table-one, table-run}
 use Rattle.descent.specs.Vocabulary.{RowFrom, Seeking, Sits, Sought, from, noNode, node, upto}
 
@@ -50,6 +52,7 @@ module _ (ws : Words) where
     pub names : node ws v .names ≡ hi - lo
     pub symbol : node ws v .symbol ≡ led
     pub nodes : node ws v .nodes ≡ length (nodeTable lo led (span ws lo hi))
+    pub width : node ws v .width ≡ widest (span ws lo hi)
     pub leaf : suc lo ≡ hi → node ws v .depth ≡ suc (length (nth ws lo))
     pub lone : suc lo ≡ hi → node ws v .nodes ≡ 1
     pub fork : suc lo < hi → node ws v .depth ≡ deep ws lo hi
@@ -72,6 +75,7 @@ module _ (ws : Words) where
             names = ap (λ (x : Node). x .names) (h .is) ∙ omega arith;
             symbol = ap (λ (x : Node). x .symbol) (h .is);
             nodes = ap (λ (x : Node). x .nodes) (h .is) ∙ sym (ap length t);
+            width = ap (λ (x : Node). x .width) (h .is) ∙ sym (widest-one ws lo (omega arith)) ∙ ap (λ (j : ℕ). widest (span ws lo j)) k;
             leaf = λ _. ap (λ (x : Node). x .depth) (h .is);
             lone = λ _. ap (λ (x : Node). x .nodes) (h .is);
             fork = λ m. absurd (lt-irrefl hi (omega arith));
@@ -90,6 +94,7 @@ module _ (ws : Words) where
             names = ap (λ (x : Node). x .names) (h .is) ∙ span-length ws lo hi b;
             symbol = ap (λ (x : Node). x .symbol) (h .is);
             nodes = n ∙ sym (ap length t);
+            width = ap (λ (x : Node). x .width) (h .is);
             leaf = λ m. absurd (lt-irrefl hi (omega arith));
             lone = λ m. absurd (lt-irrefl hi (omega arith));
             fork = λ _. ap (λ (x : Node). x .depth) (h .is);

@@ -19,6 +19,7 @@ use Rattle.format.specs.Outcomes.{given, refused}
 use Rattle.answers.specs.Calls.{question, questionOf}
 use Rattle.answers.proofs.Calls.{question-given, question-long, question-none}
 use Rattle.answers.specs.Questions.{Pair, answer, ask, count, exact, exactFrom, place, range}
+use Rattle.answers.specs.Widths.{width}
 use Rattle.descent.specs.Vocabulary.{asked}
 use Rattle.descent.proofs.Bytes.{opened-searchable}
 use Rattle.numbers.proofs.Parts.{Held, held-bytes}
@@ -40,12 +41,14 @@ ask-unsound kind b q r e v s u = e ∙ sym (ap (questionOf plain kind q) (no-boo
 
 -- an empty list: nothing is found
 none-found : (kind : ℕ) → KindNumber kind → (kind ≡ 4 → ⊥) → (q : List ℕ) → (0, 0) ≡ ask kind q []
-unfolding ask exact exactFrom place range count
+unfolding ask exact exactFrom place range count width
 none-found zero h n q = absurd (lt-irrefl 0 (omega (arith, h .low)))
 none-found (suc zero) h n q = refl
 none-found (suc (suc zero)) h n q = refl
 none-found (suc (suc (suc zero))) h n q = refl
-none-found (suc (suc (suc (suc kind)))) h n q = absurd (n (omega (arith, h .high)))
+none-found (suc (suc (suc (suc zero)))) h n q = absurd (n refl)
+none-found (suc (suc (suc (suc (suc zero))))) h n q = refl
+none-found (suc (suc (suc (suc (suc (suc kind)))))) h n q = absurd (lt-irrefl 5 (omega (arith, h .high)))
 
 module _ (b q : Bytes) (t : Trailer) (kind : ℕ) (held : Held b) (s : Asking b t kind) where
   abbrev n : ℕ

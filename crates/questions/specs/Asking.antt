@@ -1,5 +1,5 @@
 -- What the functions ask of each other, and how a batch opens. An answer and a row as document 01's numbers are in the crate shapes.
---     KindNumber, Asking    the kind of a question, 1 to 4; that, and that the check of these bytes gives what the trailer tells
+--     KindNumber, Asking    the kind of a question, 1 to 5; that, and that the check of these bytes gives what the trailer tells
 --     takesRows, openingOf, closedBy    how a batch opens: its rows are taken or not; 12, 2 or accepted; an opening that refuses
 --     Accepted          a book of which an accepting opening has the trailer
 -- Assumes nothing: these are definitions.
@@ -9,6 +9,7 @@ use mathlib.Core.Path.{_≡_}
 use lib.Dec.{eqb, leb}
 use Rattle.words.specs.Words.{Bytes, both, plain}
 use Rattle.format.specs.Book.{Book, NoBook, Opened, opened}
+use Rattle.answers.specs.Widths.{lastKind}
 use Rattle.trailer.specs.Trailer.{trailerIn}
 use Rattle.trailer.specs.declared.Trailer.{Trailer}
 use Rattle.accept.specs.Parts.{checkOn}
@@ -17,7 +18,7 @@ use Rattle.questions.specs.declared.Opening.{Opening}
 
 pub record KindNumber (kind : ℕ) : Type 0 where
   pub low : 1 ≤ kind
-  pub high : kind ≤ 4
+  pub high : kind ≤ lastKind
 
 pub record Asking (b : Bytes) (t : Trailer) (kind : ℕ) : Type 0 where
   pub checked : Sound t ≡ checkOn b (opened plain b)

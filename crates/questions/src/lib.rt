@@ -9,7 +9,7 @@ ghost use Rattle.answers.specs.Calls.{question as askedOf, rowAnswer};
 ghost use Rattle.shapes.specs.Shapes.{answered, rowOf};
 ghost use Rattle.questions.specs.Asking.{Accepted, Asking, KindNumber, closedBy, openingOf, takesRows};
 
-// A question of a kind from 1 to 4 to a book that the check has accepted, by what its trailer tells: whoever has many questions checks
+// A question of a kind from 1 to 5 to a book that the check has accepted, by what its trailer tells: whoever has many questions checks
 // once. Refusals: 1, 10.
 pub fn ask(book: &[u8], t: trailer::Trailer, kind: usize, question: &[u8]) -> Answer
     requires { ⌜ Asking (now book) t kind ⌝ }
@@ -32,7 +32,7 @@ pub fn ask(book: &[u8], t: trailer::Trailer, kind: usize, question: &[u8]) -> An
     }
 }
 
-// A question of a kind from 1 to 4. Refusals: 2, 1, 10.
+// A question of a kind from 1 to 5. Refusals: 2, 1, 10.
 pub fn ask_alone(book: &[u8], kind: usize, question: &[u8]) -> Answer
     requires { ⌜ KindNumber kind ⌝ }
     ensures { λ r. ⌜ answered r ≡ askedOf plain kind (now (book .entry)) (now (question .entry)) ⌝ }
@@ -97,7 +97,7 @@ pub fn answer_row(book: &[u8], opening: Opening, questions: &[u8], row: Row) -> 
     if row.kind == 0 {
         return shapes::refuse(11, 0);
     }
-    if 4 < row.kind {
+    if 5 < row.kind {
         return shapes::refuse(11, 0);
     }
     if questions.len() < row.start {

@@ -4,7 +4,7 @@
 --     starts               the node table, where the trailer tells
 --     spot                 the highest node that is deep enough is the one with the names that share most
 --     seat-..              the place there: before or after the edge, a child, the end of the row
---     range-.., nearest-is, exact-..   the other answers
+--     range-.., width-.., nearest-is, exact-..   the other answers
 --     by-..                an answer by the number of its kind
 -- Assumes nothing.
 use Prim.Native.Nat.{ℕ, suc, _+_, _-_, _≤_, _<_}
@@ -20,10 +20,12 @@ use Rattle.words.proofs.Rising.{nth-positive, nth-word}
 use Rattle.words.proofs.Words.{apart, at-past, plain-lawful, shared-le, shared-parts, shared-self, word-positive}
 use Rattle.format.specs.Nodes.{table}
 use Rattle.answers.specs.Questions.{Pair as Numbers, ask, count, exact, nearest, place, range, reached}
+use Rattle.answers.specs.Widths.{width}
 use Rattle.answers.proofs.Nearest.{reached-most}
 use Rattle.descent.specs.Vocabulary.{Descended, Highest, Reached, Searchable, Sits, Sought, asked, from, node, upto}
 use Rattle.standing.specs.Maps.{rowsAt}
-use Rattle.descent.proofs.Cuts.{exact-here, exact-nowhere, range-none, whole-range}
+use Rattle.descent.proofs.Cuts.{exact-here, exact-nowhere, none-wide, range-none, whole-range, whole-width}
+use Rattle.descent.proofs.Rows.{sits-told}
 use Rattle.descent.proofs.Paths.{edge-after, edge-before, fork-child, fork-end, fork-wide, found, only-reached, passed-deepens, passed-sits, reached-is}
 use Rattle.format.specs.Spans.{wordsOf}
 use Rattle.format.specs.Book.{namesOf}
@@ -200,18 +202,33 @@ module _ {b : Bytes} {start : ℕ} (q : Bytes) (o : Searchable plain b (rowsAt s
         (range-none (wordsOf plain b) (asked plain q) (o .rises) m
         (λ i k. omega (arith, reached-most (asked plain q) (wordsOf plain b) (o .rises) i k, a .located .shares)) (omega (arith, asked-length q)))
 
+    pub width-short : m < length q → _≡_ {A = Numbers} (0, 0) (width (asked plain q) (wordsOf plain b), 0)
+    width-short h =
+        ap (λ (n : ℕ). pair n 0)
+        (none-wide (wordsOf plain b) (asked plain q) (o .rises) m
+        (λ i k. omega (arith, reached-most (asked plain q) (wordsOf plain b) (o .rises) i k, a .located .shares)) (omega (arith, asked-length q)))
+
+    -- all of the question is shared
+    all-shared : length q ≤ m → m ≡ length (asked plain q)
+    all-shared h = omega (
+      arith,
+      a .located .shares,
+      asked-length q,
+      shared-le (asked plain q) (nth (wordsOf plain b) (reached (asked plain q) (wordsOf plain b))),
+    )
+
+    pub width-all : length q ≤ m → {n : ℕ} → n ≡ node (wordsOf plain b) v .width → _≡_ {A = Numbers} (n, 0) (width (asked plain q) (wordsOf plain b), 0)
+    width-all h e =
+        ap (λ (n : ℕ). pair n 0)
+        (e ∙ sits-told (wordsOf plain b) (o .rises) (a .located .found .sits) .width
+        ∙ whole-width (wordsOf plain b) (asked plain q) (o .rises) m (from (wordsOf plain b) v) (upto (wordsOf plain b) v) (a .located .found .group) (all-shared h))
+
     pub range-all : length q ≤ m → {r n : ℕ} → r ≡ place (asked plain q) (wordsOf plain b) → n ≡ node (wordsOf plain b) v .names
         → (r, n) ≡ range (asked plain q) (wordsOf plain b)
     unfolding range
     range-all h {r} {n} e f =
-        let w : m ≡ length (asked plain q) = omega (
-          arith,
-          a .located .shares,
-          asked-length q,
-          shared-le (asked plain q) (nth (wordsOf plain b) (reached (asked plain q) (wordsOf plain b))),
-        ) in
         let k : n ≡ count (begins (asked plain q)) (wordsOf plain b) =
-        omega (arith, whole-range (wordsOf plain b) (asked plain q) (o .rises) m (from (wordsOf plain b) v) (upto (wordsOf plain b) v) (a .located .found .group) w) in
+        omega (arith, whole-range (wordsOf plain b) (asked plain q) (o .rises) m (from (wordsOf plain b) v) (upto (wordsOf plain b) v) (a .located .found .group) (all-shared h)) in
         ap₂ pair e k
 
   module _ {r m s : ℕ} (t : Reached (wordsOf plain b) (asked plain q) r) (e : MetSays (wordsOf plain b) (asked plain q) r m s) where
@@ -265,3 +282,7 @@ module _ (q : List ℕ) (ws : Words) {p : Numbers} (kind : ℕ) where
   pub by-nearest : kind ≡ 4 → p ≡ nearest q ws → p ≡ ask kind q ws
   unfolding ask
   by-nearest e f = by-kind 4 e f
+
+  pub by-width : kind ≡ 5 → p ≡ (width q ws, 0) → p ≡ ask kind q ws
+  unfolding ask
+  by-width e f = by-kind 5 e f

@@ -5,7 +5,7 @@
 --     OnPath                the front of an array holds nodes, each deeper than the one before
 --     MetSays               how a name stands to a question
 --     SpotSays, AtSpot      the node whose names share most with a question
---     Askable, KindAsk      what an accepted book with names is to a search; the kind has a number from 1 to 4
+--     Askable, KindAsk      what an accepted book with names is to a search; the kind has a number from 1 to 5
 --     pairOf                an answer's two numbers
 -- Assumes nothing: these are definitions.
 use Prim.Native.Nat.{ℕ, _<_, _≤_}
@@ -15,6 +15,7 @@ use lib.ListN.{getD, length}
 use Rattle.words.specs.Words.{Bytes, Words, at, plain, shared}
 use Rattle.words.specs.Rising.{nth}
 use Rattle.format.specs.Nodes.{table}
+use Rattle.answers.specs.Widths.{lastKind}
 use Rattle.answers.specs.Questions.{Pair as Numbers, reached}
 use Rattle.descent.specs.Vocabulary.{Halts, Located, Searchable, Sits, Taken, asked, node}
 use Rattle.format.specs.Spans.{wordsOf, fieldCount}
@@ -88,7 +89,7 @@ pub record Askable (b : Bytes) (t : Trailer) : Type 0 where
 pub record KindAsk (b : Bytes) (t : Trailer) (kind : ℕ) : Type 0 where
   pub askable : Askable b t
   pub low : 1 ≤ kind
-  pub high : kind ≤ 4
+  pub high : kind ≤ lastKind
 
 abbrev pub pairOf : Pair → Numbers
 pairOf r = (r .first, r .second)

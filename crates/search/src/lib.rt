@@ -1,4 +1,4 @@
-// The four questions, asked of a book that the check has accepted. One descent over the node table, by the numbers of nodes, serves all
+// The five questions, asked of a book that the check has accepted. One descent over the node table, by the numbers of nodes, serves all
 // of them; the name that it reaches is rebuilt and compared, since the descent passes over bytes that it never looks at.
 ghost use mathlib.Core.Path.{_≡_};
 ghost use Prim.Native.Nat.{_≤_};
@@ -8,6 +8,7 @@ ghost use Rattle.format.specs.Spans.{wordsOf};
 ghost use Rattle.format.specs.Book.{fields};
 ghost use Rattle.standing.specs.Maps.{rowsAt};
 ghost use Rattle.answers.specs.Questions.{ask, exact, nearest, place, range};
+ghost use Rattle.answers.specs.Widths.{width};
 ghost use Rattle.descent.specs.Vocabulary.{Descended, Highest, Located, Reached, Searchable, Sought, asked, node};
 ghost use Rattle.names.specs.Names.{PositionAsk};
 ghost use Rattle.search.specs.Asks.{AtFork, AtNode, AtSpot, Askable, FieldAsk, KindAsk, MetSays, NodeNumber, OnPath, SpotSays, WayOf, pairOf};
@@ -85,6 +86,13 @@ fn nodes_of(book: &[u8], start: usize, v: usize) -> usize
     ensures { λ r. ⌜ r ≡ node (wordsOf plain (now (book .entry))) v .nodes ⌝ }
 {
     field(book, start, v, 4)
+}
+
+fn width_of(book: &[u8], start: usize, v: usize) -> usize
+    requires { ⌜ NodeNumber (now book) start v ⌝ }
+    ensures { λ r. ⌜ r ≡ node (wordsOf plain (now (book .entry))) v .width ⌝ }
+{
+    field(book, start, v, 5)
 }
 
 // The first child of v whose symbol is not below s, or the end of v's row where there is none.
@@ -305,7 +313,26 @@ fn ask_nearest(book: &[u8], t: trailer::Trailer, question: &[u8]) -> Pair
     }
 }
 
-// A question of a kind by its number, 1 to 4 in this order.
+// (the greatest length of the names that begin with the question, 0): of those the node tells it, and no name of the range is read.
+fn ask_width(book: &[u8], t: trailer::Trailer, question: &[u8]) -> Pair
+    requires { ⌜ Askable (now book) t ⌝ }
+    ensures { λ r. ⌜ pairOf r ≡ (width (asked plain (now (question .entry))) (wordsOf plain (now (book .entry))), 0) ⌝ }
+{
+    let start = numbers::wide16(t.nodes);
+    let spot = locate(book, t, question);
+    if spot.shared < question.len() {
+        return Pair {
+            first: 0,
+            second: 0,
+        };
+    }
+    Pair {
+        first: width_of(book, start, spot.node),
+        second: 0,
+    }
+}
+
+// A question of a kind by its number, 1 to 5 in this order.
 pub fn answer(book: &[u8], t: trailer::Trailer, kind: usize, question: &[u8]) -> Pair
     requires { ⌜ KindAsk (now book) t kind ⌝ }
     ensures { λ r. ⌜ pairOf r ≡ ask kind (asked plain (now (question .entry))) (wordsOf plain (now (book .entry))) ⌝ }
@@ -319,5 +346,8 @@ pub fn answer(book: &[u8], t: trailer::Trailer, kind: usize, question: &[u8]) ->
     if kind == 3 {
         return ask_range(book, t, question);
     }
-    ask_nearest(book, t, question)
+    if kind == 4 {
+        return ask_nearest(book, t, question);
+    }
+    ask_width(book, t, question)
 }

@@ -16,6 +16,7 @@ use lib.Seq.{take-append-seam}
 use Rattle.words.specs.Words.{Bytes, Rule, both, pick}
 use Rattle.format.specs.Book.{Book, NoBook, Opened, opened}
 use Rattle.format.specs.Outcomes.{Answer, Written, given, over, refused, write}
+use Rattle.answers.specs.Widths.{lastKind}
 use Rattle.answers.specs.Calls.{Batched, Row, batch, build, check, goodRow, question, questionOf, readBack, readBackOf, rowAnswer}
 use Rattle.theorems.specs.Demands.{Alike, answerAt, rowAt, spanOf}
 use Rattle.answers.proofs.Calls.{batch-rows}
@@ -40,7 +41,7 @@ module _ (ρ : Rule) where
       → (a .answer ≡ b .answer) × (a .room ≡ b .room)
   read-settles s position room a b e f = written-settles (readBack ρ s position room) a b e f
 
-  -- exact, place, range and nearest are kinds 1 to 4
+  -- exact, place, range, nearest and width are kinds 1 to 5
   pub question-settles : (kind : ℕ) (s q : Bytes) (a b : Answer) → a ≡ question ρ kind s q → b ≡ question ρ kind s q → a ≡ b
   question-settles kind s q a b e f = e ∙ sym f
 
@@ -110,5 +111,5 @@ module _ (ρ : Rule) (s : Bytes) where
   batch-regardless buffer other rows others answers places ok fine i j same size bytes =
       let r = rowAt rows i in
       row-is buffer rows answers ok i
-      ∙ ap₂ (λ (n : ℕ) (q : Bytes). pick (both (both (leb 1 (r .kind)) (leb (r .kind) 4)) (leb (r .start + r .size) n)) (questionOf ρ (r .kind) q (opened ρ s)) (refused 11)) size bytes
+      ∙ ap₂ (λ (n : ℕ) (q : Bytes). pick (both (both (leb 1 (r .kind)) (leb (r .kind) lastKind)) (leb (r .start + r .size) n)) (questionOf ρ (r .kind) q (opened ρ s)) (refused 11)) size bytes
       ∙ ap (rowAnswer ρ (opened ρ s) other) same ∙ sym (row-is other others places fine j)

@@ -1,5 +1,5 @@
 -- Document 01's examples, computed: the two books byte for byte, and the twelve rows marked P, asked of the book's 93 bytes.
---     example-books, example-lengths, example-rows
+--     example-books, example-lengths, example-rows, example-widths
 -- Assumes nothing.
 use Prim.Native.Nat.{ℕ}
 use Prim.Native.String.{String}
@@ -11,11 +11,14 @@ use Rattle.format.specs.Book.{allFields, blockPart, book, entryPart, fits, join
 use Rattle.format.specs.Entries.{blocks, blocksFrom, decode, decodeFrom, entry, front, offsets}
 use Rattle.format.specs.Nodes.{depth, glue, groups, rowBy, table, tableWithin}
 use Rattle.format.specs.Spans.{nodeTable}
+use Rattle.format.specs.Widths.{widest}
 use Rattle.format.specs.Records.{rising, sound}
 use Rattle.format.specs.Example.{example, exampleBy2, exampleBy4, text, marked}
 use Rattle.format.proofs.Example.{book-lengths, books}
 use Rattle.format.specs.Outcomes.{Answer, given}
 use Rattle.answers.specs.Calls.{question, questionOf}
+use Rattle.answers.specs.Widths.{width}
+use Rattle.theorems.specs.Widths.{exampleWidths}
 use Rattle.answers.specs.Questions.{answer, ask, childOf, count, exact, exactFrom, nearest, place, range, reachWithin, reached}
 
 pub example-books : map (λ k. book plain k example) (2 ∷ 4 ∷ []) ≡ exampleBy2 ∷ exampleBy4 ∷ []
@@ -32,5 +35,9 @@ abbrev listed : ℕ × String × (ℕ × ℕ) → Answer
 listed a = given (a .2 .0) (a .2 .1)
 
 pub example-rows : map asked marked ≡ map listed marked
-unfolding shared less begins same depth glue groups rowBy tableWithin nodeTable table numbers joined entry blocksFrom front blocks offsets entryPart blockPart allFields nodePart trailer book decodeFrom decode number rising sound fits namesOf opened childOf reachWithin reached count exactFrom exact place range nearest ask answer questionOf question
+unfolding shared less begins same depth glue groups widest rowBy tableWithin nodeTable table numbers joined entry blocksFrom front blocks offsets entryPart blockPart allFields nodePart trailer book decodeFrom decode number rising sound fits namesOf opened childOf reachWithin reached count exactFrom exact place range nearest ask answer questionOf question
 example-rows = refl
+
+pub example-widths : map (λ (a : String × ℕ). question plain 5 exampleBy2 (text (a .0))) exampleWidths ≡ map (λ (a : String × ℕ). given (a .1) 0) exampleWidths
+unfolding shared less begins same depth glue groups widest rowBy tableWithin nodeTable table numbers joined entry blocksFrom front blocks offsets entryPart blockPart allFields nodePart trailer book decodeFrom decode number rising sound fits namesOf opened width ask answer questionOf question
+example-widths = refl

@@ -5,6 +5,7 @@ pub mod Trees
 pub mod Tower
 pub mod Orders
 pub mod Questions
+pub mod Widths
 pub mod Search
 pub mod Calls
 pub mod Examples

@@ -2,7 +2,7 @@
 -- Assumes nothing.
 use native.Mathlib.Omega.{arith}
 use borrow.Author.Needs.{needs}
-use Rattle.search.proofs.Spots.{by-exact, by-nearest, by-place, by-range}
+use Rattle.search.proofs.Spots.{by-exact, by-nearest, by-place, by-range, by-width}
 use Rattle.search.proofs.answer.Statement.{statement}
 use Rattle.search.proofs.answer.Tie as tie
 
@@ -18,6 +18,9 @@ returns-3 c = by-range _ _ _ (omega arith) (c .ask-range .ensures)
 returns-4 : tie.Need-returns-4
 returns-4 c = by-nearest _ _ _ (omega arith) (c .ask-nearest .ensures)
 
+returns-5 : tie.Need-returns-5
+returns-5 c = by-width _ _ _ (omega arith) (c .ask-width .ensures)
+
 pub answer-spec : {M : Type 1} → statement M
 answer-spec =
     tie.close
@@ -29,4 +32,6 @@ answer-spec =
     (λ c κs. search needs)
     returns-3
     (λ c κs. search needs)
-    returns-4)
+    returns-4
+    (λ c κs. search needs)
+    returns-5)

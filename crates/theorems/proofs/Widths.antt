@@ -1,0 +1,118 @@
+-- Document 02, CR 1: what a width says of the names of an accepted book, over the public calls' own functions: range is kind 3, width 5.
+--     width-given       an accepted book and a question that is not too long get an answer, also where there is no name
+--     width-most        no name of the range is longer
+--     width-least       where the range has names, one of them is as long
+--     width-none        where it has none, the width is 0
+--     width-whole       the width of the empty question is the greatest length of all names
+--     width-settles     two results that the call's statement allows coincide
+-- Assumes nothing.
+use Prim.Native.Nat.{ℕ, _+_, _≤_, _<_}
+use native.Mathlib.Nat.{lt-irrefl}
+use native.Mathlib.Omega.{arith}
+use mathlib.Core.Path.{_≡_, refl, sym, ap, ap₂, _∙_, subst}
+use mathlib.Core.Logic.{_⊎_, inl, inr}
+use mathlib.Core.Bool.{Bool, false, true}
+use mathlib.Core.List.{List, [], map}
+use lib.Dec.{leb, ltb}
+use lib.ListN.{List·getD-eq-default, length, getD, length-map}
+use borrow.Author.Tests.{le-leb, leb-true, lt-ltb, ltb-true}
+use Rattle.words.specs.Rising.{nth}
+use Rattle.words.specs.Words.{Bytes, Lawful, Rule, Words, begins, both, word}
+use Rattle.words.proofs.Rising.{nth-word}
+use Rattle.words.proofs.Words.{apart, begins-nil, both-true}
+use Rattle.words.proofs.Lists.{all-from}
+use Rattle.format.specs.Book.{Book, opened}
+use Rattle.format.specs.Records.{longest, sound}
+use Rattle.format.specs.Outcomes.{Answer, given}
+use Rattle.format.specs.Widths.{widest}
+use Rattle.format.proofs.Book.{book-opened, fits-parts}
+use Rattle.answers.specs.Questions.{answer, ask, count, range}
+use Rattle.answers.specs.Widths.{width}
+use Rattle.answers.specs.Calls.{question, questionOf}
+use Rattle.answers.proofs.Calls.{question-given}
+use Rattle.answers.proofs.Places.{count-found}
+use Rattle.answers.proofs.Widths.{width-all, width-at, width-found, width-some}
+use Rattle.theorems.specs.Widths.{AsLong}
+use Rattle.theorems.proofs.Calls.{question-settles}
+use Rattle.theorems.proofs.Questions.{range-is}
+
+module _ (ρ : Rule) (ok : Lawful ρ) (s : Bytes) (k : ℕ) (xs : List Bytes) (opens : opened ρ s ≡ Book k xs) where
+  is : sound ρ xs ≡ true
+  is = fits-parts ρ k xs (book-opened ρ s k xs opens .0) .sound
+
+  -- the words of the names
+  abbrev ws : Words
+  ws = map (word ρ) xs
+
+  inside : {i : ℕ} → i < length xs → i < length (map (word ρ) xs)
+  inside h = omega (arith, length-map xs (word ρ))
+
+  word-length : (i : ℕ) → length (nth (map (word ρ) xs) i) ≡ length (getD xs i [])
+  word-length i = ap length (nth-word ρ xs i) ∙ length-map (getD xs i []) ρ
+
+  module _ (q : Bytes) (short : length q ≤ longest) where
+    asks : (kind : ℕ) → (kind ≡ 4 → ⊥) → question ρ kind s q ≡ given (answer ρ kind q xs .0) (answer ρ kind q xs .1)
+    unfolding question
+    asks kind n = ap (questionOf ρ kind q) opens ∙ sym (question-given ρ kind q k xs short (λ e z. n e) (answer ρ kind q xs) refl)
+
+    pub width-given : question ρ 5 s q ≡ given (width (word ρ q) (map (word ρ) xs)) 0
+    unfolding answer ask
+    width-given = asks 5 (λ e. lt-irrefl 4 (omega arith))
+
+    width-is : question ρ 5 s q .first ≡ width (word ρ q) (map (word ρ) xs)
+    width-is = ap (λ (a : Answer). a .first) width-given
+
+    range-given : question ρ 3 s q ≡ given (answer ρ 3 q xs .0) (answer ρ 3 q xs .1)
+    range-given = asks 3 (λ e. lt-irrefl 3 (omega arith))
+
+    from-is : question ρ 3 s q .first ≡ answer ρ 3 q xs .0
+    from-is = ap (λ (a : Answer). a .first) range-given
+
+    count-is : question ρ 3 s q .second ≡ answer ρ 3 q xs .1
+    count-is = ap (λ (a : Answer). a .second) range-given
+
+    -- a name begins with the question just where it stands in the range
+    begun : (i : ℕ) → i < length xs → question ρ 3 s q .first ≤ i → i < question ρ 3 s q .first + question ρ 3 s q .second → begins (word ρ q) (nth (map (word ρ) xs) i) ≡ true
+    begun i l low high =
+        ap (begins (word ρ q)) (nth-word ρ xs i) ∙ range-is ρ ok xs is q i l
+        ∙ ap₂ both (le-leb (answer ρ 3 q xs .0) i (omega (arith, from-is))) (lt-ltb i (answer ρ 3 q xs .0 + answer ρ 3 q xs .1) (omega (arith, from-is, count-is)))
+
+    record InRange (i : ℕ) : Type 0 where
+      low : question ρ 3 s q .first ≤ i
+      high : i < question ρ 3 s q .first + question ρ 3 s q .second
+
+    in-range : (i : ℕ) → i < length ws → begins (word ρ q) (nth (map (word ρ) xs) i) ≡ true → InRange i
+    in-range i l h =
+        let e : both (leb (answer ρ 3 q xs .0) i) (ltb i (answer ρ 3 q xs .0 + answer ρ 3 q xs .1)) ≡ true =
+        sym (range-is ρ ok xs is q i (omega (arith, length-map xs (word ρ)))) ∙ ap (begins (word ρ q)) (sym (nth-word ρ xs i)) ∙ h in
+        let b = both-true (leb (answer ρ 3 q xs .0) i) (ltb i (answer ρ 3 q xs .0 + answer ρ 3 q xs .1)) e in
+        record {
+          low = omega (arith, leb-true (answer ρ 3 q xs .0) i (b .0), from-is);
+          high = omega (arith, ltb-true i (answer ρ 3 q xs .0 + answer ρ 3 q xs .1) (b .1), from-is, count-is);
+        }
+
+    pub width-most : (i : ℕ) → question ρ 3 s q .first ≤ i → i < question ρ 3 s q .first + question ρ 3 s q .second → length (getD xs i []) ≤ question ρ 5 s q .first
+    width-most i low high = elim (apart i (length xs)) [
+      | inl l ↦ omega (arith, width-is, word-length i, width-at (word ρ q) (map (word ρ) xs) i (inside l) (begun i l low high))
+      | inr l ↦ omega (arith, ap length (List·getD-eq-default xs [] l))
+    ]
+
+    pub width-least : 0 < question ρ 3 s q .second → AsLong xs (question ρ 3 s q .first) (question ρ 3 s q .second) (question ρ 5 s q .first)
+    unfolding answer ask range
+    width-least h =
+        let p = count-found (begins (word ρ q)) (map (word ρ) xs) (omega (arith, count-is)) in
+        let w = width-found (word ρ q) (map (word ρ) xs) (p .index) (p .within) (p .passes) in
+        let r = in-range (w .index) (w .within) (w .begun) in
+        record { index = w .index; low = r .low; high = r .high; is = sym (word-length (w .index)) ∙ w .is ∙ sym width-is }
+
+    pub width-none : question ρ 3 s q .second ≡ 0 → question ρ 5 s q ≡ given 0 0
+    width-none z = width-given ∙ ap (λ (n : ℕ). given n 0) (elim (apart 0 (width (word ρ q) (map (word ρ) xs))) [
+      | inl a ↦ let w = width-some (word ρ q) (map (word ρ) xs) a in let r = in-range (w .index) (w .within) (w .begun) in absurd (lt-irrefl (w .index) (omega (arith, r .low, r .high)))
+      | inr a ↦ omega arith
+    ])
+
+  pub width-whole : question ρ 5 s [] ≡ given (widest (map (word ρ) xs)) 0
+  width-whole = width-given [] (omega arith) ∙ ap (λ (n : ℕ). given n 0) (width-all [] (map (word ρ) xs) (all-from [] (map (word ρ) xs) (λ i l. begins-nil (nth (map (word ρ) xs) i))))
+
+pub width-settles : (ρ : Rule) (s q : Bytes) (a b : Answer) → a ≡ question ρ 5 s q → b ≡ question ρ 5 s q → a ≡ b
+width-settles ρ = question-settles ρ 5
