@@ -54,10 +54,8 @@ fn left_of(shares: &[u8], j: usize) -> usize
     requires { ⌜ j < length (now shares) ⌝ }
     ensures { λ r. ⌜ ((j ≡ 0) → (r ≡ 0)) × ((0 < j) → (r ≡ suc (getD (now (shares .entry)) j 0))) ⌝ }
 {
-    if j == 0 {
-        return 0;
-    }
-    numbers::wide(shares[j]) + 1
+    let noted = numbers::wide(shares[j]) + 1;
+    if j == 0 { 0 } else { noted }
 }
 
 // What is left open when a name is written: the number of the top frame, how many records there are, and of the node that begins
