@@ -7,7 +7,7 @@
 use crate::layout::{book_of, LARGEST_BLOCK, LONGEST_BOOK};
 use crate::names::{read_list, LONGEST_NAME};
 use crate::open::open;
-use crate::questions::{exact, nearest, place, range, Kind};
+use crate::questions::{exact, nearest, place, range, width, Kind};
 use crate::refusals::{
     BAD_BLOCK_SIZE, BAD_ROW, BAD_ROW_COUNT, BOOK_TOO_LONG, NEAREST_OF_NONE, NO_BOOK,
     NO_SUCH_POSITION, QUESTION_TOO_LONG, ROOM_TOO_SHORT,
@@ -32,7 +32,7 @@ pub struct Answer {
 /// A question row of a batch: its kind and its span of the question buffer.
 #[derive(Clone, Copy, Debug, PartialEq, Eq, Default)]
 pub struct Row {
-    /// 1 exact, 2 place, 3 range, 4 nearest.
+    /// 1 exact, 2 place, 3 range, 4 nearest, 5 width.
     pub kind: usize,
     /// Where the question begins in the buffer.
     pub start: usize,
@@ -133,6 +133,12 @@ pub fn book_nearest(book: &[u8], question: &[u8]) -> Answer {
     ask_book(book, Kind::Nearest, question)
 }
 
+/// Width: the greatest length among the names of the question's range, 0 where
+/// the range is empty. Refusals: 2, 1.
+pub fn book_width(book: &[u8], question: &[u8]) -> Answer {
+    ask_book(book, Kind::Width, question)
+}
+
 /// A single question. Refusals: 2, then those of `ask_names`.
 fn ask_book(book: &[u8], kind: Kind, question: &[u8]) -> Answer {
     match open(book) {
@@ -151,6 +157,7 @@ fn ask_names(names: &[Vec<u8>], kind: Kind, question: &[u8]) -> Answer {
         Kind::Place => Some(place(names, question)),
         Kind::Range => Some(range(names, question)),
         Kind::Nearest => nearest(names, question),
+        Kind::Width => Some(width(names, question)),
     };
     match numbers {
         // Only nearest can be without an answer, and only without names.

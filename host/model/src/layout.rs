@@ -1,7 +1,8 @@
 //! The bytes of a book.
 //!
 //! Renders document 01, "Layout of a book": entries, block table, node table,
-//! trailer, one behind the other without gaps.
+//! trailer, one behind the other without gaps. The size of a node and the mark
+//! are those of document 02, change request 1.
 //!
 //! No limit is applied here. A number that does not fit its one or two bytes
 //! is cut to the low ones; for a list and block size that a build accepts, and
@@ -16,8 +17,10 @@ pub const LONGEST_BOOK: usize = 65_535;
 pub const LARGEST_BLOCK: usize = 64;
 /// The length of the trailer, and so of the shortest book.
 pub const TRAILER_LENGTH: usize = 16;
+/// The length of a node: six numbers of two bytes.
+pub const NODE_LENGTH: usize = 12;
 /// The last four bytes of every book.
-pub const MARK: [u8; 4] = [0x4E, 0x42, 0x4B, 0x31];
+pub const MARK: [u8; 4] = [0x4E, 0x42, 0x4B, 0x32];
 
 /// The book of these names with this block size.
 pub fn book_of(block: usize, names: &[Vec<u8>]) -> Vec<u8> {
@@ -76,7 +79,7 @@ pub fn block_table(block: usize, names: &[Vec<u8>]) -> Vec<u8> {
     bytes
 }
 
-/// Part 3: every node of the tree, ten bytes each; none without names.
+/// Part 3: every node of the tree, twelve bytes each; none without names.
 pub fn node_table(names: &[Vec<u8>]) -> Vec<u8> {
     let mut bytes = Vec::new();
     if let Some(root) = tree(names) {
@@ -92,6 +95,7 @@ fn write_node(node: &Node, bytes: &mut Vec<u8>) {
     bytes.extend(two_bytes(node.first));
     bytes.extend(two_bytes(node.names));
     bytes.extend(two_bytes(node.nodes));
+    bytes.extend(two_bytes(node.width));
     for child in &node.children {
         write_node(child, bytes);
     }
@@ -112,7 +116,7 @@ fn trailer(
     let nodes = node_count(names);
     let block_table_start = entries_length;
     let node_table_start = block_table_start + block_table_length;
-    let book_length = node_table_start + 10 * nodes + TRAILER_LENGTH;
+    let book_length = node_table_start + NODE_LENGTH * nodes + TRAILER_LENGTH;
 
     let mut bytes = Vec::new();
     bytes.extend(two_bytes(names.len()));

@@ -1,10 +1,11 @@
 //! The second program of Mistrogu.
 //!
-//! Everything that document 01 asks for, done over a plain sorted list of byte
-//! strings. Nothing here is fast and nothing is meant to be. A reader with
-//! document 01 in the other hand should be able to believe each function at
-//! sight, because test vectors for the proved library come from this crate. It
-//! shares no line with that library.
+//! Everything that document 01 asks for, with what document 02's change request
+//! 1 (width) adds to it, done over a plain sorted list of byte strings. Nothing
+//! here is fast and nothing is meant to be. A reader with the documents in the
+//! other hand should be able to believe each function at sight, because test
+//! vectors for the proved library come from this crate. It shares no line with
+//! that library.
 //!
 //! Where to look:
 //!
@@ -14,7 +15,7 @@
 //! | [`tree`] | which nodes a list of names has |
 //! | [`layout`] | the bytes of a book |
 //! | [`open`](mod@open) | which runs of bytes are a book |
-//! | [`questions`] | exact, place, range, nearest |
+//! | [`questions`] | exact, place, range, nearest; width (document 02) |
 //! | [`refusals`] | the numbers given back when a call says no |
 //! | [`calls`] | the public calls, each with its refusals in their order |
 //! | [`programs`] | what the building and the listing program write |
@@ -35,7 +36,7 @@ pub mod tree;
 
 pub use calls::{
     book_batch, book_build, book_check, book_exact, book_nearest, book_place, book_range,
-    book_read, Answer, Row,
+    book_read, book_width, Answer, Row,
 };
 pub use layout::book_of;
 pub use names::{read_list, write_list};

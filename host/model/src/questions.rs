@@ -1,13 +1,13 @@
-//! The four questions, asked of a plain sorted list.
+//! The five questions, asked of a plain sorted list.
 //!
-//! Renders document 01, "Questions". Exact, place and range go through all
-//! names and count. Only nearest needs the tree, because document 01 says by
-//! the tree which of several equally near names it gives.
+//! Renders document 01, "Questions", and width of document 02. Exact, place,
+//! range and width go through all names. Only nearest needs the tree, because
+//! document 01 says by the tree which of several equally near names it gives.
 
 use crate::names::{is_less, leading_equal, symbols};
 use crate::tree::{tree, Node};
 
-/// The four kinds of question.
+/// The five kinds of question.
 #[derive(Clone, Copy, Debug, PartialEq, Eq)]
 pub enum Kind {
     /// Is there such a name?
@@ -18,16 +18,19 @@ pub enum Kind {
     Range,
     /// Which name shares most with it?
     Nearest,
+    /// How long is the longest name that begins with it?
+    Width,
 }
 
 impl Kind {
-    /// The kind that a batch row's number means; only 1 to 4 mean one.
+    /// The kind that a batch row's number means; only 1 to 5 mean one.
     pub fn of_number(number: usize) -> Option<Kind> {
         match number {
             1 => Some(Kind::Exact),
             2 => Some(Kind::Place),
             3 => Some(Kind::Range),
             4 => Some(Kind::Nearest),
+            5 => Some(Kind::Width),
             _ => None,
         }
     }
@@ -57,6 +60,18 @@ pub fn range(names: &[Vec<u8>], question: &[u8]) -> (usize, usize) {
         .filter(|name| name.starts_with(question))
         .count();
     (less, beginning)
+}
+
+/// The greatest length among the names that have the question as their front,
+/// and a 0. Where there is no such name the greatest length is 0.
+pub fn width(names: &[Vec<u8>], question: &[u8]) -> (usize, usize) {
+    let mut greatest = 0;
+    for name in names {
+        if name.starts_with(question) {
+            greatest = greatest.max(name.len());
+        }
+    }
+    (greatest, 0)
 }
 
 /// The first name of the node that the question leads to, and how many leading

@@ -1,14 +1,15 @@
 //! The tree of a list of names.
 //!
 //! Renders the paragraph of document 01, "Layout of a book", that says which
-//! nodes there are and what their five fields hold. `layout` writes the tree
-//! down as a table; `questions` goes down in it for the nearest name.
+//! nodes there are and what their fields hold; the sixth field is document
+//! 02's. `layout` writes the tree down as a table; `questions` goes down in it
+//! for the nearest name.
 
 use crate::names::{leading_equal, symbols};
 
 /// A node with its own row of children.
 ///
-/// The five numbers stand in the order in which the node table holds them.
+/// The six numbers stand in the order in which the node table holds them.
 #[derive(Clone, Debug, PartialEq, Eq)]
 pub struct Node {
     /// The symbol that led here. The root has 0, which is not the end there.
@@ -21,6 +22,8 @@ pub struct Node {
     pub names: usize,
     /// How many nodes are in this part of the tree, with this one.
     pub nodes: usize,
+    /// The greatest length of a name in this node, in bytes.
+    pub width: usize,
     /// One node for each symbol that follows the shared ones, rising.
     pub children: Vec<Node>,
 }
@@ -54,8 +57,19 @@ fn node_of(symbol: usize, first: usize, strings: &[Vec<usize>]) -> Node {
         first,
         names: strings.len(),
         nodes: 1 + below,
+        width: greatest_length(strings),
         children,
     }
+}
+
+/// The greatest length of a name among the strings. The end symbol is no byte
+/// of a name, so a name's length is the number of its symbols less 1.
+fn greatest_length(strings: &[Vec<usize>]) -> usize {
+    let mut greatest = 0;
+    for string in strings {
+        greatest = greatest.max(string.len() - 1);
+    }
+    greatest
 }
 
 /// The count of leading symbols that all the strings share.

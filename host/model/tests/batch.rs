@@ -1,9 +1,13 @@
-//! Document 01, "Questions", the paragraph on batches, with refusals 11 and 12.
+//! Document 01, "Questions", the paragraph on batches, with refusals 11 and 12,
+//! and with document 02's kind 5.
 
 mod common;
 
-use common::{mar_names, no, yes, Random, BOOK_BY_4, BOOK_BY_2, EMPTY_BOOK, UNSET};
-use model::{book_batch, book_exact, book_nearest, book_place, book_range, book_read, Answer, Row};
+use common::{mar_names, no, yes, Random, BOOK_BY_2, BOOK_BY_4, EMPTY_BOOK, UNSET};
+use model::{
+    book_batch, book_exact, book_nearest, book_place, book_range, book_read, book_width, Answer,
+    Row,
+};
 
 fn row(kind: usize, start: usize, length: usize) -> Row {
     Row {
@@ -42,7 +46,8 @@ fn alone(book: &[u8], questions: &[u8], row: Row) -> Answer {
         2 => book_place(book, question),
         3 => book_range(book, question),
         4 => book_nearest(book, question),
-        _ => panic!("a good row has a kind from 1 to 4"),
+        5 => book_width(book, question),
+        _ => panic!("a good row has a kind from 1 to 5"),
     }
 }
 
@@ -72,6 +77,13 @@ fn the_twelve_checked_rows_in_one_batch() {
 }
 
 #[test]
+fn kind_5_is_width() {
+    let rows = [row(5, 0, 0), row(5, 0, 3), row(5, 0, 6), row(5, 6, 3)];
+    let expected = [yes(13, 0), yes(13, 0), yes(6, 0), yes(0, 0)];
+    assert_eq!(batch(&BOOK_BY_2, b"MarinaMas", &rows), expected);
+}
+
+#[test]
 fn a_batch_gives_its_number_of_rows() {
     for count in 0..=64 {
         let rows = vec![row(1, 0, 3); count];
@@ -91,7 +103,7 @@ fn every_row_gets_what_its_question_alone_would_get() {
     let mut rows = Vec::new();
     for start in 0..=questions.len() {
         for length in 0..=questions.len() - start {
-            rows.extend((1..=4).map(|kind| row(kind, start, length)));
+            rows.extend((1..=5).map(|kind| row(kind, start, length)));
         }
     }
     for some in rows.chunks(64) {
@@ -116,7 +128,7 @@ fn no_row_depends_on_another_row() {
     let questions = b"MarinaMarketSquare";
     for _ in 0..200 {
         let rows: Vec<Row> = (0..12)
-            .map(|_| row(random.below(6), random.below(20), random.below(8)))
+            .map(|_| row(random.below(7), random.below(20), random.below(8)))
             .collect();
         let together = batch(&BOOK_BY_2, questions, &rows);
         for (row, answer) in rows.iter().zip(&together) {
@@ -158,8 +170,8 @@ fn the_book_of_a_batch_may_be_the_buffer_of_its_questions() {
 // Refused rows: 11, 1, 10
 
 #[test]
-fn refusal_11_for_a_kind_that_is_not_1_to_4() {
-    for kind in [0, 5, 6, 255, 256, 257, usize::MAX] {
+fn refusal_11_for_a_kind_that_is_not_1_to_5() {
+    for kind in [0, 6, 7, 255, 256, 257, 261, usize::MAX] {
         assert_eq!(batch(&BOOK_BY_2, b"Mar", &[row(kind, 0, 3)]), [no(11)]);
     }
 }
@@ -201,16 +213,20 @@ fn the_end_of_the_buffer_with_length_0_is_inside() {
 #[test]
 fn refusal_1_for_a_row_of_201_bytes_that_fits_the_buffer() {
     let questions = [b'M'; 250];
-    for kind in 1..=4 {
-        assert_eq!(batch(&BOOK_BY_2, &questions, &[row(kind, 49, 201)]), [no(1)]);
+    for kind in 1..=5 {
+        assert_eq!(
+            batch(&BOOK_BY_2, &questions, &[row(kind, 49, 201)]),
+            [no(1)]
+        );
     }
     let rows = [
         row(1, 50, 200),
         row(2, 50, 200),
         row(3, 50, 200),
         row(4, 50, 200),
+        row(5, 50, 200),
     ];
-    let expected = [yes(0, 0), yes(0, 0), yes(0, 0), yes(0, 1)];
+    let expected = [yes(0, 0), yes(0, 0), yes(0, 0), yes(0, 1), yes(0, 0)];
     assert_eq!(batch(&BOOK_BY_2, &questions, &rows), expected);
 }
 
@@ -226,8 +242,8 @@ fn a_buffer_may_be_far_longer_than_a_question() {
 
 #[test]
 fn refusal_10_for_nearest_of_a_book_without_names() {
-    let rows = [row(1, 0, 3), row(2, 0, 3), row(3, 0, 3), row(4, 0, 3)];
-    let expected = [yes(0, 0), yes(0, 0), yes(0, 0), no(10)];
+    let rows = [1, 2, 3, 4, 5].map(|kind| row(kind, 0, 3));
+    let expected = [yes(0, 0), yes(0, 0), yes(0, 0), no(10), yes(0, 0)];
     assert_eq!(batch(&EMPTY_BOOK, b"Mar", &rows), expected);
 }
 
@@ -235,7 +251,7 @@ fn refusal_10_for_nearest_of_a_book_without_names() {
 fn in_one_row_11_comes_before_1() {
     let questions = [b'M'; 300];
     // bad kind and 201 bytes; past the buffer and 201 bytes
-    let rows = [row(0, 0, 201), row(5, 0, 201), row(1, 100, 201)];
+    let rows = [row(0, 0, 201), row(6, 0, 201), row(1, 100, 201)];
     assert_eq!(batch(&BOOK_BY_2, &questions, &rows), [no(11); 3]);
 }
 

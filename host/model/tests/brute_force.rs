@@ -9,8 +9,8 @@ mod common;
 
 use common::{built, yes, Random, FILLING, UNSET};
 use model::{
-    book_batch, book_check, book_exact, book_nearest, book_place, book_range, book_read, open,
-    read_list, write_list, Answer, Row,
+    book_batch, book_check, book_exact, book_nearest, book_place, book_range, book_read,
+    book_width, open, read_list, write_list, Answer, Row,
 };
 use std::collections::BTreeSet;
 
@@ -61,6 +61,13 @@ fn direct_range(names: &[Vec<u8>], question: &[u8]) -> Answer {
     yes(direct_place(names, question).first, beginning)
 }
 
+/// The names of the range stand together, from the question's place on.
+fn direct_width(names: &[Vec<u8>], question: &[u8]) -> Answer {
+    let range = direct_range(names, question);
+    let lengths = names[range.first..][..range.second].iter().map(Vec::len);
+    yes(lengths.max().unwrap_or(0), 0)
+}
+
 /// How many leading bytes the two share.
 fn shared(name: &[u8], question: &[u8]) -> usize {
     let mut count = 0;
@@ -101,26 +108,27 @@ fn direct_nearest(names: &[Vec<u8>], question: &[u8]) -> Answer {
     yes(group[0], shared(&names[group[0]], question))
 }
 
-/// The four expected answers, in the order of the kinds.
-fn direct_answers(names: &[Vec<u8>], question: &[u8]) -> [Answer; 4] {
+/// The five expected answers, in the order of the kinds.
+fn direct_answers(names: &[Vec<u8>], question: &[u8]) -> [Answer; 5] {
     [
         direct_exact(names, question),
         direct_place(names, question),
         direct_range(names, question),
         direct_nearest(names, question),
+        direct_width(names, question),
     ]
 }
 
-/// Asks all kinds of all questions in batches of 64 rows.
-fn ask_all(book: &[u8], questions: &[Vec<u8>]) -> Vec<[Answer; 4]> {
+/// Asks all kinds of all questions in batches of up to 60 rows.
+fn ask_all(book: &[u8], questions: &[Vec<u8>]) -> Vec<[Answer; 5]> {
     let buffer = questions.concat();
     let mut all = Vec::new();
     let mut start = 0;
-    for some in questions.chunks(16) {
+    for some in questions.chunks(12) {
         let mut rows = Vec::new();
         for question in some {
             let length = question.len();
-            rows.extend((1..=4).map(|kind| Row {
+            rows.extend((1..=5).map(|kind| Row {
                 kind,
                 start,
                 length,
@@ -132,8 +140,8 @@ fn ask_all(book: &[u8], questions: &[Vec<u8>]) -> Vec<[Answer; 4]> {
         assert_eq!(answer, yes(rows.len(), 0));
         all.extend(
             answers
-                .chunks(4)
-                .map(|four| [four[0], four[1], four[2], four[3]]),
+                .chunks(5)
+                .map(|five| [five[0], five[1], five[2], five[3], five[4]]),
         );
     }
     all
@@ -159,15 +167,15 @@ fn assert_round_trip(names: &[Vec<u8>], block: usize, seed: u64) -> Vec<u8> {
 fn try_list(names: &[Vec<u8>], block: usize, questions: &[Vec<u8>], seed: u64) {
     let book = assert_round_trip(names, block, seed);
     let answers = ask_all(&book, questions);
-    for (question, four) in questions.iter().zip(&answers) {
+    for (question, five) in questions.iter().zip(&answers) {
         let expected = direct_answers(names, question);
         assert_eq!(
-            *four, expected,
+            *five, expected,
             "seed {seed} names {names:?} question {question:?}"
         );
         let greatest = names.iter().map(|name| shared(name, question)).max();
         if let Some(greatest) = greatest {
-            assert_eq!(four[3].second, greatest, "seed {seed} {question:?}");
+            assert_eq!(five[3].second, greatest, "seed {seed} {question:?}");
         }
     }
 }
@@ -194,6 +202,8 @@ fn the_direct_look_gives_the_twelve_checked_rows() {
     assert_eq!(direct_nearest(&names, b"Maxim"), yes(1, 2));
     assert_eq!(direct_nearest(&names, b"Zoo"), yes(0, 0));
     assert_eq!(direct_nearest(&names, b"M"), yes(0, 1));
+    assert_eq!(direct_width(&names, b""), yes(13, 0));
+    assert_eq!(direct_width(&names, b"Mas"), yes(0, 0));
 }
 
 #[test]
@@ -263,14 +273,15 @@ fn each_single_call_gives_what_its_batch_row_gives() {
         let mut random = Random::from_seed(seed);
         let names = random_list(&mut random, 9, &ALPHABET, 4);
         let book = built(&names, 3);
-        for (question, four) in questions.iter().zip(ask_all(&book, &questions)) {
+        for (question, five) in questions.iter().zip(ask_all(&book, &questions)) {
             let alone = [
                 book_exact(&book, question),
                 book_place(&book, question),
                 book_range(&book, question),
                 book_nearest(&book, question),
+                book_width(&book, question),
             ];
-            assert_eq!(alone, four, "seed {seed} question {question:?}");
+            assert_eq!(alone, five, "seed {seed} question {question:?}");
         }
     }
 }

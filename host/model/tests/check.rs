@@ -3,8 +3,8 @@
 mod common;
 
 use common::{
-    built, many_names, mar_names, names, names_for_book_length, no, yes, Random, BOOK_BY_4, BOOK_BY_2,
-    EMPTY_BOOK,
+    built, many_names, mar_names, names, names_for_book_length, no, yes, Random, BOOK_BY_2,
+    BOOK_BY_4, EMPTY_BOOK,
 };
 use model::{book_build, book_check, book_of, open, write_list};
 
@@ -47,7 +47,7 @@ fn accepted_changes(book: &[u8]) -> Vec<usize> {
 fn every_changed_byte_of_blocks_of_2_is_refused_or_makes_another_sound_book() {
     // Free are the letters behind those that the nodes show: na of Marina and
     // et Square. Mar itself stands in two blocks, so one change parts them.
-    let mut expected = vec![0; 85];
+    let mut expected = vec![0; 93];
     expected[8..10].fill(255);
     expected[16..25].fill(255);
     assert_eq!(accepted_changes(&BOOK_BY_2), expected);
@@ -57,11 +57,11 @@ fn every_changed_byte_of_blocks_of_2_is_refused_or_makes_another_sound_book() {
 fn every_changed_byte_of_blocks_of_4_is_refused_or_makes_another_sound_book() {
     // Here Mar is stored once and may become any three bytes. k may be any
     // other size that holds three names in one block: 3 and 5 to 64.
-    let mut expected = vec![0; 80];
+    let mut expected = vec![0; 88];
     expected[2..5].fill(255);
     expected[8..10].fill(255);
     expected[13..22].fill(255);
-    expected[80 - 14] = 61;
+    expected[88 - 14] = 61;
     assert_eq!(accepted_changes(&BOOK_BY_4), expected);
 }
 
@@ -76,10 +76,10 @@ fn every_changed_byte_of_the_empty_book_is_refused_but_for_its_k() {
 
 #[test]
 fn every_cut_book_is_refused() {
-    for length in 0..85 {
+    for length in 0..93 {
         assert_eq!(book_check(&BOOK_BY_2[..length]), no(2), "front {length}");
     }
-    for start in 1..=85 {
+    for start in 1..=93 {
         assert_eq!(book_check(&BOOK_BY_2[start..]), no(2), "from {start}");
     }
 }
@@ -97,7 +97,7 @@ fn bytes_before_or_after_a_book_make_it_no_book() {
 
 #[test]
 fn every_byte_left_out_or_doubled_is_refused() {
-    for offset in 0..85 {
+    for offset in 0..93 {
         let left_out = [&BOOK_BY_2[..offset], &BOOK_BY_2[offset + 1..]].concat();
         let doubled = [&BOOK_BY_2[..=offset], &BOOK_BY_2[offset..]].concat();
         assert_eq!(book_check(&left_out), no(2), "left out {offset}");
@@ -109,7 +109,7 @@ fn every_byte_left_out_or_doubled_is_refused() {
 
 #[test]
 fn a_shared_count_smaller_than_possible_is_refused() {
-    // The 80 bytes, but Market Square stored as 02 0B rket Square or as
+    // The 88 bytes, but Market Square stored as 02 0B rket Square or as
     // 00 0D Market Square inside its block; tables and trailer moved along.
     for shared in 0..3usize {
         let rest = &b"Market Square"[shared..];
@@ -128,14 +128,14 @@ fn a_shared_count_smaller_than_possible_is_refused() {
 
 #[test]
 fn a_nonzero_count_at_a_block_s_first_name_is_refused() {
-    // The 85 bytes, but Market Square stored as 03 0A ket Square although it
+    // The 93 bytes, but Market Square stored as 03 0A ket Square although it
     // begins the second block; tables and trailer moved along.
     let mut bytes = BOOK_BY_4[..22].to_vec();
     bytes.extend([0x00, 0x00, 0x0A, 0x00]);
-    bytes.extend(&BOOK_BY_2[29..69]);
-    bytes.extend([3, 0, 2, 0, 22, 0, 26, 0, 4, 0, 82, 0]);
-    bytes.extend(b"NBK1");
-    assert_eq!(bytes.len(), 82);
+    bytes.extend(&BOOK_BY_2[29..77]);
+    bytes.extend([3, 0, 2, 0, 22, 0, 26, 0, 4, 0, 90, 0]);
+    bytes.extend(b"NBK2");
+    assert_eq!(bytes.len(), 90);
     assert_eq!(book_check(&bytes), no(2));
 }
 
@@ -143,7 +143,7 @@ fn a_nonzero_count_at_a_block_s_first_name_is_refused() {
 fn an_unused_gap_between_the_parts_is_refused() {
     // One byte more before the block table, the node table or the trailer,
     // with every number of the trailer moved along.
-    for (offset, moves_block_table, moves_node_table) in [(25, 1, 1), (29, 0, 1), (69, 0, 0)] {
+    for (offset, moves_block_table, moves_node_table) in [(25, 1, 1), (29, 0, 1), (77, 0, 0)] {
         let mut bytes = [&BOOK_BY_2[..offset], &[0], &BOOK_BY_2[offset..]].concat();
         let trailer = bytes.len() - 16;
         bytes[trailer + 4] += moves_block_table;
@@ -157,9 +157,55 @@ fn an_unused_gap_between_the_parts_is_refused() {
 fn nodes_in_another_order_are_refused() {
     // The leaves of Mar and Marina have swapped places.
     let mut bytes = BOOK_BY_2;
-    bytes[39..49].copy_from_slice(&BOOK_BY_2[49..59]);
-    bytes[49..59].copy_from_slice(&BOOK_BY_2[39..49]);
+    bytes[41..53].copy_from_slice(&BOOK_BY_2[53..65]);
+    bytes[53..65].copy_from_slice(&BOOK_BY_2[41..53]);
     assert_eq!(book_check(&bytes), no(2));
+}
+
+#[test]
+fn a_width_that_is_not_the_greatest_length_is_refused() {
+    // Offsets of the sixth fields of the root and of the three leaves, with
+    // one less, one more and the depth; for the root also the first child's.
+    let wrong = [
+        (39, vec![12, 14, 3, 6, 0]),
+        (51, vec![2, 4, 13, 0]),
+        (63, vec![5, 7, 13, 0]),
+        (75, vec![12, 14, 0]),
+    ];
+    for (offset, values) in wrong {
+        for value in values {
+            let mut bytes = BOOK_BY_2;
+            bytes[offset] = value;
+            assert_eq!(book_check(&bytes), no(2), "{value} at {offset}");
+        }
+        let mut bytes = BOOK_BY_2;
+        bytes[offset + 1] = 1;
+        assert_eq!(book_check(&bytes), no(2), "256 more at {offset}");
+    }
+}
+
+#[test]
+fn a_book_with_the_old_mark_is_refused() {
+    // The old layout as document 01 has it, five fields a node.
+    let mut old = BOOK_BY_2[..29].to_vec();
+    for node in BOOK_BY_2[29..77].chunks(12) {
+        old.extend(&node[..10]);
+    }
+    old.extend([3, 0, 2, 0, 25, 0, 29, 0, 4, 0, 85, 0]);
+    old.extend(b"NBK1");
+    assert_eq!(old.len(), 85);
+    assert_eq!(book_check(&old), no(2));
+    old[84] = b'2';
+    assert_eq!(book_check(&old), no(2), "the old layout under the new mark");
+    for book in [&BOOK_BY_2[..], &BOOK_BY_4, &EMPTY_BOOK] {
+        let mut bytes = book.to_vec();
+        *bytes.last_mut().expect("a book has bytes") = b'1';
+        assert_eq!(
+            book_check(&bytes),
+            no(2),
+            "the new layout under the old mark"
+        );
+    }
 }
 
 #[test]
@@ -167,7 +213,7 @@ fn another_block_size_with_the_same_blocks_is_another_book() {
     let mut accepted = Vec::new();
     for block in 0..=255u8 {
         let mut bytes = BOOK_BY_4;
-        bytes[80 - 14] = block;
+        bytes[88 - 14] = block;
         if is_accepted(&bytes) {
             accepted.push(block);
         }
@@ -254,7 +300,7 @@ fn a_trailer_that_promises_65535_names_is_refused() {
     for byte in [0u8, 1, 255] {
         let mut bytes = vec![byte; 65_535];
         let trailer = bytes.len() - 16;
-        bytes[trailer..].copy_from_slice(&BOOK_BY_2[69..]);
+        bytes[trailer..].copy_from_slice(&BOOK_BY_2[77..]);
         bytes[trailer..trailer + 2].fill(255);
         assert_eq!(book_check(&bytes), no(2));
     }
@@ -282,7 +328,7 @@ fn random_bytes_before_a_good_trailer_are_refused_or_a_book() {
     for seed in 0..2000 {
         let mut random = Random::from_seed(seed);
         let mut bytes = BOOK_BY_2;
-        for byte in &mut bytes[..69] {
+        for byte in &mut bytes[..77] {
             *byte = random.one_of(&[0, 1, 2, 3, 4, 13, b'M', 255]);
         }
         is_accepted(&bytes);

@@ -1,4 +1,5 @@
-//! Document 01, "Edges to run": each pair of values on both sides of a limit.
+//! Document 01, "Edges to run": each pair of values on both sides of a limit,
+//! with the sizes and the kind that document 02 brings.
 
 mod common;
 
@@ -8,21 +9,22 @@ use common::{
 };
 use model::{
     book_batch, book_build, book_check, book_exact, book_nearest, book_of, book_place, book_range,
-    book_read, read_list, write_list, Answer, Row,
+    book_read, book_width, read_list, write_list, Answer, Row,
 };
 
 #[test]
 fn a_name_of_200_bytes_is_built_read_and_found() {
     let name = vec![b'n'; 200];
     let book = built(std::slice::from_ref(&name), 1);
-    // entry 202, block table 2, one node 10, trailer 16
-    assert_eq!(book.len(), 230);
+    // entry 202, block table 2, one node 12, trailer 16
+    assert_eq!(book.len(), 232);
     assert_eq!(book_check(&book), yes(1, 1));
     let mut room = [FILLING; 201];
     assert_eq!(book_read(&book, 0, &mut room), yes(200, 0));
     assert_eq!(&room[..200], name.as_slice());
     assert_eq!(room[200], FILLING);
     assert_eq!(book_exact(&book, &name), yes(0, 1));
+    assert_eq!(book_width(&book, &name), yes(200, 0));
 }
 
 #[test]
@@ -41,6 +43,7 @@ fn a_question_of_200_bytes_is_answered() {
     assert_eq!(book_place(&book, &question), yes(1, 0));
     assert_eq!(book_range(&book, &question), yes(1, 1));
     assert_eq!(book_nearest(&book, &question), yes(1, 200));
+    assert_eq!(book_width(&book, &question), yes(200, 0));
 }
 
 #[test]
@@ -51,6 +54,7 @@ fn a_question_of_201_bytes_is_refused_with_1() {
     assert_eq!(book_place(&book, &question), no(1));
     assert_eq!(book_range(&book, &question), no(1));
     assert_eq!(book_nearest(&book, &question), no(1));
+    assert_eq!(book_width(&book, &question), no(1));
 }
 
 #[test]
@@ -67,6 +71,7 @@ fn a_book_of_2000_names_is_built_and_its_last_name_is_found() {
     assert_eq!(book_range(&book, &[7]), yes(1750, 250));
     assert_eq!(book_range(&book, b""), yes(0, 2000));
     assert_eq!(book_nearest(&book, &[7, 250]), yes(1750, 1));
+    assert_eq!(book_width(&book, b""), yes(2, 0));
 }
 
 #[test]
@@ -92,19 +97,19 @@ fn block_sizes_1_and_64_are_built() {
         // 131 nodes; a block's first entry has 4 bytes, every other 3, as all
         // names begin with the same byte
         let entries = 130 * 3 + blocks;
-        assert_eq!(book.len(), entries + 2 * blocks + 1310 + 16);
+        assert_eq!(book.len(), entries + 2 * blocks + 131 * 12 + 16);
     }
 }
 
 #[test]
 fn a_room_one_byte_short_is_refused_with_4() {
-    assert_build_refused(MAR_LIST, 2, 84, no(4));
+    assert_build_refused(MAR_LIST, 2, 92, no(4));
 }
 
 #[test]
 fn a_room_of_just_its_length_holds_the_book() {
-    let mut room = [FILLING; 85];
-    assert_eq!(book_build(MAR_LIST, 2, &mut room), yes(85, 0));
+    let mut room = [FILLING; 93];
+    assert_eq!(book_build(MAR_LIST, 2, &mut room), yes(93, 0));
     assert_eq!(room, BOOK_BY_2);
 }
 
@@ -161,6 +166,19 @@ fn a_batch_of_65_rows_is_refused_with_12() {
 }
 
 #[test]
+fn a_row_of_kind_5_is_answered_and_one_of_kind_6_is_refused_with_11() {
+    let rows = [5, 6].map(|kind| Row {
+        kind,
+        start: 0,
+        length: 4,
+    });
+    let mut answers = [Answer::default(); 2];
+    let answer = book_batch(&BOOK_BY_2, b"Mari", &rows, &mut answers);
+    assert_eq!(answer, yes(2, 0));
+    assert_eq!(answers, [yes(6, 0), no(11)]);
+}
+
+#[test]
 fn equal_neighbours_are_refused_with_6() {
     assert_build_refused(b"\x03Mar\x03Mar", 2, 200, no_record(6, 1));
     assert_eq!(read_list(b"\x01a\x01b\x01b\x01c"), Err((6, 2)));
@@ -174,4 +192,5 @@ fn the_empty_list_gives_the_book_of_16_bytes() {
     assert_eq!(room[16], FILLING);
     assert_eq!(book_check(&EMPTY_BOOK), yes(0, 2));
     assert_eq!(book_read(&EMPTY_BOOK, 0, &mut room), no(3));
+    assert_eq!(book_width(&EMPTY_BOOK, b""), yes(0, 0));
 }

@@ -1,4 +1,4 @@
-//! Document 01, "Layout of a book".
+//! Document 01, "Layout of a book", with document 02's sixth field of a node.
 
 mod common;
 
@@ -7,8 +7,8 @@ use model::layout::{block_table, entries, node_count, node_table, stored_count};
 use model::tree::{tree, Node};
 use model::{book_check, book_of};
 
-/// The five numbers of each node, in the order of the node table.
-fn flat(names: &[Vec<u8>]) -> Vec<[usize; 5]> {
+/// The six numbers of each node, in the order of the node table.
+fn flat(names: &[Vec<u8>]) -> Vec<[usize; 6]> {
     let mut rows = Vec::new();
     if let Some(root) = tree(names) {
         push_flat(&root, &mut rows);
@@ -16,8 +16,15 @@ fn flat(names: &[Vec<u8>]) -> Vec<[usize; 5]> {
     rows
 }
 
-fn push_flat(node: &Node, rows: &mut Vec<[usize; 5]>) {
-    rows.push([node.symbol, node.depth, node.first, node.names, node.nodes]);
+fn push_flat(node: &Node, rows: &mut Vec<[usize; 6]>) {
+    rows.push([
+        node.symbol,
+        node.depth,
+        node.first,
+        node.names,
+        node.nodes,
+        node.width,
+    ]);
     for child in &node.children {
         push_flat(child, rows);
     }
@@ -120,10 +127,10 @@ fn the_nodes_of_the_worked_example() {
     assert_eq!(
         flat(&mar_names()),
         [
-            [0, 3, 0, 3, 4],
-            [0, 4, 0, 1, 1],
-            [106, 7, 1, 1, 1],
-            [108, 14, 2, 1, 1]
+            [0, 3, 0, 3, 4, 13],
+            [0, 4, 0, 1, 1, 3],
+            [106, 7, 1, 1, 1, 6],
+            [108, 14, 2, 1, 1, 13]
         ]
     );
 }
@@ -131,8 +138,8 @@ fn the_nodes_of_the_worked_example() {
 #[test]
 fn the_block_size_does_not_touch_the_node_table() {
     let book = |block| book_of(block, &mar_names());
-    assert_eq!(book(2)[29..69], node_table(&mar_names())[..]);
-    assert_eq!(book(4)[24..64], node_table(&mar_names())[..]);
+    assert_eq!(book(2)[29..77], node_table(&mar_names())[..]);
+    assert_eq!(book(4)[24..72], node_table(&mar_names())[..]);
 }
 
 #[test]
@@ -141,13 +148,13 @@ fn a_single_name_is_a_root_that_is_a_leaf() {
     let expected = [
         0x00, 0x03, 0x4D, 0x61, 0x72,
         0x00, 0x00,
-        0x00, 0x00, 0x04, 0x00, 0x00, 0x00, 0x01, 0x00, 0x01, 0x00,
-        0x01, 0x00, 0x01, 0x00, 0x05, 0x00, 0x07, 0x00, 0x01, 0x00, 0x21, 0x00,
-        0x4E, 0x42, 0x4B, 0x31,
+        0x00, 0x00, 0x04, 0x00, 0x00, 0x00, 0x01, 0x00, 0x01, 0x00, 0x03, 0x00,
+        0x01, 0x00, 0x01, 0x00, 0x05, 0x00, 0x07, 0x00, 0x01, 0x00, 0x23, 0x00,
+        0x4E, 0x42, 0x4B, 0x32,
     ];
-    assert_eq!(expected.len(), 33);
+    assert_eq!(expected.len(), 35);
     assert_eq!(built(&names(&["Mar"]), 1), expected);
-    assert_eq!(flat(&names(&["Mar"])), [[0, 4, 0, 1, 1]]);
+    assert_eq!(flat(&names(&["Mar"])), [[0, 4, 0, 1, 1, 3]]);
 }
 
 #[test]
@@ -159,15 +166,15 @@ fn bytes_0_and_255_in_a_book_written_by_hand() {
     let expected = [
         0x00, 0x01, 0x00,  0x01, 0x01, 0x00,  0x00, 0x01, 0xFF,
         0x00, 0x00,
-        0x00, 0x00, 0x00, 0x00, 0x00, 0x00, 0x03, 0x00, 0x05, 0x00,
-        0x01, 0x00, 0x01, 0x00, 0x00, 0x00, 0x02, 0x00, 0x03, 0x00,
-        0x00, 0x00, 0x02, 0x00, 0x00, 0x00, 0x01, 0x00, 0x01, 0x00,
-        0x01, 0x00, 0x03, 0x00, 0x01, 0x00, 0x01, 0x00, 0x01, 0x00,
-        0x00, 0x01, 0x02, 0x00, 0x02, 0x00, 0x01, 0x00, 0x01, 0x00,
-        0x03, 0x00, 0x03, 0x00, 0x09, 0x00, 0x0B, 0x00, 0x05, 0x00, 0x4D, 0x00,
-        0x4E, 0x42, 0x4B, 0x31,
+        0x00, 0x00, 0x00, 0x00, 0x00, 0x00, 0x03, 0x00, 0x05, 0x00, 0x02, 0x00,
+        0x01, 0x00, 0x01, 0x00, 0x00, 0x00, 0x02, 0x00, 0x03, 0x00, 0x02, 0x00,
+        0x00, 0x00, 0x02, 0x00, 0x00, 0x00, 0x01, 0x00, 0x01, 0x00, 0x01, 0x00,
+        0x01, 0x00, 0x03, 0x00, 0x01, 0x00, 0x01, 0x00, 0x01, 0x00, 0x02, 0x00,
+        0x00, 0x01, 0x02, 0x00, 0x02, 0x00, 0x01, 0x00, 0x01, 0x00, 0x01, 0x00,
+        0x03, 0x00, 0x03, 0x00, 0x09, 0x00, 0x0B, 0x00, 0x05, 0x00, 0x57, 0x00,
+        0x4E, 0x42, 0x4B, 0x32,
     ];
-    assert_eq!(expected.len(), 77);
+    assert_eq!(expected.len(), 87);
     assert_eq!(built(&list, 3), expected);
     assert_eq!(book_check(&expected), common::yes(3, 3));
 }
@@ -178,15 +185,15 @@ fn a_child_stands_with_its_own_row_before_its_next_sibling() {
     let list = names(&["ab", "ac", "ba", "bb", "bbb"]);
     #[rustfmt::skip]
     let expected = [
-        [0, 0, 0, 5, 9],
-            [98, 1, 0, 2, 3],
-                [99, 3, 0, 1, 1],
-                [100, 3, 1, 1, 1],
-            [99, 1, 2, 3, 5],
-                [98, 3, 2, 1, 1],
-                [99, 2, 3, 2, 3],
-                    [0, 3, 3, 1, 1],
-                    [99, 4, 4, 1, 1],
+        [0, 0, 0, 5, 9, 3],
+            [98, 1, 0, 2, 3, 2],
+                [99, 3, 0, 1, 1, 2],
+                [100, 3, 1, 1, 1, 2],
+            [99, 1, 2, 3, 5, 3],
+                [98, 3, 2, 1, 1, 2],
+                [99, 2, 3, 2, 3, 3],
+                    [0, 3, 3, 1, 1, 2],
+                    [99, 4, 4, 1, 1, 3],
     ];
     assert_eq!(flat(&list), expected);
 }
@@ -206,8 +213,44 @@ fn children_rise_by_symbol_with_the_end_symbol_first() {
 fn a_root_may_have_depth_0_and_is_written_with_symbol_0() {
     assert_eq!(
         flat(&names(&["Bar", "Mar"])),
-        [[0, 0, 0, 2, 3], [67, 4, 0, 1, 1], [78, 4, 1, 1, 1]]
+        [[0, 0, 0, 2, 3, 3], [67, 4, 0, 1, 1, 3], [78, 4, 1, 1, 1, 3]]
     );
+}
+
+/// The sixth field of the root and of each of its children.
+fn widths(texts: &[&str]) -> (usize, Vec<usize>) {
+    let root = tree(&names(texts)).expect("there are names");
+    let below = root.children.iter().map(|child| child.width).collect();
+    (root.width, below)
+}
+
+#[test]
+fn a_fork_has_the_width_of_its_longest_name_wherever_that_stands() {
+    assert_eq!(widths(&["aaaa", "b", "cc"]), (4, vec![4, 1, 2]));
+    assert_eq!(widths(&["a", "bbbb", "cc"]), (4, vec![1, 4, 2]));
+    assert_eq!(widths(&["a", "bb", "cccc"]), (4, vec![1, 2, 4]));
+    assert_eq!(widths(&["aa", "bb", "cc"]), (2, vec![2, 2, 2]));
+    // below a child that is a fork, behind its own first name
+    assert_eq!(widths(&["a", "aaaa", "aab", "cc"]), (4, vec![4, 2]));
+}
+
+#[test]
+fn a_leaf_has_the_width_of_its_name_which_is_its_depth_less_1() {
+    for length in [1, 2, 199, 200] {
+        let rows = flat(&[vec![b'n'; length]]);
+        assert_eq!(rows, [[0, length + 1, 0, 1, 1, length]]);
+    }
+}
+
+#[test]
+fn every_width_is_the_greatest_length_in_the_node_s_stretch_of_names() {
+    let mixed = names(&["a", "ab", "abcd", "abd", "b", "bcdef", "bd", "c"]);
+    for list in [deepest_list(), mixed, common::many_names(600), mar_names()] {
+        for [_, _, first, count, _, width] in flat(&list) {
+            let stretch = &list[first..first + count];
+            assert_eq!(stretch.iter().map(Vec::len).max(), Some(width));
+        }
+    }
 }
 
 #[test]
@@ -257,7 +300,7 @@ fn the_trailer_tells_where_the_parts_begin() {
     assert_eq!(number(trailer + 6), entries_length + 2 * 29);
     assert_eq!(number(trailer + 8), 401);
     assert_eq!(number(trailer + 10), book.len());
-    assert_eq!(&book[trailer + 12..], b"NBK1");
+    assert_eq!(&book[trailer + 12..], b"NBK2");
 }
 
 #[test]
@@ -276,7 +319,7 @@ fn the_parts_stand_without_gaps() {
 fn the_book_of_no_names_is_16_bytes_with_k_as_given() {
     for block in 1..=64u8 {
         let expected = [
-            0, 0, block, 0, 0, 0, 0, 0, 0, 0, 16, 0, 0x4E, 0x42, 0x4B, 0x31,
+            0, 0, block, 0, 0, 0, 0, 0, 0, 0, 16, 0, 0x4E, 0x42, 0x4B, 0x32,
         ];
         assert_eq!(built(&[], usize::from(block)), expected);
         assert_eq!(book_check(&expected), common::yes(0, usize::from(block)));
@@ -293,7 +336,7 @@ fn laying_out_applies_no_limit_and_takes_every_list() {
     for list in [twice, falling, nameless, long] {
         for block in [0, 1, 2, 65, 65_536, usize::MAX] {
             let book = book_of(block, &list);
-            assert_eq!(&book[book.len() - 4..], b"NBK1");
+            assert_eq!(&book[book.len() - 4..], b"NBK2");
         }
     }
     assert_eq!(book_of(0, &[]).len(), 16);

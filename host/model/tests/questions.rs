@@ -1,19 +1,20 @@
-//! Document 01, "Questions", asked one at a time.
+//! Document 01, "Questions", and width of document 02, asked one at a time.
 
 mod common;
 
 use common::{built, many_names, mar_names, names, no, yes, BOOK_BY_2, EMPTY_BOOK};
 use model::questions::{node_reached, Kind};
 use model::tree::tree;
-use model::{book_exact, book_nearest, book_place, book_range, Answer};
+use model::{book_exact, book_nearest, book_place, book_range, book_width, Answer};
 
-/// All four answers to one question, in the order of the kinds.
-fn all_four(book: &[u8], question: &[u8]) -> [Answer; 4] {
+/// All five answers to one question, in the order of the kinds.
+fn all_five(book: &[u8], question: &[u8]) -> [Answer; 5] {
     [
         book_exact(book, question),
         book_place(book, question),
         book_range(book, question),
         book_nearest(book, question),
+        book_width(book, question),
     ]
 }
 
@@ -191,6 +192,101 @@ fn nearest_goes_down_the_longest_path() {
     assert_eq!(book_nearest(&book, &question), yes(198, 199));
 }
 
+// Width
+
+#[test]
+fn the_width_of_the_empty_question_is_that_of_the_longest_name_of_all() {
+    assert_eq!(book_width(&BOOK_BY_2, b""), yes(13, 0));
+    let book = built(&names(&["Bar", "Bark", "Mar", "Max"]), 4);
+    assert_eq!(book_width(&book, b""), yes(4, 0));
+    assert_eq!(book_width(&EMPTY_BOOK, b""), yes(0, 0));
+}
+
+#[test]
+fn the_longest_name_counts_wherever_it_stands_in_the_range() {
+    for list in [
+        ["Maaaa", "Mb", "Mcc"],
+        ["Ma", "Mbbbb", "Mcc"],
+        ["Ma", "Mbb", "Mcccc"],
+    ] {
+        let book = built(&names(&list), 2);
+        assert_eq!(book_width(&book, b"M"), yes(5, 0), "{list:?}");
+    }
+}
+
+#[test]
+fn a_longer_name_outside_the_range_does_not_count() {
+    let book = built(
+        &names(&[
+            "Bartholomew Road",
+            "Mar",
+            "Marina",
+            "Max",
+            "Zoological Garden",
+        ]),
+        2,
+    );
+    assert_eq!(book_width(&book, b"M"), yes(6, 0));
+    assert_eq!(book_width(&book, b"Ma"), yes(6, 0));
+    assert_eq!(book_width(&book, b"Max"), yes(3, 0));
+    assert_eq!(book_width(&book, b"Zoo"), yes(17, 0));
+    assert_eq!(book_width(&book, b""), yes(17, 0));
+}
+
+#[test]
+fn the_width_of_a_range_is_not_the_length_of_the_name_nearest_to_it() {
+    // Mar is reached by each of these, and only the last range is Mar alone.
+    let book = built(&names(&["Mar", "Marina", "Market Square"]), 2);
+    assert_eq!(book_width(&book, b"M"), yes(13, 0));
+    assert_eq!(book_width(&book, b"Mar"), yes(13, 0));
+    assert_eq!(book_width(&book, b"Marx"), yes(0, 0));
+    let alone = built(&names(&["Mar"]), 2);
+    assert_eq!(book_width(&alone, b"Mar"), yes(3, 0));
+}
+
+#[test]
+fn an_empty_range_has_width_0_also_where_a_node_is_reached() {
+    // Maxim reaches the leaf of Marina, and Mango the root.
+    for question in [
+        "Maxim",
+        "Mango",
+        "Mara",
+        "Marinas",
+        "Market Squares",
+        "A",
+        "Zoo",
+    ] {
+        let answer = book_width(&BOOK_BY_2, question.as_bytes());
+        assert_eq!(answer, yes(0, 0), "{question}");
+    }
+}
+
+#[test]
+fn a_width_may_be_1_and_200() {
+    let book = built(&[vec![1], vec![2; 200]], 1);
+    assert_eq!(book_width(&book, &[1]), yes(1, 0));
+    assert_eq!(book_width(&book, &[2]), yes(200, 0));
+    assert_eq!(book_width(&book, &[2; 200]), yes(200, 0));
+    assert_eq!(book_width(&book, b""), yes(200, 0));
+}
+
+#[test]
+fn a_width_under_255_takes_every_name_that_begins_with_it() {
+    let book = built(
+        &[
+            vec![254, 1, 1, 1, 1],
+            vec![255],
+            vec![255, 255],
+            vec![255, 255, 255],
+        ],
+        2,
+    );
+    assert_eq!(book_width(&book, &[255]), yes(3, 0));
+    assert_eq!(book_width(&book, &[255, 255]), yes(3, 0));
+    assert_eq!(book_width(&book, &[255, 254]), yes(0, 0));
+    assert_eq!(book_width(&book, &[254]), yes(5, 0));
+}
+
 // Deep and wide trees
 
 #[test]
@@ -204,14 +300,21 @@ fn questions_to_the_chain_a_aa_aaa() {
             yes(at, 0),
             yes(at, 201 - length),
             yes(at, length),
+            yes(200, 0),
         ];
-        assert_eq!(all_four(&book, &vec![b'a'; length]), expected, "{length}");
+        assert_eq!(all_five(&book, &vec![b'a'; length]), expected, "{length}");
     }
     for length in [1, 2, 64, 127, 198, 199] {
         // Every name is below it; at depth `length` no child fits b.
         let question = [vec![b'a'; length], vec![b'b']].concat();
-        let expected = [yes(0, 0), yes(200, 0), yes(200, 0), yes(length - 1, length)];
-        assert_eq!(all_four(&book, &question), expected, "{length}");
+        let expected = [
+            yes(0, 0),
+            yes(200, 0),
+            yes(200, 0),
+            yes(length - 1, length),
+            yes(0, 0),
+        ];
+        assert_eq!(all_five(&book, &question), expected, "{length}");
     }
 }
 
@@ -227,15 +330,35 @@ fn questions_to_the_mirror_of_the_chain() {
     let book = built(&list, 64);
     for length in [0, 1, 2, 63, 64, 127, 198, 199] {
         let at = 199 - length;
-        let name = [yes(at, 1), yes(at, 0), yes(at, 1), yes(at, length + 1)];
-        assert_eq!(all_four(&book, &with_tail(length, b'b')), name, "{length}");
-        // All names with as many a's begin with them and stand behind them.
-        let stem = [yes(0, 0), yes(0, 0), yes(0, 200 - length), yes(0, length)];
-        assert_eq!(all_four(&book, &vec![b'a'; length]), stem, "{length}");
+        let long = length + 1;
+        let name = [
+            yes(at, 1),
+            yes(at, 0),
+            yes(at, 1),
+            yes(at, long),
+            yes(long, 0),
+        ];
+        assert_eq!(all_five(&book, &with_tail(length, b'b')), name, "{length}");
+        // All names with as many a's begin with them and stand behind them;
+        // the first name of all is among them, and it has 200 bytes.
+        let stem = [
+            yes(0, 0),
+            yes(0, 0),
+            yes(0, 200 - length),
+            yes(0, length),
+            yes(200, 0),
+        ];
+        assert_eq!(all_five(&book, &vec![b'a'; length]), stem, "{length}");
         // The names with as many a's stand before c, the others behind it.
         let less = at + 1;
-        let above = [yes(0, 0), yes(less, 0), yes(less, 0), yes(0, length)];
-        assert_eq!(all_four(&book, &with_tail(length, b'c')), above, "{length}");
+        let above = [
+            yes(0, 0),
+            yes(less, 0),
+            yes(less, 0),
+            yes(0, length),
+            yes(0, 0),
+        ];
+        assert_eq!(all_five(&book, &with_tail(length, b'c')), above, "{length}");
     }
 }
 
@@ -245,13 +368,19 @@ fn questions_to_256_siblings() {
     let book = built(&list, 16);
     for byte in 0..=255u8 {
         let at = usize::from(byte);
-        let name = [yes(at, 1), yes(at, 0), yes(at, 1), yes(at, 1)];
-        assert_eq!(all_four(&book, &[byte]), name, "{byte}");
-        let behind = [yes(0, 0), yes(at + 1, 0), yes(at + 1, 0), yes(at, 1)];
-        assert_eq!(all_four(&book, &[byte, 0]), behind, "{byte}");
+        let name = [yes(at, 1), yes(at, 0), yes(at, 1), yes(at, 1), yes(1, 0)];
+        assert_eq!(all_five(&book, &[byte]), name, "{byte}");
+        let behind = [
+            yes(0, 0),
+            yes(at + 1, 0),
+            yes(at + 1, 0),
+            yes(at, 1),
+            yes(0, 0),
+        ];
+        assert_eq!(all_five(&book, &[byte, 0]), behind, "{byte}");
     }
-    let all = [yes(0, 0), yes(0, 0), yes(0, 256), yes(0, 0)];
-    assert_eq!(all_four(&book, b""), all);
+    let all = [yes(0, 0), yes(0, 0), yes(0, 256), yes(0, 0), yes(1, 0)];
+    assert_eq!(all_five(&book, b""), all);
 }
 
 #[test]
@@ -261,18 +390,24 @@ fn questions_to_2000_names_of_two_bytes() {
     for (first, second) in [(0, 0), (0, 249), (3, 100), (7, 0), (7, 249)] {
         let at = 250 * first + second;
         let question = [first as u8, second as u8];
-        let name = [yes(at, 1), yes(at, 0), yes(at, 1), yes(at, 2)];
-        assert_eq!(all_four(&book, &question), name, "{question:?}");
+        let name = [yes(at, 1), yes(at, 0), yes(at, 1), yes(at, 2), yes(2, 0)];
+        assert_eq!(all_five(&book, &question), name, "{question:?}");
     }
     for first in 0..8 {
         let at = 250 * first;
-        let stem = [yes(0, 0), yes(at, 0), yes(at, 250), yes(at, 1)];
-        assert_eq!(all_four(&book, &[first as u8]), stem, "{first}");
-        let above = [yes(0, 0), yes(at + 250, 0), yes(at + 250, 0), yes(at, 1)];
-        assert_eq!(all_four(&book, &[first as u8, 250]), above, "{first}");
+        let stem = [yes(0, 0), yes(at, 0), yes(at, 250), yes(at, 1), yes(2, 0)];
+        assert_eq!(all_five(&book, &[first as u8]), stem, "{first}");
+        let above = [
+            yes(0, 0),
+            yes(at + 250, 0),
+            yes(at + 250, 0),
+            yes(at, 1),
+            yes(0, 0),
+        ];
+        assert_eq!(all_five(&book, &[first as u8, 250]), above, "{first}");
     }
-    let past = [yes(0, 0), yes(2000, 0), yes(2000, 0), yes(0, 0)];
-    assert_eq!(all_four(&book, &[8]), past);
+    let past = [yes(0, 0), yes(2000, 0), yes(2000, 0), yes(0, 0), yes(0, 0)];
+    assert_eq!(all_five(&book, &[8]), past);
 }
 
 // The empty question
@@ -280,14 +415,14 @@ fn questions_to_2000_names_of_two_bytes() {
 #[test]
 fn the_empty_question_where_the_root_has_depth_0() {
     let book = built(&names(&["Bar", "Mar"]), 1);
-    let expected = [yes(0, 0), yes(0, 0), yes(0, 2), yes(0, 0)];
-    assert_eq!(all_four(&book, b""), expected);
+    let expected = [yes(0, 0), yes(0, 0), yes(0, 2), yes(0, 0), yes(3, 0)];
+    assert_eq!(all_five(&book, b""), expected);
 }
 
 #[test]
 fn the_empty_question_where_the_root_is_deeper() {
-    let expected = [yes(0, 0), yes(0, 0), yes(0, 3), yes(0, 0)];
-    assert_eq!(all_four(&BOOK_BY_2, b""), expected);
+    let expected = [yes(0, 0), yes(0, 0), yes(0, 3), yes(0, 0), yes(13, 0)];
+    assert_eq!(all_five(&BOOK_BY_2, b""), expected);
 }
 
 // The book without names
@@ -295,20 +430,21 @@ fn the_empty_question_where_the_root_is_deeper() {
 #[test]
 fn only_nearest_is_refused_of_a_book_without_names() {
     for question in [&b""[..], b"Mar"] {
-        let expected = [yes(0, 0), yes(0, 0), yes(0, 0), no(10)];
-        assert_eq!(all_four(&EMPTY_BOOK, question), expected);
+        let expected = [yes(0, 0), yes(0, 0), yes(0, 0), no(10), yes(0, 0)];
+        assert_eq!(all_five(&EMPTY_BOOK, question), expected);
     }
 }
 
 // Kinds
 
 #[test]
-fn kinds_are_numbered_in_the_order_exact_place_range_nearest() {
+fn kinds_are_numbered_in_the_order_exact_place_range_nearest_width() {
     assert_eq!(Kind::of_number(1), Some(Kind::Exact));
     assert_eq!(Kind::of_number(2), Some(Kind::Place));
     assert_eq!(Kind::of_number(3), Some(Kind::Range));
     assert_eq!(Kind::of_number(4), Some(Kind::Nearest));
-    for number in [0, 5, 255, 257, usize::MAX] {
+    assert_eq!(Kind::of_number(5), Some(Kind::Width));
+    for number in [0, 6, 255, 257, 261, usize::MAX] {
         assert_eq!(Kind::of_number(number), None);
     }
 }

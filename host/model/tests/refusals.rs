@@ -11,14 +11,14 @@ use common::{
 };
 use model::{
     book_build, book_check, book_exact, book_nearest, book_place, book_range, book_read,
-    write_list, Answer,
+    book_width, write_list, Answer,
 };
 
 /// A call that takes one question.
 type Ask = fn(&[u8], &[u8]) -> Answer;
 
 /// All of them.
-const QUESTIONS: [Ask; 4] = [book_exact, book_place, book_range, book_nearest];
+const QUESTIONS: [Ask; 5] = [book_exact, book_place, book_range, book_nearest, book_width];
 
 /// Bytes that are no book.
 const NO_BOOK: &[u8] = b"no book";
@@ -82,14 +82,17 @@ fn refusal_4_for_a_room_shorter_than_the_name() {
             assert_read_refused(&BOOK_BY_2, position, room_length, 4);
         }
         let mut room = vec![FILLING; name.len()];
-        assert_eq!(book_read(&BOOK_BY_2, position, &mut room), yes(name.len(), 0));
+        assert_eq!(
+            book_read(&BOOK_BY_2, position, &mut room),
+            yes(name.len(), 0)
+        );
         assert_eq!(&room, name);
     }
 }
 
 #[test]
 fn refusal_4_for_a_room_shorter_than_the_book() {
-    for room_length in 0..85 {
+    for room_length in 0..93 {
         assert_build_refused(MAR_LIST, 2, room_length, no(4));
     }
     for room_length in 0..16 {
@@ -133,6 +136,9 @@ fn refusal_9_for_a_book_past_65535_bytes() {
 fn refusal_10_for_nearest_of_a_book_without_names() {
     assert_eq!(book_nearest(&EMPTY_BOOK, b""), no(10));
     assert_eq!(book_nearest(&EMPTY_BOOK, b"Mar"), no(10));
+    // The others are answered, width too.
+    assert_eq!(book_width(&EMPTY_BOOK, b""), yes(0, 0));
+    assert_eq!(book_width(&EMPTY_BOOK, b"Mar"), yes(0, 0));
 }
 
 // Order. Build: 8; then record by record 5, 6, 7; then 9; then 4
@@ -249,11 +255,11 @@ fn a_question_gets_2_before_10() {
 
 #[test]
 fn a_build_leaves_the_room_past_the_book_untouched() {
-    for room_length in [85, 86, 100, 70_000] {
+    for room_length in [93, 94, 100, 70_000] {
         let mut room = vec![FILLING; room_length];
-        assert_eq!(book_build(MAR_LIST, 2, &mut room), yes(85, 0));
-        assert_eq!(room[..85], BOOK_BY_2);
-        assert!(room[85..].iter().all(|&byte| byte == FILLING));
+        assert_eq!(book_build(MAR_LIST, 2, &mut room), yes(93, 0));
+        assert_eq!(room[..93], BOOK_BY_2);
+        assert!(room[93..].iter().all(|&byte| byte == FILLING));
     }
 }
 

@@ -1,11 +1,12 @@
-//! Document 01, "A book in full" and "Checked on that book".
+//! Document 01, "A book in full" and "Checked on that book", with the sizes and
+//! the fifth kind of question that document 02 gives them.
 
 mod common;
 
-use common::{built, mar_names, yes, BOOK_BY_4, BOOK_BY_2, EMPTY_BOOK, FILLING, MAR_LIST};
+use common::{built, mar_names, yes, BOOK_BY_2, BOOK_BY_4, EMPTY_BOOK, FILLING, MAR_LIST};
 use model::{
     book_build, book_check, book_exact, book_nearest, book_of, book_place, book_range, book_read,
-    listing, open,
+    book_width, listing, open,
 };
 
 // A book in full
@@ -24,12 +25,16 @@ fn block_size_4_gives_the_bytes() {
 
 #[test]
 fn building_gives_the_length_of_the_book() {
-    let mut room = [0; 85];
-    assert_eq!(book_build(MAR_LIST, 2, &mut room), yes(85, 0));
+    let mut room = [0; 93];
+    assert_eq!(book_build(MAR_LIST, 2, &mut room), yes(93, 0));
     assert_eq!(room, BOOK_BY_2);
-    assert_eq!(book_build(MAR_LIST, 4, &mut room), yes(80, 0));
-    assert_eq!(room[..80], BOOK_BY_4);
-    assert_eq!(room[80..], BOOK_BY_2[80..], "room past the book is untouched");
+    assert_eq!(book_build(MAR_LIST, 4, &mut room), yes(88, 0));
+    assert_eq!(room[..88], BOOK_BY_4);
+    assert_eq!(
+        room[88..],
+        BOOK_BY_2[88..],
+        "room past the book is untouched"
+    );
 }
 
 #[test]
@@ -39,7 +44,7 @@ fn the_parts_have_the_lengths_that_the_document_counts() {
         model::layout::block_table(2, &mar_names()),
         [0x00, 0x00, 0x0A, 0x00]
     );
-    assert_eq!(model::layout::node_table(&mar_names()).len(), 40);
+    assert_eq!(model::layout::node_table(&mar_names()).len(), 48);
     assert_eq!(model::layout::node_count(&mar_names()), 4);
 }
 
@@ -66,7 +71,7 @@ fn reading_back_gives_each_name_and_its_length() {
 
 #[test]
 fn the_listing_of_blocks_of_2() {
-    let expected = "names 3 block 2 nodes 4 bytes 85\n\
+    let expected = "names 3 block 2 nodes 4 bytes 93\n\
                     0 0 0 3 Mar\n\
                     1 0 3 6 Marina\n\
                     2 1 0 13 Market Square\n";
@@ -75,7 +80,7 @@ fn the_listing_of_blocks_of_2() {
 
 #[test]
 fn the_listing_of_blocks_of_4() {
-    let expected = "names 3 block 4 nodes 4 bytes 80\n\
+    let expected = "names 3 block 4 nodes 4 bytes 88\n\
                     0 0 0 3 Mar\n\
                     1 0 3 6 Marina\n\
                     2 0 3 13 Market Square\n";
@@ -156,4 +161,22 @@ fn row_11_nearest_zoo() {
 #[test]
 fn row_12_nearest_m() {
     for_both_books(book_nearest, "M", [0, 1]);
+}
+
+// Width on the same book: document 02 gives no rows, but what it counts.
+
+#[test]
+fn width_of_each_range_is_its_longest_name() {
+    for_both_books(book_width, "", [13, 0]);
+    for_both_books(book_width, "Mar", [13, 0]);
+    for_both_books(book_width, "Mari", [6, 0]);
+    for_both_books(book_width, "Marina", [6, 0]);
+    for_both_books(book_width, "Market Square", [13, 0]);
+}
+
+#[test]
+fn width_of_an_empty_range_is_0() {
+    for_both_books(book_width, "Mas", [0, 0]);
+    for_both_books(book_width, "Maxim", [0, 0]);
+    for_both_books(book_width, "Zoo", [0, 0]);
 }
