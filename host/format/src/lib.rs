@@ -1,5 +1,5 @@
-//! The numbers of document 01 that the crates here share: the limits, the sizes
-//! of a book's parts, and the kinds of question.
+//! The numbers of documents 01 and 02 that the crates here share: the limits, the
+//! sizes of a book's parts, and the kinds of question.
 //!
 //! Two crates have their own and take nothing from here: the second program,
 //! which the others are held to, and the reference, which is compiled alone.
@@ -21,12 +21,12 @@ pub const LONGEST_BOOK: usize = 65_535;
 /// The most rows of a batch.
 pub const MOST_ROWS: usize = 64;
 
-/// The bytes of a node: five numbers of two bytes.
-pub const NODE: usize = 10;
+/// The bytes of a node: six numbers of two bytes.
+pub const NODE: usize = 12;
 /// The bytes of a trailer, so the fewest of a book.
 pub const TRAILER: usize = 16;
 /// The last four bytes of a book.
-pub const MARK: [u8; 4] = [0x4E, 0x42, 0x4B, 0x31];
+pub const MARK: [u8; 4] = [0x4E, 0x42, 0x4B, 0x32];
 
 /// A kind of question, with the number that a batch row tells it by.
 #[derive(Clone, Copy, Debug, PartialEq, Eq, PartialOrd, Ord, Hash)]
@@ -39,13 +39,21 @@ pub enum Kind {
     Range = 3,
     /// Which name shares most with it?
     Nearest = 4,
+    /// How long is the longest name that begins with it?
+    Width = 5,
 }
 
 impl Kind {
     /// Every kind, in the order of their numbers.
-    pub const ALL: [Kind; 4] = [Kind::Exact, Kind::Place, Kind::Range, Kind::Nearest];
+    pub const ALL: [Kind; 5] = [
+        Kind::Exact,
+        Kind::Place,
+        Kind::Range,
+        Kind::Nearest,
+        Kind::Width,
+    ];
 
-    /// Its number, 1 to 4.
+    /// Its number, 1 to 5.
     pub const fn number(self) -> usize {
         self as usize
     }
@@ -60,13 +68,13 @@ impl Kind {
     /// ```
     /// use format::Kind;
     ///
-    /// assert_eq!(Kind::from_number(4), Some(Kind::Nearest));
+    /// assert_eq!(Kind::from_number(5), Some(Kind::Width));
     /// assert_eq!(Kind::from_number(0), None);
-    /// assert_eq!(Kind::from_number(5), None);
+    /// assert_eq!(Kind::from_number(6), None);
     /// ```
     pub const fn from_number(number: usize) -> Option<Self> {
         match number {
-            1..=4 => Some(Self::ALL[number - 1]),
+            1..=5 => Some(Self::ALL[number - 1]),
             _ => None,
         }
     }
@@ -78,6 +86,7 @@ impl Kind {
             Kind::Place => "place",
             Kind::Range => "range",
             Kind::Nearest => "nearest",
+            Kind::Width => "width",
         }
     }
 

@@ -1,5 +1,5 @@
-//! The [sets](crate::sets) of `book_exact`, `book_place`, `book_range` and
-//! `book_nearest`.
+//! The [sets](crate::sets) of `book_exact`, `book_place`, `book_range`,
+//! `book_nearest` and `book_width`.
 //!
 //! # A case
 //!
@@ -12,11 +12,13 @@
 //!
 //! # What to do with a case
 //!
-//! Ask the question in all four kinds. Then print, behind the number of the
+//! Ask the question in all five kinds. Then print, behind the number of the
 //! case: code, first and second of the answer of exact, then those of place, of
-//! range and of nearest.
+//! range, of nearest and of width.
 
-use crate::damage::{changed_bytes, gaps, other_counts, other_nodes, spoil_book};
+use crate::damage::{
+    changed_bytes, gaps, old_books, other_counts, other_nodes, other_widths, spoil_book,
+};
 use crate::hostile;
 use crate::lists::{self, Names};
 use crate::pieces::Pieces;
@@ -25,9 +27,9 @@ use crate::random::Random;
 use crate::rooms::printed_answer;
 use crate::sets::{length_bytes, Call, Case, Set};
 use crate::worst::{dearest_check, dearest_question};
-use model::{book_exact, book_nearest, book_of, book_place, book_range};
+use model::{book_exact, book_nearest, book_of, book_place, book_range, book_width};
 
-/// A question, asked in all four kinds.
+/// A question, asked in all five kinds.
 #[derive(Clone)]
 pub struct Ask {
     question: Vec<u8>,
@@ -45,6 +47,7 @@ pub const SET: Set<Ask> = Set {
         no_names,
         lengths_of_questions,
         lengths_of_names,
+        longest_names,
         small_books,
         lowest_and_highest_bytes,
         every_short_question,
@@ -80,8 +83,10 @@ impl Call for Ask {
     }
 
     fn outcome(&self, book: &[u8]) -> String {
-        let kinds = [book_exact, book_place, book_range, book_nearest].iter();
-        let answers = kinds.map(|ask| printed_answer(ask(book, &self.question)));
+        let kinds = [book_exact, book_place, book_range, book_nearest, book_width];
+        let answers = kinds
+            .iter()
+            .map(|ask| printed_answer(ask(book, &self.question)));
         answers.collect::<Vec<String>>().join(" ")
     }
 }
@@ -128,7 +133,7 @@ fn empty_input() -> Cases {
     of_bytes("empty input", vec![], questions)
 }
 
-/// The book of 85 bytes and the one of 80: what document 01 asks, and all that
+/// The book of 93 bytes and the one of 88: what document 01 asks, and all that
 /// stands around the names.
 fn worked_example() -> Cases {
     let names = lists::example();
@@ -201,6 +206,19 @@ fn lengths_of_names() -> Cases {
     }
     cases.extend(all_around("one name", &lists::texts(&["Mar"]), 1));
     cases
+}
+
+/// The longest name as the first, the second and the last of a fork, with longer
+/// ones outside: all that stands around the three, and how far that is wide.
+fn longest_names() -> Cases {
+    let places = ["longest first", "longest in the middle", "longest last"];
+    let places = places.into_iter().enumerate();
+    places
+        .flat_map(|(number, purpose)| {
+            let names = lists::longest_of_three(number);
+            around_some(purpose, &names, 2, &[1, 2, 3])
+        })
+        .collect()
 }
 
 /// All that stands around the names of small books, with blocks of 1, some and
@@ -304,7 +322,7 @@ fn deep_trees() -> Cases {
     [
         of_names("deepest chain", &chain, 64, questions.clone()),
         of_names("deepest mirror", &mirror, 16, questions.clone()),
-        of_names("path of 201 nodes", &path, 2, questions),
+        of_names("path of 201 nodes", &path, 16, questions),
     ]
     .concat()
 }
@@ -330,11 +348,11 @@ fn numbers_of_names() -> Cases {
     let mut questions = around_all(some);
     questions.extend([vec![7, 250], vec![8], vec![8, 0], vec![255; 2]]);
     let past = vec![vec![], vec![0, 0], vec![0; 201]];
-    let binary = lists::binary(512);
+    let binary = lists::binary(256);
     [
         of_names("2,000 names", &pairs, 64, questions),
         of_names("2,001 names", &lists::pairs(2001), 64, past),
-        around_some("two children each", &binary, 1, &[0, 1, 255, 256, 511]),
+        around_some("two children each", &binary, 1, &[0, 1, 127, 128, 255]),
     ]
     .concat()
 }
@@ -363,7 +381,9 @@ fn spoilt_books() -> Cases {
         changed_bytes(&bytes),
         other_counts(&pieces),
         other_nodes(&pieces),
+        other_widths(&pieces),
         gaps(&pieces),
+        old_books(&pieces),
         changed_bytes(&book_of(9, &Names::new())),
     ];
     let long = vec![b'M'; 201];

@@ -87,12 +87,12 @@ pub fn any_places(random: &mut Random, rows: usize) -> usize {
     }
 }
 
-/// A kind: mostly 1 to 4.
+/// A kind: mostly 1 to 5.
 fn any_kind(random: &mut Random) -> u64 {
     match random.below(40) {
-        0 => *random.one_of(&[0, 5, 6, 256 + 1, (1 << 32) + 1, u64::MAX]),
+        0 => *random.one_of(&[0, 6, 7, 256 + 1, (1 << 32) + 1, u64::MAX]),
         1 => random.any(),
-        _ => random.between(1, 4) as u64,
+        _ => random.between(1, 5) as u64,
     }
 }
 

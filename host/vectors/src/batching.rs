@@ -25,7 +25,9 @@
 
 use crate::batches::{any_batch, any_places, Batch, Numbers, ONE_TOO_MANY};
 use crate::checksum::checksum_of;
-use crate::damage::{changed_bytes, gaps, other_counts, other_nodes, spoil_book};
+use crate::damage::{
+    changed_bytes, gaps, old_books, other_counts, other_nodes, other_widths, spoil_book,
+};
 use crate::hostile;
 use crate::lists::{self, Names};
 use crate::pieces::Pieces;
@@ -52,6 +54,7 @@ pub const SET: Set<AskBatch> = Set {
     groups: &[
         empty_input,
         worked_example,
+        widths,
         numbers_of_rows,
         unequal_numbers,
         kinds,
@@ -141,7 +144,7 @@ fn of_names(why: &str, names: &Names, block: usize, batches: Vec<Batch>) -> Case
     of_bytes(why, book_of(block, names), batches)
 }
 
-/// The book of 85 bytes.
+/// The book of 93 bytes.
 fn example_book() -> Vec<u8> {
     book_of(2, &lists::example())
 }
@@ -157,9 +160,9 @@ fn over_buffer(buffer: &[u8], rows: &[Numbers]) -> Vec<Batch> {
         .collect()
 }
 
-/// These spans in each of the four kinds.
+/// These spans in each of the five kinds.
 fn in_all_kinds(spans: &[[u64; 2]]) -> Vec<Numbers> {
-    let kinds = 1..=4;
+    let kinds = 1..=5;
     let rows = kinds.flat_map(|kind| {
         spans
             .iter()
@@ -168,11 +171,19 @@ fn in_all_kinds(spans: &[[u64; 2]]) -> Vec<Numbers> {
     rows.collect()
 }
 
-/// Each question in each of the four kinds, in as many batches as they take.
+/// These spans, of each kind in turn.
+fn in_turn(spans: &[[u64; 2]]) -> Vec<Numbers> {
+    let kinds = (1..=5).cycle();
+    let rows = spans.iter().zip(kinds);
+    rows.map(|(&[start, length], kind)| [kind, start, length])
+        .collect()
+}
+
+/// Each question in each of the five kinds, in as many batches as they take.
 fn in_batches(questions: &Names) -> Vec<Batch> {
     let asked = questions
         .iter()
-        .flat_map(|question| (1..=4).map(move |kind| (kind, &question[..])));
+        .flat_map(|question| (1..=5).map(move |kind| (kind, &question[..])));
     let asked: Vec<(u64, &[u8])> = asked.collect();
     let parts = asked.chunks(MOST_ROWS);
     parts.map(|part| Batch::of(part.iter().copied())).collect()
@@ -218,8 +229,8 @@ fn empty_input() -> Cases {
     with_places("empty input", vec![], batches)
 }
 
-/// Document 01's twelve rows as one batch, to the book of 85 bytes and to the one
-/// of 80: in their order, turned round, and each of them alone.
+/// Document 01's twelve rows as one batch, to the book of 93 bytes and to the one
+/// of 88: in their order, turned round, and each of them alone.
 fn worked_example() -> Cases {
     let twelve = twelve_rows();
     let mut turned = twelve.clone();
@@ -233,6 +244,33 @@ fn worked_example() -> Cases {
     let blocks = [2, 4].into_iter();
     blocks
         .flat_map(|block| of_names("worked example", &names, block, batches.clone()))
+        .collect()
+}
+
+/// Widths of ranges with the longest name in each place, and of empty ranges,
+/// beside the ranges themselves.
+fn widths() -> Cases {
+    let questions = [
+        "",
+        "M",
+        "Ma",
+        "Mb",
+        "Mc",
+        "Md",
+        "Lower",
+        "Upper Ferry Roads",
+    ];
+    let asked = questions.iter().flat_map(|question| {
+        let question = question.as_bytes();
+        [(5, question), (3, question)]
+    });
+    let batch = Batch::of(asked);
+    let numbers = [0, 1, 2].into_iter();
+    numbers
+        .flat_map(|number| {
+            let names = lists::longest_of_three(number);
+            of_names("widths", &names, 2, vec![batch.clone()])
+        })
         .collect()
 }
 
@@ -264,7 +302,7 @@ fn unequal_numbers() -> Cases {
     let mut batches = numbers
         .map(|(rows, places)| (rows_of_the_example(rows), places))
         .to_vec();
-    let bad = over_buffer(b"", &[[5, 0, 0]; 3]).remove(0);
+    let bad = over_buffer(b"", &[[6, 0, 0]; 3]).remove(0);
     batches.extend([(bad.clone(), 2), (bad, 4)]);
     let book = example_book();
     let spoilt = book[1..].to_vec();
@@ -284,15 +322,17 @@ fn kinds() -> Cases {
         2,
         3,
         4,
-        0,
         5,
+        0,
         6,
+        7,
         255,
         256,
         256 + 1,
         65_536 + 2,
         (1 << 32) + 3,
         (1 << 63) + 4,
+        (1 << 63) + 5,
         u64::MAX,
     ];
     let rows = kinds.map(|kind| [kind, 0, 3]);
@@ -305,7 +345,8 @@ fn kinds() -> Cases {
 }
 
 /// Every start and length around a buffer: inside it, up to its end, at its end
-/// with length 0, one byte past it, and behind it with length 0.
+/// with length 0, one byte past it, and behind it with length 0. Of a long buffer
+/// they are too many for every kind.
 fn spans() -> Cases {
     let mut cases = Vec::new();
     for buffer in [&b""[..], b"M", b"Marina", b"Market Square"] {
@@ -314,7 +355,11 @@ fn spans() -> Cases {
         let spans: Vec<[u64; 2]> = starts
             .flat_map(|start| (0..=past).map(move |length| [start, length]))
             .collect();
-        let batches = over_buffer(buffer, &in_all_kinds(&spans));
+        let rows = match buffer.len() {
+            0..=9 => in_all_kinds(&spans),
+            _ => in_turn(&spans),
+        };
+        let batches = over_buffer(buffer, &rows);
         cases.extend(of_bytes("spans", example_book(), batches));
     }
     cases
@@ -335,9 +380,14 @@ fn sums_past_the_word() -> Cases {
         spans.push([high + 3, high.wrapping_neg()]);
     }
     spans.extend([[u64::MAX, u64::MAX], [1 << 63, (1 << 63) + 3]]);
+    let mut rows = in_turn(&spans);
+    for kind in 1..=5 {
+        rows.extend([[kind, u64::MAX, 1], [kind, u64::MAX, 2]]);
+        rows.extend([[kind, 4, u64::MAX], [kind, u64::MAX, u64::MAX]]);
+    }
     let mut cases = Vec::new();
     for buffer in [&b""[..], b"Marina"] {
-        let batches = over_buffer(buffer, &in_all_kinds(&spans));
+        let batches = over_buffer(buffer, &rows);
         cases.extend(of_bytes("sums past 64 bits", example_book(), batches));
     }
     cases
@@ -362,7 +412,7 @@ const LONG_BUFFER: usize = 460;
 /// 1, for a kind or a span.
 fn lengths_of_questions() -> Cases {
     let mut rows = in_all_kinds(&long_spans());
-    rows.extend([[0, 0, 201], [5, 0, 201], [u64::MAX, 200, 260]]);
+    rows.extend([[0, 0, 201], [6, 0, 201], [u64::MAX, 200, 260]]);
     let batches = over_buffer(&[b'M'; LONG_BUFFER], &rows);
     let longest = vec![vec![b'M'; 199], vec![b'M'; 200]];
     [
@@ -376,9 +426,9 @@ fn lengths_of_questions() -> Cases {
 /// before it.
 fn no_names() -> Cases {
     let mut rows = in_all_kinds(&long_spans());
-    rows.extend([[0, 0, 201], [5, 0, 0], [4, 460, 1]]);
+    rows.extend([[0, 0, 201], [6, 0, 0], [4, 460, 1]]);
     let mut batches = over_buffer(&[b'M'; LONG_BUFFER], &rows);
-    let one_of_each = [1, 2, 3, 4].map(|kind| [kind, 0, 3]);
+    let one_of_each = [1, 2, 3, 4, 5].map(|kind| [kind, 0, 3]);
     batches.extend(one_of_each.map(|row| over_buffer(b"Mar", &[row]).remove(0)));
     batches.extend(over_buffer(b"Mar", &one_of_each));
     batches.push(Batch::default());
@@ -392,7 +442,7 @@ fn no_names() -> Cases {
 fn refused_between_good() -> Cases {
     let mut batch = twelve_rows();
     batch.questions.resize(300, b'e');
-    let refused = [[0, 0, 6], [5, 0, 6], [1, 301, 0], [2, 0, 301], [3, 50, 201]];
+    let refused = [[0, 0, 6], [6, 0, 6], [1, 301, 0], [2, 0, 301], [3, 50, 201]];
     let mut batches = Vec::new();
     for at in 0..=batch.rows.len() {
         let mut with_one = batch.clone();
@@ -463,6 +513,7 @@ fn same_rows() -> Cases {
         [2, 0, 4],
         [3, 0, 3],
         [4, 0, 2],
+        [5, 0, 4],
         [0, 0, 6],
         [1, 0, 7],
     ];
@@ -492,10 +543,10 @@ fn book_as_buffer() -> Cases {
         [2, 3],
         [12, 13],
         [12, 3],
-        [0, 85],
-        [69, 16],
-        [85, 0],
-        [85, 1],
+        [0, 93],
+        [77, 16],
+        [93, 0],
+        [93, 1],
     ];
     let batches = over_buffer(&book, &in_all_kinds(&spans));
     of_bytes("book as buffer", book, batches)
@@ -524,7 +575,7 @@ fn deep_and_wide_trees() -> Cases {
     let around = around_all([0, 1, 2, 128, 256].map(|position| &fan[position]));
     [
         of_names("deepest chain", &chain, 64, in_batches(&questions)),
-        of_names("path of 201 nodes", &path, 2, in_batches(&questions)),
+        of_names("path of 201 nodes", &path, 16, in_batches(&questions)),
         of_names("257 children", &fan, 16, in_batches(&around)),
     ]
     .concat()
@@ -554,7 +605,9 @@ fn spoilt_books() -> Cases {
         changed_bytes(&example_book()),
         other_counts(&pieces),
         other_nodes(&pieces),
+        other_widths(&pieces),
         gaps(&pieces),
+        old_books(&pieces),
     ];
     let mut cases = Vec::new();
     for (number, (how, book)) in spoilt.into_iter().flatten().enumerate() {
@@ -574,7 +627,7 @@ fn random_batches() -> Cases {
     let mut random = Random::from_seed(13);
     let all = lists::all_bytes();
     let mut cases = Vec::new();
-    for turn in 0..50 {
+    for turn in 0..45 {
         let letters = match turn % 4 {
             0 => &all[..],
             1 => b"\0\xFF",
@@ -607,7 +660,7 @@ fn hostile_tables() -> Cases {
     let deep = (hostile::falling_names(), hostile::DEEPER_THAN_ANY);
     let few = hostile::kinds().into_iter().map(|kind| (kind, 6));
     few.chain([deep])
-        .zip((1..=4).cycle())
+        .zip((1..=5).cycle())
         .flat_map(|((kind, count), asked)| {
             let purpose = format!("hostile, {}", kind.how);
             let book = kind.with_names(count).bytes();

@@ -49,6 +49,7 @@ pub const SET: Set<Build> = Set {
         block_sizes,
         empty_lists,
         lengths_of_names,
+        longest_names,
         cut_records,
         order_of_names,
         lowest_and_highest_bytes,
@@ -105,11 +106,11 @@ fn followed(names: &Names, bytes: &[u8]) -> Vec<u8> {
     [&write_list(names), bytes].concat()
 }
 
-/// The book of 85 bytes and the one of 80, with room on both sides of that.
+/// The book of 93 bytes and the one of 88, with room on both sides of that.
 fn worked_example() -> Cases {
     let names = lists::example();
-    let with_two = [85, 84, 86, 0].map(|room| (2, room));
-    let with_four = [80, 79, 300].map(|room| (4, room));
+    let with_two = [93, 92, 94, 0].map(|room| (2, room));
+    let with_four = [88, 87, 300].map(|room| (4, room));
     let calls = with_two.into_iter().chain(with_four);
     calls
         .map(|(block, room)| of_names("worked example", &names, block, room))
@@ -155,6 +156,13 @@ fn lengths_of_names() -> Cases {
         of_bytes("a first record of length 0", [0], 2, 100),
         of_bytes("a second of length 0", second, 2, 100),
     ]
+}
+
+/// The longest name as the first, the second and the last of a fork.
+fn longest_names() -> Cases {
+    [0, 1, 2]
+        .map(|number| fitting("longest name", &lists::longest_of_three(number), 2, 1))
+        .into()
 }
 
 /// Records that run past the end of the list: 5, before 6.
@@ -251,7 +259,7 @@ fn numbers_of_names() -> Cases {
 /// Books of 65,535 and 65,536 bytes: the second are refused with 9, whatever
 /// the room.
 fn longest_books() -> Cases {
-    let small = lists::binary(1860);
+    let small = lists::binary(lists::MOST_BINARY);
     let fits = lists::with_book_length(&small, 1, 65_535);
     let too_long = lists::with_book_length(&small, 1, 65_536);
     let wide = lists::with_book_length(&lists::pairs(320), 16, 65_535);
@@ -268,9 +276,9 @@ fn longest_books() -> Cases {
 
 /// A list that is too long for a book, and then has a bad record: not 9.
 fn bad_records_in_long_lists() -> Cases {
-    let names = lists::with_book_length(&lists::binary(1860), 1, 65_600);
-    let many = lists::with_book_length(&lists::binary(2000), 1, 70_100);
-    let falling = write_list(&names[1858..1859]);
+    let names = lists::with_book_length(&lists::binary(lists::MOST_BINARY), 1, 65_600);
+    let many = lists::with_book_length(&lists::binary(2000), 1, 78_100);
+    let falling = write_list(&names[names.len() - 2..][..1]);
     vec![
         of_bytes("5 and not 9", followed(&names, &[0]), 1, 65_535),
         of_bytes("6 and not 9", followed(&names, &falling), 1, 0),

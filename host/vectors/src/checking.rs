@@ -12,10 +12,12 @@
 //! Check. Then print, behind the number of the case: code, first and second of
 //! the answer.
 
-use crate::damage::{changed_bytes, cut_books, other_pieces, spoil_book, Spoilt};
+use crate::damage::{
+    changed_bytes, cut_books, other_blocks, other_pieces, other_widths, spoil_book, Spoilt,
+};
 use crate::hostile;
 use crate::lists::{self, Names};
-use crate::pieces::Pieces;
+use crate::pieces::{Pieces, NODE_FIELDS, WIDTH};
 use crate::random::Random;
 use crate::rooms::printed_answer;
 use crate::sets::{Call, Case, Set};
@@ -36,6 +38,7 @@ pub const SET: Set<Check> = Set {
         worked_example,
         no_names,
         lengths_of_names,
+        longest_names,
         shapes,
         block_sizes,
         numbers_of_names,
@@ -75,7 +78,7 @@ fn of_spoilt(why: &str, spoilt: Spoilt) -> Cases {
         .collect()
 }
 
-/// The book of 85 bytes, the one of 80, and others of the same names.
+/// The book of 93 bytes, the one of 88, and others of the same names.
 fn worked_example() -> Cases {
     let names = lists::example();
     [2, 4, 1, 3, 16, 64]
@@ -111,19 +114,28 @@ fn lengths_of_names() -> Cases {
     ]
 }
 
+/// The longest name as the first, the second and the last of a fork, and wrong
+/// widths where it is the second.
+fn longest_names() -> Cases {
+    let mut cases: Cases = [0, 1, 2]
+        .map(|number| of_names("longest name", &lists::longest_of_three(number), 2))
+        .into();
+    let middle = Pieces::of(2, &lists::longest_of_three(1));
+    cases.extend(of_spoilt("longest in the middle", other_widths(&middle)));
+    cases
+}
+
 /// Sound books of many shapes, with block sizes from 1 to 64.
 fn shapes() -> Cases {
     let mut random = Random::from_seed(3);
     let all = lists::all_bytes();
-    let chain = lists::chain(b'a', 200);
-    let longest_path = [chain.clone(), lists::texts(&["b"])].concat();
+    let longest_path = [lists::chain(b'a', 200), lists::texts(&["b"])].concat();
     let grown = lists::grown(&mut random, &all, 90, 12);
     let few = lists::random(&mut random, b"\0\x01\xFE\xFF", 120, 1, 6);
     let ends = vec![vec![0; 199], vec![0; 200], vec![255; 199], vec![255; 200]];
     vec![
         of_names("short chain", &lists::chain(b'a', 11), 5),
         of_names("short mirror", &lists::mirror(b'a', b'b', 11), 5),
-        of_names("deepest chain", &chain, 64),
         of_names("chain with the longest path", &longest_path, 16),
         of_names("deepest mirror", &lists::mirror(b'a', b'b', 200), 64),
         of_names("all names of one byte", &lists::single_bytes(), 16),
@@ -155,7 +167,7 @@ fn numbers_of_names() -> Cases {
 
 /// Books of 65,535 and 65,536 bytes, and 65,536 bytes before a book.
 fn longest_books() -> Cases {
-    let small = lists::binary(1860);
+    let small = lists::binary(lists::MOST_BINARY);
     let fits = lists::with_book_length(&small, 1, 65_535);
     let too_long = lists::with_book_length(&small, 1, 65_536);
     let book = book_of(4, &lists::example());
@@ -215,17 +227,18 @@ fn no_books_at_all() -> Cases {
     cases
 }
 
-/// The 85 and the 80 bytes: every byte changed, every piece spoilt.
+/// The 93 and the 88 bytes: every byte changed, every piece spoilt; but the nodes,
+/// which are the same in both, in the first alone.
 fn spoilt_example() -> Cases {
     let names = lists::example();
-    let mut cases = Vec::new();
-    for (block, purpose) in [(2, "85"), (4, "80")] {
-        let bytes = book_of(block, &names);
-        cases.extend(of_spoilt(purpose, changed_bytes(&bytes)));
-        let pieces = Pieces::of(block, &names);
-        cases.extend(of_spoilt(purpose, other_pieces(&pieces)));
-    }
-    cases
+    let (by_two, by_four) = (Pieces::of(2, &names), Pieces::of(4, &names));
+    [
+        of_spoilt("93", changed_bytes(&by_two.bytes())),
+        of_spoilt("93", other_pieces(&by_two)),
+        of_spoilt("88", changed_bytes(&by_four.bytes())),
+        of_spoilt("88", other_blocks(&by_four)),
+    ]
+    .concat()
 }
 
 /// A small book with three blocks and inner nodes below the root: every piece
@@ -236,21 +249,26 @@ fn spoilt_tree() -> Cases {
     of_spoilt("small tree", other_pieces(&pieces))
 }
 
-/// Larger books that are wrong in one of their last numbers.
+/// Larger books that are wrong in one number of their last node, or in the width
+/// of the root, which a check that goes down first knows last.
 fn spoilt_at_the_end() -> Cases {
     let mut cases = Vec::new();
     for (purpose, names) in [
-        ("deepest mirror", lists::mirror(b'a', b'b', 200)),
-        ("257 children", lists::fan(b"x")),
+        ("mirror of 60", lists::mirror(b'a', b'b', 60)),
+        ("100 children", (0..100).map(|byte| vec![byte; 3]).collect()),
     ] {
-        for field in 0..5 {
+        for (field, what) in NODE_FIELDS.iter().enumerate() {
             let mut pieces = Pieces::of(64, &names);
             if let Some(node) = pieces.nodes.last_mut() {
                 node[field] += 1;
             }
-            let purpose = format!("{purpose}, last node, number {field} one more");
+            let purpose = format!("{purpose}, last node, {what} one more");
             cases.push(of_bytes(purpose, pieces.bytes()));
         }
+        let mut pieces = Pieces::of(64, &names);
+        pieces.nodes[0][WIDTH] -= 1;
+        let purpose = format!("{purpose}, root, width one less");
+        cases.push(of_bytes(purpose, pieces.bytes()));
     }
     cases
 }

@@ -4,9 +4,9 @@
 //! it is.
 
 use crate::lists::Names;
-use crate::pieces::{Pieces, Trailer, NODE_FIELDS};
+use crate::pieces::{Node, Pieces, Trailer, DEPTH, FIRST, NAMES, NODE_FIELDS, WIDTH};
 use crate::random::Random;
-use format::TRAILER;
+use format::{MARK, NODE, TRAILER};
 use model::names::leading_equal;
 
 /// Spoils one place in a list of names: a name twice, two neighbours swapped, a
@@ -250,6 +250,57 @@ pub fn other_nodes(book: &Pieces) -> Spoilt {
     spoilt
 }
 
+/// Widths that are not the node's, but stand near by: that of its first child, the
+/// lengths of its first and of its last name, its depth, and none.
+pub fn other_widths(book: &Pieces) -> Spoilt {
+    let mut spoilt = Spoilt::new();
+    for (at, node) in book.nodes.iter().enumerate() {
+        let mut wrong = Vec::new();
+        if node[NAMES] > 1 {
+            let (first, last) = (node[FIRST], node[FIRST] + node[NAMES] - 1);
+            wrong.push(("its first child's", book.nodes[at + 1][WIDTH]));
+            wrong.push(("its first name's", book.made_of[first].len()));
+            wrong.push(("its last name's", book.made_of[last].len()));
+        }
+        wrong.extend([("its depth", node[DEPTH]), ("0", 0)]);
+        let mut seen = vec![node[WIDTH]];
+        for (what, width) in wrong {
+            if seen.contains(&width) {
+                continue;
+            }
+            seen.push(width);
+            let bytes = changed(book, |pieces| pieces.nodes[at][WIDTH] = width);
+            spoilt.push((format!("node {at}, width is {what}"), bytes));
+        }
+    }
+    spoilt
+}
+
+/// The mark of books before nodes had widths.
+pub const OLD_MARK: [u8; 4] = *b"NBK1";
+
+/// The book of before nodes had widths, under its own mark and under today's; and
+/// the book of today under the old mark.
+pub fn old_books(book: &Pieces) -> Spoilt {
+    let nodes = NODE * book.nodes.len();
+    let without_widths = |mark| {
+        let bytes = changed(book, |pieces| {
+            pieces.trailer.length -= 2 * book.nodes.len();
+            pieces.trailer.mark = mark;
+        });
+        let (front, rest) = bytes.split_at(book.trailer.node_table);
+        let (nodes, trailer) = rest.split_at(nodes);
+        let nodes: Vec<&[u8]> = nodes.chunks(NODE).map(|node| &node[..2 * WIDTH]).collect();
+        [front, &nodes.concat(), trailer].concat()
+    };
+    let marked = changed(book, |pieces| pieces.trailer.mark = OLD_MARK);
+    vec![
+        ("no widths, old mark".to_string(), without_widths(OLD_MARK)),
+        ("no widths, new mark".to_string(), without_widths(MARK)),
+        ("old mark".to_string(), marked),
+    ]
+}
+
 /// A byte of 0 before each of the four parts. The trailer's numbers stay, or
 /// move along so that the gap lies on either side of a part's start.
 pub fn gaps(book: &Pieces) -> Spoilt {
@@ -276,18 +327,27 @@ pub fn gaps(book: &Pieces) -> Spoilt {
     spoilt
 }
 
-/// Every kind of spoilt book above, but for single bytes and cuts.
-pub fn other_pieces(book: &Pieces) -> Spoilt {
+/// Every kind of spoilt book above that the block size has a part in, but for
+/// single bytes and cuts.
+pub fn other_blocks(book: &Pieces) -> Spoilt {
     let kinds = [
         other_counts,
         large_counts,
         other_rests,
         other_entries,
         other_starts,
-        other_nodes,
         gaps,
+        old_books,
     ];
     kinds.iter().flat_map(|kind| kind(book)).collect()
+}
+
+/// Every kind of spoilt book above, but for single bytes and cuts.
+pub fn other_pieces(book: &Pieces) -> Spoilt {
+    [other_blocks, other_nodes, other_widths]
+        .iter()
+        .flat_map(|kind| kind(book))
+        .collect()
 }
 
 /// Spoils a book at random: up to three bytes, as a list would be spoilt, or
@@ -318,7 +378,7 @@ pub fn spoil_book(random: &mut Random, block: usize, names: &Names) -> Vec<u8> {
 }
 
 /// Spoils one node, or the order or number of nodes.
-fn spoil_node(random: &mut Random, nodes: &mut Vec<[usize; 5]>) {
+fn spoil_node(random: &mut Random, nodes: &mut Vec<Node>) {
     if nodes.is_empty() {
         return;
     }
@@ -328,7 +388,7 @@ fn spoil_node(random: &mut Random, nodes: &mut Vec<[usize; 5]>) {
         1 => drop(nodes.remove(at)),
         2 => nodes.insert(at, nodes[at]),
         _ => {
-            let field = random.below(5);
+            let field = random.below(NODE_FIELDS.len());
             nodes[at][field] = near(random, nodes[at][field]);
         }
     }
@@ -354,15 +414,16 @@ fn spoil_entry(random: &mut Random, pieces: &mut Pieces) {
     }
 }
 
-/// Spoils one number of the trailer.
+/// Spoils one number of the trailer, or gives it the old mark.
 fn spoil_number(random: &mut Random, trailer: &mut Trailer) {
-    let number = match random.below(6) {
+    let number = match random.below(7) {
         0 => &mut trailer.names,
         1 => &mut trailer.block,
         2 => &mut trailer.block_table,
         3 => &mut trailer.node_table,
         4 => &mut trailer.nodes,
-        _ => &mut trailer.length,
+        5 => &mut trailer.length,
+        _ => return trailer.mark = OLD_MARK,
     };
     *number = near(random, *number);
 }

@@ -2,12 +2,12 @@
 //!
 //! Entries, block table and trailer are sound here; the nodes are such that a
 //! check that believes them goes wrong. It goes down further than any book is
-//! deep, goes round in one place, or leaves the table. Symbols, first names and
-//! numbers of nodes are as each node's place says, but where the kind says
-//! otherwise, so that nothing else ends a walk that goes down.
+//! deep, goes round in one place, or leaves the table. Symbols, first names,
+//! numbers of nodes and widths are as each node's place says, but where the kind
+//! says otherwise, so that nothing else ends a walk that goes down.
 
 use crate::lists::{self, Names};
-use crate::pieces::Pieces;
+use crate::pieces::{Node, Pieces, DEPTH, NAMES, NODES};
 use crate::random::Random;
 use format::{LARGEST_BLOCK, LONGEST_BOOK, LONGEST_NAME, MOST_NAMES};
 
@@ -16,13 +16,6 @@ pub const DEEPER_THAN_ANY: usize = 240;
 
 /// The largest number of two bytes.
 const LARGEST: usize = 65_535;
-
-/// The five numbers of a node.
-type Node = [usize; 5];
-/// Where its depth stands among them, its number of names and that of nodes.
-const DEPTH: usize = 1;
-const NAMES: usize = 3;
-const NODES: usize = 4;
 
 /// Makes so many names, or as many as there can be.
 type MakeNames = fn(usize) -> Names;
@@ -239,6 +232,11 @@ fn symbol_at(name: &[u8], depth: usize) -> usize {
     name.get(depth).map_or(0, |&byte| usize::from(byte) + 1)
 }
 
+/// The greatest length of these names.
+fn width_of(names: &[Vec<u8>]) -> usize {
+    names.iter().map(Vec::len).max().unwrap_or(0)
+}
+
 /// A nest over the names from number `first` on, to which `symbol` led: forks,
 /// given by their depths and numbers of names, of which each is the only node
 /// in the row of the one before.
@@ -251,7 +249,8 @@ fn nest(
     let count = forks.len();
     let mut nodes = Vec::new();
     for (at, (depth, of_names)) in forks.enumerate() {
-        nodes.push([symbol, depth, first, of_names, count - at]);
+        let width = width_of(&names[first..][..of_names]);
+        nodes.push([symbol, depth, first, of_names, count - at, width]);
         symbol = symbol_at(&names[first], depth);
     }
     nodes
@@ -266,8 +265,12 @@ fn falling(names: &Names, depth: impl Fn(usize) -> usize) -> Vec<Node> {
 
 /// A root of this depth over the leaves of all names.
 fn leaves_under(depth: usize, names: &Names) -> Vec<Node> {
-    let leaf = |(at, name): (usize, &Vec<u8>)| [symbol_at(name, depth), name.len() + 1, at, 1, 1];
-    let mut nodes = vec![[0, depth, 0, names.len(), names.len() + 1]];
+    let leaf = |(at, name): (usize, &Vec<u8>)| {
+        let length = name.len();
+        [symbol_at(name, depth), length + 1, at, 1, 1, length]
+    };
+    let (count, width) = (names.len(), width_of(names));
+    let mut nodes = vec![[0, depth, 0, count, count + 1, width]];
     nodes.extend(names.iter().enumerate().map(leaf));
     nodes
 }
@@ -277,7 +280,7 @@ fn below_the_deepest(names: &Names) -> Vec<Node> {
     let mut nodes = Pieces::of(LARGEST_BLOCK, names).nodes;
     let is_deepest = |&at: &usize| (nodes[at][NAMES] > 1).then_some(nodes[at][DEPTH]);
     let deepest = (0..nodes.len()).max_by_key(is_deepest).unwrap_or(0);
-    let [_, depth, _, of_names, _] = nodes[deepest];
+    let [_, depth, _, of_names, ..] = nodes[deepest];
     let forks = (1..of_names - 1).map(|at| (depth + at, of_names - at));
     put_row(&mut nodes, deepest, names, forks);
     nodes
@@ -291,7 +294,7 @@ fn put_row(
     names: &Names,
     forks: impl ExactSizeIterator<Item = (usize, usize)>,
 ) {
-    let [_, depth, first, _, before] = nodes[fork];
+    let [_, depth, first, _, before, _] = nodes[fork];
     let row = nest(names, first, symbol_at(&names[first], depth), forks);
     for (at, node) in nodes.iter_mut().enumerate().take(fork + 1) {
         if at + node[NODES] > fork {
@@ -322,7 +325,7 @@ pub fn any(random: &mut Random, block: usize, names: &Names) -> Pieces {
 
 /// Forks for a nest under this one: often of one name fewer each, and one
 /// symbol deeper.
-fn any_forks(random: &mut Random, [_, depth, _, names, _]: Node) -> Vec<(usize, usize)> {
+fn any_forks(random: &mut Random, [_, depth, _, names, ..]: Node) -> Vec<(usize, usize)> {
     let most = *random.one_of(&[1, 1, 1, 2, 9]);
     let deepest = *random.one_of(&[1, 1, 1, 3, 30, 300]);
     let (mut depth, mut names) = (depth, names);

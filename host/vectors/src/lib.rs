@@ -14,7 +14,7 @@
 //! | [`building`] | the set of `book_build`, and how its cases stand in the file |
 //! | [`checking`] | the set of `book_check`, likewise |
 //! | [`reading`] | the set of `book_read`, likewise |
-//! | [`asking`] | the sets of the four questions, likewise |
+//! | [`asking`] | the sets of the five questions, likewise |
 //! | [`batching`] | the set of `book_batch`, likewise |
 //! | [`checksum`] | two small numbers that stand for many |
 //! | [`lists`] | lists of names by their shape |

@@ -44,6 +44,19 @@ pub fn stops() -> Names {
     sorted(names)
 }
 
+/// Three names under one fork, of which the one of this number, 0 to 2, is the
+/// longest, between two that are longer still.
+pub fn longest_of_three(number: usize) -> Names {
+    let mut three = texts(&["Ma", "Mbb", "Mcc"]);
+    three[number].extend(b"tertown");
+    [
+        texts(&["Lower Ferry Road"]),
+        three,
+        texts(&["Upper Ferry Road"]),
+    ]
+    .concat()
+}
+
 /// So many names of two bytes, up to 64,000: 250 with first byte 0, then 250
 /// with first byte 1, and so on. A tree of two wide levels.
 pub fn pairs(count: usize) -> Names {
@@ -94,6 +107,10 @@ pub fn binary(count: usize) -> Names {
         })
         .collect()
 }
+
+/// So many names of [`binary`] make a book of nearly 65,535 bytes with blocks of 1;
+/// with 1,681 it would pass them.
+pub const MOST_BINARY: usize = 1670;
 
 /// So many names of 200 bytes, up to 65,536: two bytes that differ, then a tail.
 pub fn long(count: usize) -> Names {

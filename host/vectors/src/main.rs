@@ -76,7 +76,7 @@ fn shapes() -> [(&'static str, Names); 7] {
         ("chain", lists::chain(b'a', 200)),
         ("mirror", lists::mirror(b'a', b'b', 200)),
         ("pairs", lists::pairs(2000)),
-        ("binary", lists::binary(1860)),
+        ("binary", lists::binary(lists::MOST_BINARY)),
         ("long", lists::long(300)),
     ]
 }

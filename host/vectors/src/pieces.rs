@@ -8,8 +8,22 @@ use crate::lists::Names;
 use format::{MARK, NODE, TRAILER};
 use model::layout::{block_table, node_table, stored_count};
 
-/// What the five numbers of a node are, in their order.
-pub const NODE_FIELDS: [&str; 5] = ["symbol", "depth", "first name", "names", "nodes"];
+/// The numbers of a node.
+pub type Node = [usize; NODE / 2];
+
+/// What they are, in their order.
+pub const NODE_FIELDS: [&str; NODE / 2] =
+    ["symbol", "depth", "first name", "names", "nodes", "width"];
+/// Which of them is the depth.
+pub const DEPTH: usize = 1;
+/// Which is the position of the first name.
+pub const FIRST: usize = 2;
+/// Which is the number of names.
+pub const NAMES: usize = 3;
+/// Which is the number of nodes.
+pub const NODES: usize = 4;
+/// Which is the greatest length of a name.
+pub const WIDTH: usize = 5;
 
 /// An entry. The length need not be that of the rest.
 #[derive(Clone)]
@@ -51,7 +65,7 @@ pub struct Pieces {
     /// The block table.
     pub starts: Vec<usize>,
     /// The node table.
-    pub nodes: Vec<[usize; 5]>,
+    pub nodes: Vec<Node>,
     /// The trailer.
     pub trailer: Trailer,
 }
@@ -60,7 +74,9 @@ impl Pieces {
     /// The book of these names with this block size.
     pub fn of(block: usize, names: &Names) -> Pieces {
         let nodes = numbers(&node_table(names));
-        let nodes = nodes.chunks(5).map(|node| node.try_into().unwrap());
+        let nodes = nodes
+            .chunks(NODE_FIELDS.len())
+            .map(|node| node.try_into().unwrap());
         let mut pieces = Pieces {
             made_of: names.clone(),
             entries: Vec::new(),

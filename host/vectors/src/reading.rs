@@ -21,7 +21,9 @@
 //! - the two numbers of the checksum of the whole room, so that a byte that was
 //!   touched past the name, or in a refused call, shows.
 
-use crate::damage::{changed_bytes, gaps, other_counts, other_nodes, spoil_book};
+use crate::damage::{
+    changed_bytes, gaps, old_books, other_counts, other_nodes, other_widths, spoil_book,
+};
 use crate::hostile;
 use crate::lists::{self, Names};
 use crate::pieces::Pieces;
@@ -118,7 +120,7 @@ fn empty_input() -> Cases {
     of_bytes("empty input", vec![], &[(0, 0), (0, 9), (u64::MAX, 0)])
 }
 
-/// The book of 85 bytes and the one of 80; positions whose low bytes alone
+/// The book of 93 bytes and the one of 88; positions whose low bytes alone
 /// would be fine; and 3 before 4.
 fn worked_example() -> Cases {
     let names = lists::example();
@@ -214,7 +216,9 @@ fn spoilt_books() -> Cases {
         changed_bytes(&bytes),
         other_counts(&pieces),
         other_nodes(&pieces),
+        other_widths(&pieces),
         gaps(&pieces),
+        old_books(&pieces),
     ];
     let mut cases = Vec::new();
     for (number, (how, book)) in spoilt.into_iter().flatten().enumerate() {

@@ -150,7 +150,7 @@ pub fn any(random: &mut Random) -> Worst {
 /// The dearest check that was found: as many names as can be, nearly all of them
 /// forks, each in a block of its own and as long as there is space for.
 pub fn dearest_check() -> Worst {
-    chains(MOST_NAMES, 17, 1)
+    chains(MOST_NAMES, 10, 1)
 }
 
 /// The dearest question that was found: as many levels as can be, with nine

@@ -1,7 +1,7 @@
-//! The set of the four questions: its file read back by a reader of its own,
+//! The set of the five questions: its file read back by a reader of its own,
 //! and what must be among its cases.
 
-use model::{book_exact, book_nearest, book_place, book_range};
+use model::{book_exact, book_nearest, book_place, book_range, book_width};
 use std::collections::BTreeSet;
 use std::sync::LazyLock;
 use vectors::asking::{self, Ask};
@@ -40,7 +40,7 @@ fn read_file(mut file: &[u8]) -> Vec<Asked<'_>> {
 /// The line that a program prints for this case.
 fn line(number: usize, case: &Asked) -> String {
     let mut line = number.to_string();
-    for ask in [book_exact, book_place, book_range, book_nearest] {
+    for ask in [book_exact, book_place, book_range, book_nearest, book_width] {
         let answer = ask(case.book, case.question);
         let (code, first, second) = (answer.code, answer.first, answer.second);
         line.push_str(&format!(" {code} {first} {second}"));
@@ -71,14 +71,14 @@ fn the_cases_are_not_too_many() {
 
 #[test]
 fn every_refusal_of_a_question_is_among_the_cases() {
-    // The codes of the four answers of a case: a book without names is the only
+    // The codes of the five answers of a case: a book without names is the only
     // one where they differ.
     let mut codes = BTreeSet::new();
     for line in EXPECTED.lines() {
         let numbers: Vec<usize> = line.split(' ').map(|word| word.parse().unwrap()).collect();
-        codes.insert([numbers[1], numbers[4], numbers[7], numbers[10]]);
+        codes.insert([1, 4, 7, 10, 13].map(|at| numbers[at]));
     }
-    let expected = [[0, 0, 0, 0], [0, 0, 0, 10], [1; 4], [2; 4]];
+    let expected = [[0; 5], [0, 0, 0, 10, 0], [1; 5], [2; 5]];
     assert_eq!(codes.into_iter().collect::<Vec<_>>(), expected);
 }
 
@@ -99,7 +99,7 @@ fn the_twelve_rows_of_document_01_are_among_the_cases() {
         (3, "Zoo", "0 0"),
         (3, "M", "0 1"),
     ] {
-        for book in [85, 80] {
+        for book in [93, 88] {
             let purpose = format!("rows: book {book}, question \"{question}\"");
             let outcome = find(&cases, &purpose).outcome();
             let words: Vec<&str> = outcome.split(' ').collect();
@@ -115,51 +115,51 @@ fn the_edges_of_document_01_are_among_the_cases() {
     for (purpose, outcome) in [
         (
             "empty input: book 0, question of 201 bytes",
-            "2 0 0 2 0 0 2 0 0 2 0 0",
+            "2 0 0 2 0 0 2 0 0 2 0 0 2 0 0",
         ),
         (
             "no names: book 16, question \"\"",
-            "0 0 0 0 0 0 0 0 0 10 0 0",
+            "0 0 0 0 0 0 0 0 0 10 0 0 0 0 0",
         ),
         (
             "no names: book 16, question of 200 bytes",
-            "0 0 0 0 0 0 0 0 0 10 0 0",
+            "0 0 0 0 0 0 0 0 0 10 0 0 0 0 0",
         ),
         (
             "no names: book 16, question of 201 bytes",
-            "1 0 0 1 0 0 1 0 0 1 0 0",
+            "1 0 0 1 0 0 1 0 0 1 0 0 1 0 0",
         ),
         (
-            "one name of 200 bytes: book 230, question of 200 bytes",
-            "0 0 1 0 0 0 0 0 1 0 0 200",
+            "one name of 200 bytes: book 232, question of 200 bytes",
+            "0 0 1 0 0 0 0 0 1 0 0 200 0 200 0",
         ),
         (
-            "one name of 200 bytes: book 230, question of 201 bytes",
-            "1 0 0 1 0 0 1 0 0 1 0 0",
+            "one name of 200 bytes: book 232, question of 201 bytes",
+            "1 0 0 1 0 0 1 0 0 1 0 0 1 0 0",
         ),
         (
-            "longest question: book 80, question of 65539 bytes",
-            "1 0 0 1 0 0 1 0 0 1 0 0",
+            "longest question: book 88, question of 65539 bytes",
+            "1 0 0 1 0 0 1 0 0 1 0 0 1 0 0",
         ),
         (
-            "2,000 names: book 26209, question \"\\x07\\xf9\"",
-            "0 1999 1 0 1999 0 0 1999 1 0 1999 2",
+            "2,000 names: book 30227, question \"\\x07\\xf9\"",
+            "0 1999 1 0 1999 0 0 1999 1 0 1999 2 0 2 0",
         ),
         (
-            "2,000 names: book 26209, question \"\\x07\\xfa\"",
-            "0 0 0 0 2000 0 0 2000 0 0 1750 1",
+            "2,000 names: book 30227, question \"\\x07\\xfa\"",
+            "0 0 0 0 2000 0 0 2000 0 0 1750 1 0 0 0",
         ),
         (
-            "2,001 names: book 26223, question \"\"",
-            "2 0 0 2 0 0 2 0 0 2 0 0",
+            "2,001 names: book 30243, question \"\"",
+            "2 0 0 2 0 0 2 0 0 2 0 0 2 0 0",
         ),
         (
-            "257 children: book 3386, question \"xy\\xff\"",
-            "0 256 1 0 256 0 0 256 1 0 256 3",
+            "257 children: book 3902, question \"xy\\xff\"",
+            "0 256 1 0 256 0 0 256 1 0 256 3 0 3 0",
         ),
         (
-            "255 alone: book 133, question \"\\xff\\xff\"",
-            "0 1 1 0 1 0 0 1 4 0 1 2",
+            "255 alone: book 151, question \"\\xff\\xff\"",
+            "0 1 1 0 1 0 0 1 4 0 1 2 0 5 0",
         ),
     ] {
         assert_eq!(find(&cases, purpose).outcome(), outcome, "{purpose}");
@@ -174,18 +174,40 @@ fn the_edges_of_document_01_are_among_the_cases() {
 fn every_name_of_the_small_lists_is_asked_for() {
     let cases = asking::SET.cases();
     for (purpose, names) in [
-        ("worked example: book 85", lists::example()),
-        ("seventy stops: book 1536", lists::stops()),
-        ("257 children: book 3386", lists::fan(b"xy")),
+        ("worked example: book 93", lists::example()),
+        ("seventy stops: book 1744", lists::stops()),
+        ("257 children: book 3902", lists::fan(b"xy")),
     ] {
         for (position, name) in names.iter().enumerate() {
             let purpose = format!("{purpose}, question \"{}\"", name.escape_ascii());
             let outcome = find(&cases, &purpose).outcome();
             let found = format!("0 {position} 1 0 {position} 0 0 {position} ");
             assert!(outcome.starts_with(&found), "{purpose}: {outcome}");
-            let nearest = format!(" 0 {position} {}", name.len());
-            assert!(outcome.ends_with(&nearest), "{purpose}: {outcome}");
+            let nearest = format!(" 0 {position} {} 0 ", name.len());
+            assert!(outcome.contains(&nearest), "{purpose}: {outcome}");
         }
+    }
+}
+
+#[test]
+fn the_width_of_a_range_is_among_the_cases_wherever_its_longest_name_stands() {
+    let cases = asking::SET.cases();
+    // The longest of the three that begin with M has 9 or 10 bytes, that of all 16.
+    for (place, question, width) in [
+        ("first", "", 16),
+        ("first", "M", 9),
+        ("first", "Mb", 3),
+        ("in the middle", "M", 10),
+        ("in the middle", "Mb", 10),
+        ("in the middle", "Mcce", 0),
+        ("last", "M", 10),
+        ("last", "Ma", 2),
+        ("last", "\\xff", 0),
+    ] {
+        let purpose = format!("longest {place}: book 162, question \"{question}\"");
+        let outcome = find(&cases, &purpose).outcome();
+        let ending = format!(" 0 {width} 0");
+        assert!(outcome.ends_with(&ending), "{purpose}: {outcome}");
     }
 }
 
@@ -205,11 +227,17 @@ fn the_dearest_books_are_a_file_of_the_same_kind() {
     let lines = cases.iter().enumerate();
     let text: String = lines.map(|(number, case)| line(number, case)).collect();
     assert_eq!(text, asking::DEAREST.expected());
-    // Of 2,000 names in chains of 17 the last one stands at 1,999 and has 11
+    // Of 2,000 names in chains of 10 the last one stands at 1,999 and has 10
     // bytes. The path has 199 levels with nine names each.
     for (purpose, outcome) in [
-        ("dearest check: ", "0 1999 1 0 1999 0 0 1999 1 0 1999 11"),
-        ("dearest question: ", "0 0 0 0 2000 0 0 2000 0 0 1791 199"),
+        (
+            "dearest check: ",
+            "0 1999 1 0 1999 0 0 1999 1 0 1999 10 0 10 0",
+        ),
+        (
+            "dearest question: ",
+            "0 0 0 0 2000 0 0 2000 0 0 1791 199 0 0 0",
+        ),
     ] {
         let mut cases = asking::DEAREST.cases().into_iter();
         let found = cases.find(|case| case.purpose().starts_with(purpose));

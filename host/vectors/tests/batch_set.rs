@@ -154,7 +154,7 @@ fn every_refusal_of_a_batch_and_of_a_row_is_among_the_cases() {
         *calls.entry(answer.code).or_insert(0) += 1;
         if answer.code == 0 {
             for (row, answer) in case.rows.iter().zip(answers) {
-                let kind = row.kind.min(5);
+                let kind = row.kind.min(6);
                 *rows.entry((answer.code, kind)).or_insert(0) += 1;
             }
         }
@@ -162,11 +162,11 @@ fn every_refusal_of_a_batch_and_of_a_row_is_among_the_cases() {
     assert_eq!(calls.keys().copied().collect::<Vec<_>>(), [0, 2, 12]);
     assert!(calls.values().all(|&count| count >= 50), "{calls:?}");
     let seen: BTreeSet<(usize, usize)> = rows.keys().copied().collect();
-    let kinds = 1..=4;
+    let kinds = 1..=5;
     let mut expected: BTreeSet<(usize, usize)> = kinds
         .flat_map(|kind| [(0, kind), (1, kind), (11, kind)])
         .collect();
-    expected.extend([(10, 4), (11, 0), (11, 5)]);
+    expected.extend([(10, 4), (11, 0), (11, 6)]);
     assert_eq!(seen, expected);
     assert!(rows.values().all(|&count| count >= 20), "{rows:?}");
 }
@@ -191,7 +191,7 @@ fn the_twelve_rows_of_document_01_are_one_batch() {
     let mut expected: Vec<String> = rows.iter().map(|&row| accepted(&[row])).collect();
     rows.reverse();
     expected.splice(..0, [in_order, accepted(&rows)]);
-    for book in [85, 80] {
+    for book in [93, 88] {
         let purpose = |rows: usize| {
             format!("worked example: book {book}, buffer 44, rows {rows}, places {rows}")
         };
@@ -220,23 +220,23 @@ fn the_edges_of_document_01_are_among_the_cases() {
             refused(12),
         ),
         (
-            "number of rows: book 85, buffer 44, rows 0, places 0",
+            "number of rows: book 93, buffer 44, rows 0, places 0",
             accepted(&[]),
         ),
         (
-            "number of rows: book 85, buffer 44, rows 65, places 65",
+            "number of rows: book 93, buffer 44, rows 65, places 65",
             refused(12),
         ),
         (
-            "unequal numbers: book 85, buffer 44, rows 64, places 65",
+            "unequal numbers: book 93, buffer 44, rows 64, places 65",
             refused(12),
         ),
         (
-            "unequal numbers: book 85, buffer 44, rows 0, places 1",
+            "unequal numbers: book 93, buffer 44, rows 0, places 1",
             refused(12),
         ),
         (
-            "unequal numbers, no book: book 84, buffer 44, rows 1, places 2",
+            "unequal numbers, no book: book 92, buffer 44, rows 1, places 2",
             refused(12),
         ),
         (
@@ -244,24 +244,25 @@ fn the_edges_of_document_01_are_among_the_cases() {
             refused(12),
         ),
         (
-            "no names: book 16, buffer 3, rows 4, places 4",
-            accepted(&[[0, 0, 0], [0, 0, 0], [0, 0, 0], [10, 0, 0]]),
+            "no names: book 16, buffer 3, rows 5, places 5",
+            accepted(&[[0, 0, 0], [0, 0, 0], [0, 0, 0], [10, 0, 0], [0, 0, 0]]),
         ),
         (
-            "2,001 names: book 26223, buffer 0, rows 0, places 0",
+            "2,001 names: book 30243, buffer 0, rows 0, places 0",
             refused(2),
         ),
         (
-            "same rows: book 85, buffer 6, rows 64, places 64",
+            "same rows: book 93, buffer 6, rows 64, places 64",
             accepted(&[[0, 1, 1]; 64]),
         ),
     ] {
         let found = outcomes(purpose);
         assert_eq!(found.first(), Some(&expected), "{purpose}");
     }
-    let one_row_each = outcomes("kinds: book 85, buffer 3, rows 1, places 1");
-    let mut expected = [[0, 0, 1], [0, 0, 0], [0, 0, 3], [0, 0, 3]].to_vec();
-    expected.resize(14, [11, 0, 0]);
+    let one_row_each = outcomes("kinds: book 93, buffer 3, rows 1, places 1");
+    let answered = [[0, 0, 1], [0, 0, 0], [0, 0, 3], [0, 0, 3], [0, 13, 0]];
+    let mut expected = answered.to_vec();
+    expected.resize(16, [11, 0, 0]);
     let expected: Vec<String> = expected.iter().map(|&row| accepted(&[row])).collect();
     assert_eq!(one_row_each, expected);
 }
@@ -298,7 +299,8 @@ fn the_edges_of_a_row_are_among_the_cases() {
         (3, 460, [4, 259, 201], 1),
         (3, 460, [4, 260, 201], 11),
         (3, 460, [0, 0, 201], 11),
-        (3, 460, [5, 0, 201], 11),
+        (3, 460, [5, 0, 201], 1),
+        (3, 460, [6, 0, 201], 11),
         // no names: only nearest gives 10, and 1 and 11 come before it
         (0, 460, [1, 260, 200], 0),
         (0, 460, [2, 260, 200], 0),
@@ -306,7 +308,8 @@ fn the_edges_of_a_row_are_among_the_cases() {
         (0, 460, [4, 260, 200], 10),
         (0, 460, [4, 259, 201], 1),
         (0, 460, [4, 260, 201], 11),
-        (0, 460, [5, 0, 0], 11),
+        (0, 460, [5, 260, 200], 0),
+        (0, 460, [6, 0, 0], 11),
     ] {
         let edge = Edge { row, buffer, code };
         let found = cases.iter().any(|case| has_edge(case, names, &edge));
@@ -331,7 +334,7 @@ fn has_edge(case: &Asked, names: usize, edge: &Edge) -> bool {
 #[test]
 fn other_bytes_outside_the_spans_change_no_line() {
     for (buffer, count) in [(57, 9), (109, 9)] {
-        let purpose = format!("other bytes outside: book 85, buffer {buffer}, rows 12, places 12");
+        let purpose = format!("other bytes outside: book 93, buffer {buffer}, rows 12, places 12");
         let found = outcomes(&purpose);
         assert_eq!(found.len(), count);
         assert!(found.iter().all(|outcome| *outcome == found[0]));

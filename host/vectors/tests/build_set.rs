@@ -84,7 +84,7 @@ fn a_program_that_follows_the_description_prints_the_text() {
 fn the_rooms_are_small_enough() {
     let file = building::SET.case_file();
     let cases = read_file(&file);
-    assert!(cases.len() <= 160, "{}", cases.len());
+    assert!(cases.len() <= 170, "{}", cases.len());
     assert!(cases.iter().all(|case| case.room <= LONGEST_ROOM));
 }
 
@@ -102,21 +102,21 @@ fn every_refusal_of_a_build_is_among_the_cases() {
 fn the_edges_of_document_01_are_among_the_cases() {
     let outcomes = outcomes();
     let among = |purpose, answer| assert_among(&outcomes, purpose, answer);
-    among("worked example: list 25, block 2, room 84", [4, 0, 0]);
-    among("worked example: list 25, block 2, room 85", [0, 85, 0]);
-    among("worked example: list 25, block 4, room 79", [4, 0, 0]);
-    among("worked example: list 25, block 4, room 80", [0, 80, 0]);
+    among("worked example: list 25, block 2, room 92", [4, 0, 0]);
+    among("worked example: list 25, block 2, room 93", [0, 93, 0]);
+    among("worked example: list 25, block 4, room 87", [4, 0, 0]);
+    among("worked example: list 25, block 4, room 88", [0, 88, 0]);
     among("block 0, ", [8, 0, 0]);
-    among("block 1, ", [0, 90, 0]);
-    among("block 64, ", [0, 80, 0]);
+    among("block 1, ", [0, 98, 0]);
+    among("block 64, ", [0, 88, 0]);
     among("block 65, ", [8, 0, 0]);
     among("block 18446744073709551615, ", [8, 0, 0]);
     among("empty list: list 0, block 64, room 15", [4, 0, 0]);
     among("empty list: list 0, block 64, room 16", [0, 16, 0]);
-    among("one name of 200 bytes", [0, 230, 0]);
+    among("one name of 200 bytes", [0, 232, 0]);
     among("one name of 201 bytes", [5, 0, 0]);
     among("equal neighbours", [6, 1, 0]);
-    among("2,000 names", [0, 26_209, 0]);
+    among("2,000 names", [0, 30_227, 0]);
     among("2,001 names", [7, 2000, 0]);
     among("number 2,000 empty", [5, 2000, 0]);
     among("number 2,000 equal", [6, 2000, 0]);
@@ -124,8 +124,8 @@ fn the_edges_of_document_01_are_among_the_cases() {
     among("book of 65,535, room short", [4, 0, 0]);
     among("book of 65,536, no room", [9, 0, 0]);
     among("book of 65,536, room to spare", [9, 0, 0]);
-    among("5 and not 9", [5, 1860, 0]);
-    among("6 and not 9", [6, 1860, 0]);
+    among("5 and not 9", [5, 1670, 0]);
+    among("6 and not 9", [6, 1670, 0]);
     among("7 and not 9", [7, 2000, 0]);
 }
 

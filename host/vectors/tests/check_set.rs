@@ -32,15 +32,15 @@ fn a_program_that_follows_the_description_prints_the_text() {
 #[test]
 fn the_cases_are_not_too_many() {
     let cases = checking::SET.cases().len();
-    assert!(cases <= 1500, "{cases}");
+    assert!(cases <= 1600, "{cases}");
 }
 
 #[test]
 fn the_edges_of_document_01_are_among_the_cases() {
     let cases = checking::SET.cases();
     for (purpose, answer) in [
-        ("worked example, k 2: book 85", "0 3 2"),
-        ("worked example, k 4: book 80", "0 3 4"),
+        ("worked example, k 2: book 93", "0 3 2"),
+        ("worked example, k 4: book 88", "0 3 4"),
         ("no names, k 0: book 16", "2 0 0"),
         ("no names, k 1: book 16", "0 0 1"),
         ("no names, k 64: book 16", "0 0 64"),
@@ -52,10 +52,26 @@ fn the_edges_of_document_01_are_among_the_cases() {
         ("block size, k 65: ", "2 0 0"),
         ("2,000 names, ", "0 2000 64"),
         ("2,001 names, ", "2 0 0"),
-        ("book of 65,535, k 1: book 65535", "0 1860 1"),
+        ("book of 65,535, k 1: book 65535", "0 1670 1"),
         ("book of 65,536, k 1: book 65536", "2 0 0"),
-        ("65,536 bytes, then a book: book 65616", "2 0 0"),
+        ("65,536 bytes, then a book: book 65624", "2 0 0"),
         ("equal names, k 1: ", "2 0 0"),
+        ("longest name, k 2: ", "0 5 2"),
+        ("93, node 0, width one less: ", "2 0 0"),
+        ("93, node 0, width one more: ", "2 0 0"),
+        ("93, node 0, width is its first child's: ", "2 0 0"),
+        ("93, node 1, width one less: ", "2 0 0"),
+        ("93, node 1, width one more: ", "2 0 0"),
+        ("93, node 1, width is its depth: ", "2 0 0"),
+        ("small tree, node 1, width is its first child's: ", "2 0 0"),
+        (
+            "longest in the middle, node 2, width is its last name's: ",
+            "2 0 0",
+        ),
+        ("93, no widths, old mark: book 85", "2 0 0"),
+        ("93, no widths, new mark: book 85", "2 0 0"),
+        ("93, old mark: book 93", "2 0 0"),
+        ("mirror of 60, root, width one less: ", "2 0 0"),
         ("empty input: book 0", "2 0 0"),
     ] {
         let mut cases = cases.iter();
@@ -73,7 +89,7 @@ fn every_spoilt_piece_is_refused_but_for_letters_that_no_node_shows() {
     let mut accepted = 0;
     for case in checking::SET.cases() {
         let purpose = case.purpose();
-        let spoilt = ["85, ", "80, ", "small tree, "];
+        let spoilt = ["93, ", "88, ", "small tree, ", "longest in the middle, "];
         if !spoilt.iter().any(|start| purpose.starts_with(start)) {
             continue;
         }
@@ -82,6 +98,6 @@ fn every_spoilt_piece_is_refused_but_for_letters_that_no_node_shows() {
             accepted += 1;
         }
     }
-    // of the 85: na, et Square; of the 80: Mar, na, et Square and k; up and down
+    // of the 93: na, et Square; of the 88: Mar, na, et Square and k; up and down
     assert_eq!(accepted, 2 * 11 + 2 * 14 + 2);
 }

@@ -58,11 +58,11 @@ fn with_the_right_nodes_the_same_pieces_are_a_book() {
 fn levels(book: &Pieces) -> usize {
     let (mut at, mut levels) = (0, 1);
     loop {
-        let [_, depth, first, names, _] = book.nodes[at];
+        let [_, depth, first, names, ..] = book.nodes[at];
         let leaves = book.nodes[at + 1..].iter().take_while(|node| node[3] == 1);
         let leaves = leaves.count();
         at += leaves + 1;
-        let Some(&[symbol, deeper, child_first, fewer, _]) = book.nodes.get(at) else {
+        let Some(&[symbol, deeper, child_first, fewer, ..]) = book.nodes.get(at) else {
             return levels;
         };
         let name = &book.made_of[first + leaves];
@@ -105,15 +105,15 @@ fn a_nest_of_falling_names_stands_as_it_should() {
     let falling = kinds.iter().find(|kind| kind.how == "falling names");
     let book = falling.unwrap().with_names(2000);
     assert_eq!(book.nodes.len(), 1999);
-    assert_eq!(book.nodes[0], [0, 0, 0, 2000, 1999]);
-    // the first name is two bytes of 0, the symbol of which is 1
-    assert_eq!(book.nodes[1], [1, 1, 0, 1999, 1998]);
-    assert_eq!(book.nodes[2], [1, 2, 0, 1998, 1997]);
-    assert_eq!(book.nodes[3], [0, 3, 0, 1997, 1996]);
-    assert_eq!(book.nodes[1998], [0, 1998, 0, 2, 1]);
+    assert_eq!(book.nodes[0], [0, 0, 0, 2000, 1999, 2]);
+    // the first name is two bytes of 0, the symbol of which is 1; all have two
+    assert_eq!(book.nodes[1], [1, 1, 0, 1999, 1998, 2]);
+    assert_eq!(book.nodes[2], [1, 2, 0, 1998, 1997, 2]);
+    assert_eq!(book.nodes[3], [0, 3, 0, 1997, 1996, 2]);
+    assert_eq!(book.nodes[1998], [0, 1998, 0, 2, 1, 2]);
     assert_eq!(book.trailer.block, 64);
     let small = falling.unwrap().with_names(DEEPER_THAN_ANY);
-    assert!(small.trailer.length < 3_200, "{}", small.trailer.length);
+    assert!(small.trailer.length < 3_700, "{}", small.trailer.length);
 }
 
 #[test]

@@ -12,6 +12,7 @@ fn the_second_program_has_the_same_limits() {
         (format::LARGEST_BLOCK, layout::LARGEST_BLOCK),
         (format::LONGEST_BOOK, layout::LONGEST_BOOK),
         (format::MOST_ROWS, calls::MOST_ROWS),
+        (format::NODE, layout::NODE_LENGTH),
         (format::TRAILER, layout::TRAILER_LENGTH),
     ] {
         assert_eq!(shared, own);
@@ -21,7 +22,7 @@ fn the_second_program_has_the_same_limits() {
 
 #[test]
 fn the_second_program_has_the_same_kinds() {
-    for number in 0..=6 {
+    for number in 0..=7 {
         let shared = format::Kind::from_number(number).map(|kind| format!("{kind:?}"));
         let own = model::questions::Kind::of_number(number).map(|kind| format!("{kind:?}"));
         assert_eq!(shared, own);

@@ -9,9 +9,12 @@ use vectors::random::Random;
 
 #[test]
 fn the_fixed_lists_are_sound() {
-    let shapes: [(&str, Names); 9] = [
+    let shapes: [(&str, Names); 12] = [
         ("example", lists::example()),
         ("stops", lists::stops()),
+        ("longest first", lists::longest_of_three(0)),
+        ("longest in the middle", lists::longest_of_three(1)),
+        ("longest last", lists::longest_of_three(2)),
         ("pairs", lists::pairs(2000)),
         ("single bytes", lists::single_bytes()),
         ("fan", lists::fan(b"x")),
@@ -43,7 +46,10 @@ fn the_random_lists_are_sound_and_the_same_each_time() {
 #[test]
 fn a_fan_has_the_widest_node_and_a_binary_list_the_most_nodes() {
     assert_eq!(tree(&lists::fan(b"x")).unwrap().children.len(), 257);
-    assert_eq!(tree(&lists::binary(1860)).unwrap().nodes, 2 * 1860 - 1);
+    let most = lists::MOST_BINARY;
+    assert_eq!(tree(&lists::binary(most)).unwrap().nodes, 2 * most - 1);
+    let book = |count| book_of(1, &lists::binary(count)).len();
+    assert!(book(most) <= 65_535 && book(1680) <= 65_535 && book(1681) > 65_535);
 }
 
 #[test]

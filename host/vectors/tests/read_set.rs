@@ -88,26 +88,26 @@ fn the_edges_of_document_01_are_among_the_cases() {
     let cases = reading::SET.cases();
     for (purpose, expected) in [
         ("empty input: book 0, position 0, room 0", [2, 0, 0]),
-        ("worked example: book 85, position 2, room 13", [0, 13, 0]),
-        ("worked example: book 85, position 2, room 12", [4, 0, 0]),
-        ("worked example: book 85, position 3, room 300", [3, 0, 0]),
-        ("worked example: book 80, position 1, room 15", [0, 6, 0]),
-        ("3 before 4: book 85, position 3, room 0", [3, 0, 0]),
+        ("worked example: book 93, position 2, room 13", [0, 13, 0]),
+        ("worked example: book 93, position 2, room 12", [4, 0, 0]),
+        ("worked example: book 93, position 3, room 300", [3, 0, 0]),
+        ("worked example: book 88, position 1, room 15", [0, 6, 0]),
+        ("3 before 4: book 93, position 3, room 0", [3, 0, 0]),
         ("no names: book 16, position 0, room 9", [3, 0, 0]),
         (
-            "one name of 200 bytes: book 230, position 0, room 200",
+            "one name of 200 bytes: book 232, position 0, room 200",
             [0, 200, 0],
         ),
         (
-            "one name of 200 bytes: book 230, position 0, room 199",
+            "one name of 200 bytes: book 232, position 0, room 199",
             [4, 0, 0],
         ),
-        ("2,000 names: book 26209, position 1999, room 2", [0, 2, 0]),
+        ("2,000 names: book 30227, position 1999, room 2", [0, 2, 0]),
         (
-            "past 2,000 names: book 26209, position 2000, room 9",
+            "past 2,000 names: book 30227, position 2000, room 9",
             [3, 0, 0],
         ),
-        ("book of 65,535: book 65535, position 0, ", [0, 194, 0]),
+        ("book of 65,535: book 65535, position 0, ", [0, 192, 0]),
     ] {
         let found = cases
             .iter()

@@ -3,7 +3,7 @@
 //! They stand in the program crate that runs the proved library on them: each
 //! set's cases in its data folder, all expected lines in its file `stdout`.
 
-use model::{book_of, listing};
+use model::{book_of, listing, make_book, write_list};
 use std::fs;
 use std::path::{Path, PathBuf};
 use vectors::sets::LONGEST_FILE;
@@ -44,6 +44,15 @@ fn every_file_is_small_enough() {
         let length = set.case_file().len();
         assert!(length < LONGEST_FILE, "{}: {length}", set.name());
     }
+}
+
+#[test]
+fn the_stored_book_is_what_the_second_program_builds() {
+    let list = write_list(&lists::example());
+    let folder = program_folder("make_book");
+    assert_stored(&folder.join("stdin"), &list);
+    let book = make_book(&list).expect("a good list");
+    assert_stored(&folder.join("stdout"), &book);
 }
 
 #[test]

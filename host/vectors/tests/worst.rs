@@ -23,9 +23,9 @@ fn the_dearest_are_sound_and_as_large_as_they_say() {
         assert_sound(worst);
         assert_eq!(worst.names.len(), 2000);
     }
-    assert_eq!(check.book().len(), 64_813);
-    assert_eq!(question.book().len(), 31_748);
-    assert!(!chains(2000, 18, 1).fits(), "one more would be too long");
+    assert_eq!(check.book().len(), 64_628);
+    assert_eq!(question.book().len(), 36_148);
+    assert!(!chains(2000, 11, 1).fits(), "one more would be too long");
     // The name that the question comes to is the last of a block.
     let first = question.names.partition_point(|name| name.len() < 200);
     assert_eq!(first % question.block, question.block - 1);
