@@ -1,4 +1,4 @@
-//! A name read back and the four questions, of a book that passed the check.
+//! A name read back and the five questions, of a book that passed the check.
 
 use crate::bytes::{byte, leading_equal, part, put, two};
 use crate::checking::Parts;
@@ -26,6 +26,7 @@ enum Field {
     First,
     Names,
     Nodes,
+    Width,
 }
 
 /// The node with the names that share most with a question, how many bytes
@@ -261,6 +262,22 @@ impl<'lent> Sound<'lent> {
                 (place, 0)
             } else {
                 (place, self.field(spot.node, Field::Names))
+            }
+        }
+    }
+
+    /// The greatest length of the names that begin with the question, and a 0.
+    pub fn width(self, question: &[u8]) -> (usize, usize) {
+        if self.parts.names == 0 {
+            return (0, 0);
+        }
+        // SAFETY: there are names.
+        unsafe {
+            let spot = self.locate(question);
+            if spot.shared < question.len() {
+                (0, 0)
+            } else {
+                (self.field(spot.node, Field::Width), 0)
             }
         }
     }

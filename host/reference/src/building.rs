@@ -3,6 +3,7 @@
 use crate::bytes::{byte, is_above, leading_equal, part, put, put_two};
 use crate::calls::{refused, Answer};
 use crate::{LONGEST_NAME, MARK, MOST_NAMES, NODE, TRAILER};
+use core::mem::replace;
 
 /// What judging notes of each name: its length, and what it shares with the one
 /// before.
@@ -71,12 +72,14 @@ pub fn judge(list: &[u8], noted: &mut Noted) -> Result<(), Answer> {
 }
 
 /// A node of several names that is open on its left: how deep it is, where its
-/// names end, and how many records there were behind it.
+/// names end, how many records there were behind it, and how long the longest
+/// name of it so far is.
 #[derive(Clone, Copy, Default)]
 struct Open {
     depth: u16,
     end: u16,
     behind: u16,
+    width: u16,
 }
 
 /// Forks are open at depths that differ, from 0 to 199.
@@ -114,6 +117,13 @@ impl Open {
         put_two(room, at + 4, first);
         put_two(room, at + 6, usize::from(self.end) - first);
         put_two(room, at + 8, written - usize::from(self.behind));
+        put_two(room, at + 10, usize::from(self.width));
+    }
+
+    /// Takes a child in.
+    #[inline(always)]
+    fn widen(&mut self, child: Open) {
+        self.width = self.width.max(child.width);
     }
 }
 
@@ -231,6 +241,7 @@ impl Noted {
                 depth: length as u16 + 1,
                 end: position as u16 + 1,
                 behind: written as u16,
+                width: length as u16,
             };
             loop {
                 let above = innermost(&stack, depth);
@@ -242,7 +253,8 @@ impl Noted {
                     break;
                 }
                 depth -= 1;
-                node = *stack.get_unchecked(depth);
+                let child = replace(&mut node, *stack.get_unchecked(depth));
+                node.widen(child);
             }
             if innermost(&stack, depth) < shared {
                 *stack.get_unchecked_mut(depth) = Open {
@@ -250,6 +262,8 @@ impl Noted {
                     ..node
                 };
                 depth += 1;
+            } else if depth > 0 {
+                stack.get_unchecked_mut(depth - 1).widen(node);
             }
         }
     }

@@ -21,7 +21,7 @@ pub struct Answer {
 #[derive(Clone, Copy, Debug, PartialEq, Eq, Default)]
 #[repr(C)]
 pub struct Row {
-    /// 1 exact, 2 place, 3 range, 4 nearest.
+    /// 1 exact, 2 place, 3 range, 4 nearest, 5 width.
     pub kind: usize,
     /// Where the question begins in the buffer.
     pub start: usize,
@@ -124,6 +124,11 @@ pub fn book_nearest(book: &[u8], question: &[u8]) -> Answer {
     ask_book(book, 4, question)
 }
 
+/// Width: the greatest length of a name of the range. Refusals: 2, 1.
+pub fn book_width(book: &[u8], question: &[u8]) -> Answer {
+    ask_book(book, 5, question)
+}
+
 /// A single question.
 fn ask_book(book: &[u8], kind: usize, question: &[u8]) -> Answer {
     match sound(book) {
@@ -141,7 +146,8 @@ fn ask(sound: Sound, kind: usize, question: &[u8]) -> Answer {
         1 => Some(sound.exact(question)),
         2 => Some(sound.place(question)),
         3 => Some(sound.range(question)),
-        _ => sound.nearest(question),
+        4 => sound.nearest(question),
+        _ => Some(sound.width(question)),
     };
     match numbers {
         None => refused(10, 0),
@@ -162,7 +168,7 @@ pub fn book_batch(book: &[u8], questions: &[u8], rows: &[Row], answers: &mut [An
         let end = row.start.checked_add(row.length);
         let question = end.and_then(|end| questions.get(row.start..end));
         *answer = match question {
-            Some(question) if (1..=4).contains(&row.kind) => ask(sound, row.kind, question),
+            Some(question) if (1..=5).contains(&row.kind) => ask(sound, row.kind, question),
             _ => refused(11, 0),
         };
     }

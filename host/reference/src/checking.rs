@@ -165,13 +165,15 @@ unsafe fn entries_stand(book: &[u8], parts: Parts, shares: &mut [u8; MOST_NAMES]
 }
 
 /// A node of several names that is open: where its names begin and end, where
-/// its records end, and its depth.
+/// its records end, its depth, its width, and the greatest length so far.
 #[derive(Clone, Copy, Default)]
 struct Open {
     first: u16,
     end: u16,
     stop: u16,
     depth: u16,
+    width: u16,
+    greatest: u16,
 }
 
 /// Forks are open at depths that rise, from 0 to 199 at most.
@@ -197,7 +199,9 @@ unsafe fn number(book: &[u8], record: usize, place: usize) -> usize {
 /// It lies inside.
 #[inline(always)]
 unsafe fn is_leaf(book: &[u8], record: usize, length: usize) -> bool {
-    number(book, record, 1) == length + 1 && number(book, record, 4) == 1
+    number(book, record, 1) == length + 1
+        && number(book, record, 4) == 1
+        && number(book, record, 5) == length
 }
 
 /// The fork that stands here, if it is inside the open node, deeper than
@@ -220,6 +224,8 @@ unsafe fn fork(book: &[u8], record: usize, position: usize, open: Open) -> Optio
         end: end as u16,
         stop: stop as u16,
         depth: depth as u16,
+        width: number(book, record, 5) as u16,
+        greatest: 0,
     })
 }
 
@@ -255,6 +261,8 @@ unsafe fn root(book: &[u8], parts: Parts) -> Option<Open> {
         end: parts.names as u16,
         stop: (record + NODE * parts.nodes) as u16,
         depth: number(book, record, 1) as u16,
+        width: number(book, record, 5) as u16,
+        greatest: 0,
     })
 }
 
@@ -331,16 +339,18 @@ unsafe fn below_root(
             record += NODE;
         }
         let mut is_right = is_leaf(book, record, entry.length());
+        open.greatest = open.greatest.max(entry.length() as u16);
         record += NODE;
         position += 1;
         at += 2 + entry.rest.len();
         while is_right && usize::from(open.end) == position {
-            is_right = usize::from(open.stop) == record;
+            is_right = usize::from(open.stop) == record && open.greatest == open.width;
             if count == 0 {
                 return is_right.then_some(());
             }
             count -= 1;
-            open = *outer.get_unchecked(count);
+            let child = replace(&mut open, *outer.get_unchecked(count));
+            open.greatest = open.greatest.max(child.greatest);
         }
         if !is_right || u16::from(*shares.get_unchecked(position)) != open.depth {
             return None;

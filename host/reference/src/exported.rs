@@ -61,6 +61,11 @@ unsafe extern "C" fn book_nearest(b: *const u8, n: usize, q: *const u8, m: usize
 }
 
 #[no_mangle]
+unsafe extern "C" fn book_width(b: *const u8, n: usize, q: *const u8, m: usize) -> Answer {
+    crate::book_width(from_raw_parts(b, n), from_raw_parts(q, m))
+}
+
+#[no_mangle]
 unsafe extern "C" fn book_batch(
     book: *const u8,
     length: usize,

@@ -14,7 +14,7 @@
 //! | [`calls`] | the calls, each with its refusals in their order |
 //! | [`building`] | a list judged, then the four parts of its book |
 //! | [`checking`] | whether bytes are a book |
-//! | [`asking`] | a name read back and the four questions, of a book that passed |
+//! | [`asking`] | a name read back and the five questions, of a book that passed |
 //! | [`bytes`] | bytes and numbers at an offset, without a test |
 
 #![no_std]
@@ -30,7 +30,7 @@ mod exported;
 
 pub use calls::{
     book_batch, book_build, book_check, book_exact, book_nearest, book_place, book_range,
-    book_read, Answer, Row,
+    book_read, book_width, Answer, Row,
 };
 
 /// A name has 1 to 200 bytes, a question up to 200.
@@ -41,11 +41,11 @@ pub const MOST_NAMES: usize = 2000;
 pub const LARGEST_BLOCK: usize = 64;
 /// .. and at most 65,535 bytes.
 pub const LONGEST_BOOK: usize = 65_535;
-/// A node has five numbers of two bytes.
-pub const NODE: usize = 10;
+/// A node has six numbers of two bytes.
+pub const NODE: usize = 12;
 /// The last 16 bytes point back.
 pub const TRAILER: usize = 16;
 /// The last four of them.
-pub const MARK: [u8; 4] = *b"NBK1";
+pub const MARK: [u8; 4] = *b"NBK2";
 /// A path from the root has at most 202 nodes.
 pub const LONGEST_PATH: usize = 202;

@@ -52,7 +52,7 @@ fn same_answers(random: &mut Random, book: &[u8], names: &Names) {
     same_questions(book, &question);
 }
 
-/// A question in all four kinds.
+/// A question in all five kinds.
 fn same_questions(book: &[u8], question: &[u8]) {
     let kinds = [
         (
@@ -70,6 +70,10 @@ fn same_questions(book: &[u8], question: &[u8]) {
         (
             ours(reference::book_nearest(book, question)),
             theirs(model::book_nearest(book, question)),
+        ),
+        (
+            ours(reference::book_width(book, question)),
+            theirs(model::book_width(book, question)),
         ),
     ];
     for (one, other) in kinds {
@@ -107,7 +111,7 @@ fn builds_the_largest_books() {
     let lists = [
         lists::pairs(2000),
         lists::pairs(2001),
-        lists::binary(1860),
+        lists::binary(lists::MOST_BINARY),
         lists::long(300),
         lists::long(320),
         lists::with_book_length(&lists::binary(1800), 16, 65_535),
@@ -160,8 +164,9 @@ fn refuses_every_change_that_the_second_program_refuses() {
             damage::other_entries,
             damage::other_starts,
             damage::other_nodes,
+            damage::other_widths,
             damage::gaps,
-            damage::other_pieces,
+            damage::old_books,
         ] {
             spoilt.extend(change(&pieces));
         }
