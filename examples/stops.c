@@ -1,9 +1,10 @@
 /*
  * Three stops in a book, and what can be asked of it.
  *
- * The list, the book and the twelve questions are those of document 01, the
- * project's scope document. Every answer is held to the figures there: where
- * one differs, the program says so and its exit status is 1.
+ * The list, the book and the first twelve questions are those of document 01, the
+ * project's scope document; the widths are document 02's. Every answer is held to
+ * the figures there: where one differs, the program says so and its exit status
+ * is 1.
  *
  * run.sh compiles it, links it with the proved library and runs it.
  */
@@ -36,6 +37,9 @@ static const struct asked ASKED[] = {
     {MISTROGU_NEAREST, "Maxim", 1, 2},
     {MISTROGU_NEAREST, "Zoo", 0, 0},
     {MISTROGU_NEAREST, "M", 0, 1},
+    {MISTROGU_WIDTH, "", 13, 0},
+    {MISTROGU_WIDTH, "Mari", 6, 0},
+    {MISTROGU_WIDTH, "Mas", 0, 0},
 };
 
 /* How many answers were not the expected ones. */
@@ -74,6 +78,8 @@ static struct mistrogu_answer ask(const uint8_t *book, size_t length, size_t kin
         return book_place(book, length, bytes, strlen(question));
     case MISTROGU_RANGE:
         return book_range(book, length, bytes, strlen(question));
+    case MISTROGU_WIDTH:
+        return book_width(book, length, bytes, strlen(question));
     default:
         return book_nearest(book, length, bytes, strlen(question));
     }
@@ -103,6 +109,9 @@ static void tell(const struct asked *asked, struct mistrogu_answer answer)
         else
             printf("  range \"%s\": stops %zu to %zu\n", question, answer.first,
                    answer.first + answer.second - 1);
+        break;
+    case MISTROGU_WIDTH:
+        printf("  width \"%s\": %zu bytes\n", question, answer.first);
         break;
     default:
         printf("  nearest \"%s\": stop %zu, shared bytes: %zu\n", question,
@@ -140,7 +149,7 @@ static void ask_in_a_batch(const uint8_t *book, size_t length)
         memcpy(questions + used, ASKED[i].question, rows[i].length);
         used += rows[i].length;
     }
-    rows[i].kind = 5;
+    rows[i].kind = MISTROGU_WIDTH + 1;
     rows[i].start = 0;
     rows[i].length = 0;
 
@@ -154,8 +163,8 @@ static void ask_in_a_batch(const uint8_t *book, size_t length)
     for (i = 0; i < COUNT(ASKED); i++)
         tell(&ASKED[i], hold("a row of the batch", answers[i], 0, ASKED[i].first,
                              ASKED[i].second));
-    hold("the row of kind 5", answers[i], MISTROGU_BAD_ROW, 0, 0);
-    printf("  a row of kind 5: refused %zu\n", answers[i].code);
+    hold("the row of kind 6", answers[i], MISTROGU_BAD_ROW, 0, 0);
+    printf("  a row of kind 6: refused %zu\n", answers[i].code);
 
     hold("more rows than answers",
          book_batch(book, length, questions, used, rows, COUNT(rows), answers, 1),
@@ -168,7 +177,8 @@ static void be_refused(const uint8_t *list, size_t list_length, const uint8_t *b
 {
     static const uint8_t falling[] = "\003Mar\001M";
     static const uint8_t long_question[MISTROGU_LONGEST_NAME + 1] = {0};
-    uint8_t room[84];
+    uint8_t room[92];
+    uint8_t old[93];
     int before = differences;
     size_t i;
 
@@ -177,10 +187,13 @@ static void be_refused(const uint8_t *list, size_t list_length, const uint8_t *b
          MISTROGU_BAD_BLOCK_SIZE, 0, 0);
     hold("names that fall", book_build(falling, sizeof falling - 1, 2, room, sizeof room),
          MISTROGU_NOT_ABOVE, 1, 0);
-    hold("a room of 84 bytes", book_build(list, list_length, 2, room, sizeof room),
+    hold("a room of 92 bytes", book_build(list, list_length, 2, room, sizeof room),
          MISTROGU_ROOM_TOO_SHORT, 0, 0);
     hold("a book without its first byte", book_check(book + 1, length - 1),
          MISTROGU_NO_BOOK, 0, 0);
+    memcpy(old, book, sizeof old);
+    old[92] = '1';
+    hold("a book with the old mark", book_check(old, sizeof old), MISTROGU_NO_BOOK, 0, 0);
     hold("the name at 3", book_read(book, length, 3, room, sizeof room),
          MISTROGU_NO_SUCH_POSITION, 0, 0);
     hold("a name into 5 bytes", book_read(book, length, 1, room, 5),
@@ -195,7 +208,7 @@ static void be_refused(const uint8_t *list, size_t list_length, const uint8_t *b
         }
     }
     if (differences == before)
-        printf("seven calls were refused as they had to be\n");
+        printf("eight calls were refused as they had to be\n");
 }
 
 int main(void)
@@ -212,9 +225,9 @@ int main(void)
         list_length = append(list, list_length, STOPS[i]);
 
     hold("book_build, blocks of 4", book_build(list, list_length, 4, book, sizeof book),
-         0, 80, 0);
+         0, 88, 0);
     built = hold("book_build, blocks of 2",
-                 book_build(list, list_length, 2, book, sizeof book), 0, 85, 0);
+                 book_build(list, list_length, 2, book, sizeof book), 0, 93, 0);
     if (built.code != 0)
         return 1;
     printf("a book of %zu bytes\n", built.first);

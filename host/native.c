@@ -46,6 +46,7 @@ QUESTION(book_exact)
 QUESTION(book_place)
 QUESTION(book_range)
 QUESTION(book_nearest)
+QUESTION(book_width)
 
 struct answer book_batch(const byte *book, size book_length, const byte *questions, size questions_length, const struct row *rows,
                          size row_count, struct answer *answers, size answer_count) {

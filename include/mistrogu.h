@@ -103,7 +103,7 @@ enum mistrogu_refusal {
     MISTROGU_BOOK_TOO_LONG = 9,
     /* The nearest name was asked of a book without names. */
     MISTROGU_NO_NAMES = 10,
-    /* A row's kind is not 1 to 4, or its start plus length is past the buffer. */
+    /* A row's kind is not 1 to 5, or its start plus length is past the buffer. */
     MISTROGU_BAD_ROW = 11,
     /* The batch has over 64 rows, or unequal numbers of rows. */
     MISTROGU_BAD_BATCH = 12
@@ -114,7 +114,8 @@ enum mistrogu_kind {
     MISTROGU_EXACT = 1,
     MISTROGU_PLACE = 2,
     MISTROGU_RANGE = 3,
-    MISTROGU_NEAREST = 4
+    MISTROGU_NEAREST = 4,
+    MISTROGU_WIDTH = 5
 };
 
 /* What a call gives: 0 or the number of a refusal, and two numbers beside it. */
@@ -156,7 +157,8 @@ struct mistrogu_answer book_build(const uint8_t *list, size_t list_length,
 /*
  * Tells whether bytes are a book: exactly those that book_build writes for some
  * list and block size. All of the bytes count, so a book with one byte more is
- * none.
+ * none. A book ends with the mark 4E 42 4B 32; one that ends with 31 was built
+ * before nodes had widths, is none any more, and has to be built again.
  *
  * Accepted: (0, number of names, block size).
  * Refused: 2.
@@ -178,7 +180,7 @@ struct mistrogu_answer book_read(const uint8_t *book, size_t book_length,
     MISTROGU_NEVER_NULL;
 
 /*
- * The four questions. Each checks the whole book before it answers, and nearly
+ * The five questions. Each checks the whole book before it answers, and nearly
  * all of its time goes there: whoever has several questions asks a batch.
  */
 
@@ -223,6 +225,19 @@ struct mistrogu_answer book_range(const uint8_t *book, size_t book_length,
  */
 struct mistrogu_answer book_nearest(const uint8_t *book, size_t book_length,
                                     const uint8_t *question, size_t question_length)
+    MISTROGU_NEVER_NULL;
+
+/*
+ * Asks how many bytes the longest of the names has that begin with the question:
+ * how much space to keep for any of them. The empty question begins every name.
+ * No name of the range is read for it.
+ *
+ * Accepted: (0, that length, 0), with length 0 where no name begins with it, as in
+ * a book without names.
+ * Refused: 2, 1.
+ */
+struct mistrogu_answer book_width(const uint8_t *book, size_t book_length,
+                                  const uint8_t *question, size_t question_length)
     MISTROGU_NEVER_NULL;
 
 /*

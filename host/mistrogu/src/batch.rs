@@ -27,6 +27,8 @@ pub enum Reply {
     Range(Range<usize>),
     /// A name that shares most with it.
     Nearest(Nearest),
+    /// The length of the longest name that begins with it, 0 where none does.
+    Width(usize),
 }
 
 /// Reads what a batch wrote into the answer row of a question of this kind.
@@ -42,6 +44,7 @@ pub fn reply(kind: Kind, answer: Answer) -> Result<Reply, Refusal> {
         Kind::Place => Reply::Place(numbers.0),
         Kind::Range => Reply::Range(span(numbers)),
         Kind::Nearest => Reply::Nearest(near(numbers)),
+        Kind::Width => Reply::Width(numbers.0),
     })
 }
 
@@ -72,17 +75,19 @@ pub fn reply(kind: Kind, answer: Answer) -> Result<Reply, Refusal> {
 ///     row(Kind::Range, 0..3),
 ///     row(Kind::Exact, 0..5),
 ///     row(Kind::Exact, 0..6),
+///     row(Kind::Width, 0..6),
 ///     row(Kind::Place, 0..7),
 /// ];
-/// let mut answers = [Answer::default(); 5];
-/// assert_eq!(batch(book, questions, &rows, &mut answers), Ok(5));
+/// let mut answers = [Answer::default(); 6];
+/// assert_eq!(batch(book, questions, &rows, &mut answers), Ok(6));
 ///
 /// let nearest = Nearest { position: 0, shared: 1 };
 /// assert_eq!(reply(Kind::Nearest, answers[0]), Ok(Reply::Nearest(nearest)));
 /// assert_eq!(reply(Kind::Range, answers[1]), Ok(Reply::Range(0..3)));
 /// assert_eq!(reply(Kind::Exact, answers[2]), Ok(Reply::Exact(None)));
 /// assert_eq!(reply(Kind::Exact, answers[3]), Ok(Reply::Exact(Some(1))));
-/// assert_eq!(reply(Kind::Place, answers[4]), Err(Refusal::BadRow));
+/// assert_eq!(reply(Kind::Width, answers[4]), Ok(Reply::Width(6)));
+/// assert_eq!(reply(Kind::Place, answers[5]), Err(Refusal::BadRow));
 /// # Ok::<(), mistrogu::Refused>(())
 /// ```
 pub fn batch(

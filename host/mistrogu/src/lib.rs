@@ -15,6 +15,7 @@
 //! | know where a name would stand | [`place`] |
 //! | have the stops that begin with some letters | [`range`] |
 //! | have a stop as near as any to what was typed | [`nearest`] |
+//! | know how much space the stops that begin with some letters take | [`width`] |
 //! | ask many questions of one book | [`batch`] |
 //!
 //! ```
@@ -139,10 +140,10 @@ fn near((position, shared): (usize, usize)) -> Nearest {
 /// use mistrogu::{build, Refusal};
 ///
 /// let list = b"\x03Mar\x06Marina\x0DMarket Square";
-/// assert_eq!(build(list, 2, &mut [0; 85]), Ok(85));
-/// assert_eq!(build(list, 4, &mut [0; 85]), Ok(80));
+/// assert_eq!(build(list, 2, &mut [0; 93]), Ok(93));
+/// assert_eq!(build(list, 4, &mut [0; 93]), Ok(88));
 ///
-/// let refused = build(list, 2, &mut [0; 84]).unwrap_err();
+/// let refused = build(list, 2, &mut [0; 92]).unwrap_err();
 /// assert_eq!(refused.refusal, Refusal::RoomTooShort);
 /// ```
 pub fn build(list: &[u8], block: usize, room: &mut [u8]) -> Result<usize, Refused> {
@@ -281,4 +282,25 @@ pub fn range(book: &[u8], question: &[u8]) -> Result<Range<usize>, Refusal> {
 /// ```
 pub fn nearest(book: &[u8], question: &[u8]) -> Result<Nearest, Refusal> {
     accepted(proved::book_nearest(book, question)).map(near)
+}
+
+/// How many bytes the longest of the names has that begin with the question, so
+/// how much space a screen keeps for any of them. Where none does, as in a book
+/// without names, it is 0. An empty question begins every name.
+///
+/// Refused, in this order: [`NoBook`](Refusal::NoBook),
+/// [`QuestionTooLong`](Refusal::QuestionTooLong).
+///
+/// ```
+/// use mistrogu::{build, width};
+///
+/// let mut room = [0; 100];
+/// let length = build(b"\x03Mar\x06Marina", 16, &mut room)?;
+/// assert_eq!(width(&room[..length], b"Ma"), Ok(6));
+/// assert_eq!(width(&room[..length], b"Mas"), Ok(0));
+/// # Ok::<(), mistrogu::Refused>(())
+/// ```
+pub fn width(book: &[u8], question: &[u8]) -> Result<usize, Refusal> {
+    let (width, _) = accepted(proved::book_width(book, question))?;
+    Ok(width)
 }

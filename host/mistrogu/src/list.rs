@@ -16,7 +16,7 @@ use crate::{Refusal, LONGEST_NAME};
 /// assert_eq!(list.records(), b"\x03Mar\x06Marina\x0DMarket Square");
 ///
 /// let mut book = [0; 100];
-/// assert_eq!(build(list.records(), 2, &mut book), Ok(85));
+/// assert_eq!(build(list.records(), 2, &mut book), Ok(93));
 /// # Ok::<(), mistrogu::Refusal>(())
 /// ```
 #[derive(Debug)]

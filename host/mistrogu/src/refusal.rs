@@ -33,7 +33,7 @@ pub enum Refusal {
     BookTooLong = 9,
     /// The nearest name was asked of a book without names.
     NoNames = 10,
-    /// A row's kind is not 1 to 4, or its start plus length is past the buffer.
+    /// A row's kind is not 1 to 5, or its start plus length is past the buffer.
     BadRow = 11,
     /// The batch has over 64 rows, or unequal numbers of rows.
     BadBatch = 12,
@@ -88,7 +88,7 @@ impl Refusal {
             Refusal::BookTooLong => "the book would be longer than 65,535 bytes",
             Refusal::NoNames => "the nearest name was asked of a book without names",
             Refusal::BadRow => {
-                "a row's kind is not 1 to 4, or its start plus length is past the buffer"
+                "a row's kind is not 1 to 5, or its start plus length is past the buffer"
             }
             Refusal::BadBatch => "the batch has over 64 rows, or unequal numbers of rows",
         }

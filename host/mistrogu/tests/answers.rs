@@ -1,13 +1,13 @@
 //! Document 01's book through the typed calls, one by one and in a batch.
 
 use mistrogu::{
-    batch, build, check, exact, nearest, place, range, read, reply, row, Answer, Checked, Kind,
-    List, Nearest, Refusal, Reply,
+    batch, build, check, exact, nearest, place, range, read, reply, row, width, Answer, Checked,
+    Kind, List, Nearest, Refusal, Reply,
 };
 
 const STOPS: [&str; 3] = ["Mar", "Marina", "Market Square"];
 
-/// Document 01's book, of 85 bytes.
+/// Document 01's book, of 93 bytes.
 fn book() -> Vec<u8> {
     let mut lent = [0; 100];
     let mut list = List::new(&mut lent);
@@ -27,8 +27,8 @@ fn no_names() -> Vec<u8> {
     room
 }
 
-/// Document 01's twelve questions and what they get.
-fn asked() -> [(&'static str, Reply); 12] {
+/// Document 01's twelve questions, some of document 02's kind, and what they get.
+fn asked() -> [(&'static str, Reply); 16] {
     let near = |position, shared| Reply::Nearest(Nearest { position, shared });
     [
         ("Marina", Reply::Exact(Some(1))),
@@ -43,6 +43,10 @@ fn asked() -> [(&'static str, Reply); 12] {
         ("Maxim", near(1, 2)),
         ("Zoo", near(0, 0)),
         ("M", near(0, 1)),
+        ("", Reply::Width(13)),
+        ("Mar", Reply::Width(13)),
+        ("Mari", Reply::Width(6)),
+        ("Mas", Reply::Width(0)),
     ]
 }
 
@@ -53,6 +57,7 @@ fn kind(reply: &Reply) -> Kind {
         Reply::Place(_) => Kind::Place,
         Reply::Range(_) => Kind::Range,
         Reply::Nearest(_) => Kind::Nearest,
+        Reply::Width(_) => Kind::Width,
     }
 }
 
@@ -63,13 +68,14 @@ fn ask(kind: Kind, book: &[u8], question: &[u8]) -> Result<Reply, Refusal> {
         Kind::Place => place(book, question).map(Reply::Place),
         Kind::Range => range(book, question).map(Reply::Range),
         Kind::Nearest => nearest(book, question).map(Reply::Nearest),
+        Kind::Width => width(book, question).map(Reply::Width),
     }
 }
 
 #[test]
 fn the_book_is_checked_and_its_names_are_read() {
     let book = book();
-    assert_eq!(book.len(), 85);
+    assert_eq!(book.len(), 93);
     let checked = check(&book).unwrap();
     assert_eq!(checked, Checked { names: 3, block: 2 });
     for (position, stop) in STOPS.iter().enumerate() {
@@ -90,10 +96,11 @@ fn the_book_without_names_has_16_bytes() {
     assert_eq!(exact(&book, b"Mar"), Ok(None));
     assert_eq!(place(&book, b"Mar"), Ok(0));
     assert_eq!(range(&book, b""), Ok(0..0));
+    assert_eq!(width(&book, b""), Ok(0));
 }
 
 #[test]
-fn the_twelve_questions_are_answered_alone_and_in_a_batch() {
+fn the_questions_are_answered_alone_and_in_a_batch() {
     let book = book();
     let (mut questions, mut rows) = (Vec::new(), Vec::new());
     for (question, expected) in asked() {
@@ -107,10 +114,26 @@ fn the_twelve_questions_are_answered_alone_and_in_a_batch() {
         questions.extend_from_slice(question.as_bytes());
         rows.push(row(kind, start..questions.len()));
     }
-    let mut answers = [Answer::default(); 12];
-    assert_eq!(batch(&book, &questions, &rows, &mut answers), Ok(12));
+    let mut answers = [Answer::default(); 16];
+    assert_eq!(batch(&book, &questions, &rows, &mut answers), Ok(16));
     for (answer, (question, expected)) in answers.into_iter().zip(asked()) {
         assert_eq!(reply(kind(&expected), answer), Ok(expected), "{question}");
+    }
+}
+
+#[test]
+fn the_longest_name_counts_wherever_it_stands_and_only_in_its_range() {
+    for list in [
+        &b"\x05Maaaa\x02Mb\x03Mcc\x06Nooooo"[..],
+        b"\x02Ma\x05Mbbbb\x03Mcc\x06Nooooo",
+        b"\x02Ma\x03Mbb\x05Mcccc\x06Nooooo",
+    ] {
+        let mut room = [0; 150];
+        let length = build(list, 2, &mut room).unwrap();
+        let book = &room[..length];
+        assert_eq!(width(book, b"M"), Ok(5));
+        assert_eq!(width(book, b""), Ok(6));
+        assert_eq!(width(book, b"Md"), Ok(0));
     }
 }
 
@@ -132,18 +155,25 @@ fn a_batch_may_have_no_rows_and_64_rows() {
 
 #[test]
 fn bytes_from_0_to_255_are_ordinary() {
-    let mut room = [0; 100];
+    let mut room = [0; 150];
     let length = build(b"\x01\x00\x02\x00\x00\x01\xFF\x02\xFF\xFF", 16, &mut room).unwrap();
     let book = &room[..length];
     assert_eq!(range(book, b"\x00"), Ok(0..2));
     assert_eq!(range(book, b"\xFF"), Ok(2..4));
     assert_eq!(place(book, b"\xFF\xFF\xFF"), Ok(4));
+    assert_eq!(width(book, b"\xFF"), Ok(2));
     assert_eq!(read(book, 1, &mut [0; 2]), Ok(&b"\x00\x00"[..]));
 }
 
 #[test]
-fn kinds_have_the_numbers_1_to_4() {
-    let kinds = [Kind::Exact, Kind::Place, Kind::Range, Kind::Nearest];
+fn kinds_have_the_numbers_1_to_5() {
+    let kinds = [
+        Kind::Exact,
+        Kind::Place,
+        Kind::Range,
+        Kind::Nearest,
+        Kind::Width,
+    ];
     for (kind, number) in kinds.into_iter().zip(1..) {
         assert_eq!(kind.number(), number);
         assert_eq!(Kind::from_number(number), Some(kind));
@@ -151,7 +181,7 @@ fn kinds_have_the_numbers_1_to_4() {
         assert_eq!((row.kind, row.start, row.length), (number, 3, 4));
     }
     assert_eq!(Kind::from_number(0), None);
-    assert_eq!(Kind::from_number(5), None);
+    assert_eq!(Kind::from_number(6), None);
 }
 
 #[test]

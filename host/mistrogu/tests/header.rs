@@ -73,7 +73,7 @@ fn limits() {
 #[test]
 fn calls() {
     for call in [
-        "build", "check", "read", "exact", "place", "range", "nearest", "batch",
+        "build", "check", "read", "exact", "place", "range", "nearest", "width", "batch",
     ] {
         let declared = format!("struct mistrogu_answer book_{call}(const uint8_t *");
         assert_eq!(HEADER.matches(&declared).count(), 1, "{call}");

@@ -2,8 +2,8 @@
 //! changed.
 
 use mistrogu::{
-    batch, build, check, exact, nearest, place, range, read, reply, row, Answer, Kind, Refusal,
-    Refused, Row,
+    batch, build, check, exact, nearest, place, range, read, reply, row, width, Answer, Kind,
+    Refusal, Refused, Row,
 };
 
 const LIST: &[u8] = b"\x03Mar\x06Marina\x0DMarket Square";
@@ -81,8 +81,8 @@ fn a_build_is_refused_with_9_then_4() {
         })
         .collect();
     build_refused(&long, 2, 0, Refusal::BookTooLong, 0);
-    build_refused(LIST, 2, 84, Refusal::RoomTooShort, 0);
-    assert_eq!(build(LIST, 2, &mut [0; 85]), Ok(85));
+    build_refused(LIST, 2, 92, Refusal::RoomTooShort, 0);
+    assert_eq!(build(LIST, 2, &mut [0; 93]), Ok(93));
 }
 
 #[test]
@@ -94,6 +94,9 @@ fn a_check_is_refused_with_2() {
     let mut spoilt = book.clone();
     spoilt[30] = 1;
     assert_eq!(check(&spoilt), refused);
+    let mut old = book.clone();
+    old[92] = b'1';
+    assert_eq!(check(&old), refused, "the old mark");
     let mut longer = book;
     longer.push(0);
     assert_eq!(check(&longer), refused);
@@ -122,6 +125,7 @@ fn a_question_is_refused_with_2_then_1_then_10() {
     assert_eq!(place(&book[1..], &LONG), Err(refused));
     assert_eq!(range(&book[1..], &LONG), Err(refused));
     assert_eq!(nearest(&book[1..], &LONG), Err(refused));
+    assert_eq!(width(&book[1..], &LONG), Err(refused));
 
     let refused = Refusal::QuestionTooLong;
     for book in [&book, &no_names] {
@@ -129,11 +133,13 @@ fn a_question_is_refused_with_2_then_1_then_10() {
         assert_eq!(place(book, &LONG), Err(refused));
         assert_eq!(range(book, &LONG), Err(refused));
         assert_eq!(nearest(book, &LONG), Err(refused));
+        assert_eq!(width(book, &LONG), Err(refused));
     }
     assert_eq!(exact(&book, &LONG[1..]), Ok(None));
 
     assert_eq!(nearest(&no_names, b"Mar"), Err(Refusal::NoNames));
     assert_eq!(exact(&no_names, b"Mar"), Ok(None));
+    assert_eq!(width(&no_names, b"Mar"), Ok(0));
 }
 
 #[test]
@@ -168,7 +174,7 @@ fn a_row_is_refused_with_11_then_1_then_10_and_the_others_go_on() {
     };
     let cases = [
         (raw(0, 0, 0), Err(11)),
-        (raw(5, 0, 0), Err(11)),
+        (raw(6, 0, 0), Err(11)),
         (raw(usize::MAX, 0, 0), Err(11)),
         (raw(4, 0, 202), Err(11)),
         (raw(1, 202, 0), Err(11)),
@@ -180,10 +186,12 @@ fn a_row_is_refused_with_11_then_1_then_10_and_the_others_go_on() {
         (raw(4, 201, 0), Err(10)),
         (raw(1, 0, 200), Ok(())),
         (raw(3, 201, 0), Ok(())),
+        (raw(5, 0, 201), Err(1)),
+        (raw(5, 0, 200), Ok(())),
     ];
     let rows = cases.map(|(row, _)| row);
-    let mut answers = [Answer::default(); 13];
-    assert_eq!(batch(&no_names, &LONG, &rows, &mut answers), Ok(13));
+    let mut answers = [Answer::default(); 15];
+    assert_eq!(batch(&no_names, &LONG, &rows, &mut answers), Ok(15));
     for ((row, expected), answer) in cases.into_iter().zip(answers) {
         let kind = Kind::from_number(row.kind).unwrap_or(Kind::Exact);
         let replied = reply(kind, answer).map(|_| ());

@@ -35,7 +35,7 @@ fn hostile_books() -> Vec<Lent> {
 /// Lists of the deepest, the widest and the largest books.
 fn extreme_lists() -> [(&'static str, Names); 6] {
     let deepest = [lists::chain(b'a', 200), lists::texts(&["b"])].concat();
-    let largest = lists::with_book_length(&lists::binary(1860), 16, LONGEST_BOOK);
+    let largest = lists::with_book_length(&lists::binary(2000), 16, LONGEST_BOOK);
     [
         ("chain", deepest),
         ("mirror", lists::mirror(b'a', b'b', 200)),
@@ -54,12 +54,13 @@ fn say(call: &str, about: &str) {
 /// A call that asks a question.
 type Ask = fn(&[u8], &[u8]) -> Answer;
 
-/// The four questions.
-const ASKS: [(&str, Ask); 4] = [
+/// The five questions.
+const ASKS: [(&str, Ask); 5] = [
     ("exact", proved::book_exact),
     ("place", proved::book_place),
     ("range", proved::book_range),
     ("nearest", proved::book_nearest),
+    ("width", proved::book_width),
 ];
 
 /// Makes every call that takes a book.
@@ -89,7 +90,7 @@ fn call_with_book(lent: &Lent, fence: Fence) {
 /// Asks 64 questions at once: parts of this one, in all kinds.
 fn batch(book: &[u8], questions: &Fenced<u8>, fence: Fence) -> Answer {
     let row = |number: usize| Row {
-        kind: 1 + number % 4,
+        kind: 1 + number % 5,
         start: number,
         length: LONGEST_NAME - 2 * number,
     };

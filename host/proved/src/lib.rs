@@ -30,7 +30,7 @@ pub struct Answer {
 #[repr(C)]
 #[derive(Clone, Copy, Debug, PartialEq, Eq, Default)]
 pub struct Row {
-    /// 1 exact, 2 place, 3 range, 4 nearest.
+    /// 1 exact, 2 place, 3 range, 4 nearest, 5 width.
     pub kind: usize,
     /// Where the question begins in the buffer.
     pub start: usize,
@@ -107,6 +107,14 @@ pub fn book_nearest(book: &[u8], question: &[u8]) -> Answer {
     // SAFETY: each pointer comes with the length of its own slice, and nothing
     // is written.
     unsafe { raw::book_nearest(book.as_ptr(), book.len(), question.as_ptr(), question.len()) }
+}
+
+/// Asks how long the longest name is that begins with the question: (0, its
+/// length, 0), with length 0 where no name does, or refusal 2 or 1.
+pub fn book_width(book: &[u8], question: &[u8]) -> Answer {
+    // SAFETY: each pointer comes with the length of its own slice, and nothing
+    // is written.
+    unsafe { raw::book_width(book.as_ptr(), book.len(), question.as_ptr(), question.len()) }
 }
 
 /// Asks a batch: (0, how many rows it has, 0), and each answer row is what its

@@ -67,6 +67,8 @@ exported! {
     fn book_range(book: *const u8, book_len: usize, question: *const u8, question_len: usize);
     /// Asks for a name that shares most with a question.
     fn book_nearest(book: *const u8, book_len: usize, question: *const u8, question_len: usize);
+    /// Asks how long the longest name is that begins with a question.
+    fn book_width(book: *const u8, book_len: usize, question: *const u8, question_len: usize);
     /// Asks a batch of questions.
     fn book_batch(
         book: *const u8,

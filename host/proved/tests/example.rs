@@ -3,7 +3,7 @@
 
 use proved::{
     book_batch, book_build, book_check, book_exact, book_nearest, book_place, book_range,
-    book_read, Answer, Row,
+    book_read, book_width, Answer, Row,
 };
 
 const LIST: &[u8] = b"\x03Mar\x06Marina\x0DMarket Square";
@@ -19,36 +19,40 @@ fn answer(code: usize, first: usize, second: usize) -> Answer {
 
 #[test]
 fn the_book_of_document_01_is_built() {
-    let mut room = [0xAA; 90];
-    assert_eq!(book_build(LIST, 2, &mut room), answer(0, 85, 0));
+    let mut room = [0xAA; 98];
+    assert_eq!(book_build(LIST, 2, &mut room), answer(0, 93, 0));
     assert_eq!(&room[..15], b"\0\x03Mar\x03\x03ina\0\x0DMar");
     assert_eq!(
-        &room[69..85],
-        b"\x03\0\x02\0\x19\0\x1D\0\x04\0\x55\0\x4E\x42\x4B\x31"
+        &room[29..53],
+        b"\0\0\x03\0\0\0\x03\0\x04\0\x0D\0\0\0\x04\0\0\0\x01\0\x01\0\x03\0"
     );
-    assert_eq!(room[85..], [0xAA; 5]);
+    assert_eq!(
+        &room[77..93],
+        b"\x03\0\x02\0\x19\0\x1D\0\x04\0\x5D\0\x4E\x42\x4B\x32"
+    );
+    assert_eq!(room[93..], [0xAA; 5]);
 }
 
 #[test]
 fn a_refused_call_leaves_the_room_as_it_was() {
-    let mut room = [0xAA; 84];
+    let mut room = [0xAA; 92];
     assert_eq!(book_build(LIST, 2, &mut room), answer(4, 0, 0));
     assert_eq!(book_build(LIST, 65, &mut room), answer(8, 0, 0));
     assert_eq!(book_build(b"\x01b\x01a", 2, &mut room), answer(6, 1, 0));
-    assert_eq!(room, [0xAA; 84]);
+    assert_eq!(room, [0xAA; 92]);
 }
 
-/// The book of 85 bytes.
-fn book() -> [u8; 85] {
-    let mut room = [0; 85];
-    assert_eq!(book_build(LIST, 2, &mut room), answer(0, 85, 0));
+/// The book of 93 bytes.
+fn book() -> [u8; 93] {
+    let mut room = [0; 93];
+    assert_eq!(book_build(LIST, 2, &mut room), answer(0, 93, 0));
     room
 }
 
-/// The book of 80 bytes: the same names, in one block.
-fn book_by_4() -> [u8; 80] {
-    let mut room = [0; 80];
-    assert_eq!(book_build(LIST, 4, &mut room), answer(0, 80, 0));
+/// The book of 88 bytes: the same names, in one block.
+fn book_by_4() -> [u8; 88] {
+    let mut room = [0; 88];
+    assert_eq!(book_build(LIST, 4, &mut room), answer(0, 88, 0));
     room
 }
 
@@ -60,6 +64,17 @@ fn the_book_of_document_01_is_checked() {
     assert_eq!(book_check(&spoilt), answer(2, 0, 0));
     assert_eq!(book_check(&book()[1..]), answer(2, 0, 0));
     assert_eq!(book_check(&[]), answer(2, 0, 0));
+}
+
+#[test]
+fn a_wrong_width_and_the_old_mark_are_refused() {
+    // The root's sixth field, that of Mar's leaf, and the last byte of the mark.
+    for (at, wrong) in [(39, 3), (39, 12), (39, 14), (51, 2), (51, 4), (92, b'1')] {
+        let mut spoilt = book();
+        spoilt[at] = wrong;
+        assert_eq!(book_check(&spoilt), answer(2, 0, 0), "{wrong} at {at}");
+        assert_eq!(book_width(&spoilt, b"Mar"), answer(2, 0, 0));
+    }
 }
 
 #[test]
@@ -111,8 +126,25 @@ fn the_twelve_rows_of_document_01_are_answered() {
 }
 
 #[test]
+fn the_width_of_a_range_is_its_longest_name() {
+    let rows = [
+        ("", 13),
+        ("Mar", 13),
+        ("Mari", 6),
+        ("Marina", 6),
+        ("Mas", 0),
+    ];
+    for (question, width) in rows {
+        for book in [&book()[..], &book_by_4()] {
+            let answered = book_width(book, question.as_bytes());
+            assert_eq!(answered, answer(0, width, 0), "{question}");
+        }
+    }
+}
+
+#[test]
 fn a_question_is_refused_with_2_then_1_then_10() {
-    let asks: [Ask; 4] = [book_exact, book_place, book_range, book_nearest];
+    let asks: [Ask; 5] = [book_exact, book_place, book_range, book_width, book_nearest];
     let mut no_names = [0; 16];
     assert_eq!(book_build(&[], 2, &mut no_names), answer(0, 16, 0));
     let long = [b'M'; 201];
@@ -122,7 +154,7 @@ fn a_question_is_refused_with_2_then_1_then_10() {
         assert_eq!(ask(&book(), &long[1..]).code, 0);
         assert_eq!(ask(&no_names, &long), answer(1, 0, 0));
     }
-    for ask in &asks[..3] {
+    for ask in &asks[..4] {
         assert_eq!(ask(&no_names, b"Mar"), answer(0, 0, 0));
     }
     assert_eq!(book_nearest(&no_names, b"Mar"), answer(10, 0, 0));
@@ -175,16 +207,24 @@ fn the_twelve_rows_of_document_01_are_answered_as_one_batch() {
 fn a_refused_row_does_not_end_its_batch() {
     let rows = [
         row(1, 0, 3),
-        row(5, 0, 3),
+        row(6, 0, 3),
         row(3, 3, 1),
         row(3, usize::MAX, 4),
         row(2, 3, 0),
+        row(5, 0, 3),
     ];
-    let mut answers = [UNSET; 5];
+    let mut answers = [UNSET; 6];
     let answered = book_batch(&book(), b"Mar", &rows, &mut answers);
-    assert_eq!(answered, answer(0, 5, 0));
+    assert_eq!(answered, answer(0, 6, 0));
     let refused = answer(11, 0, 0);
-    let expected = [answer(0, 0, 1), refused, refused, refused, answer(0, 0, 0)];
+    let expected = [
+        answer(0, 0, 1),
+        refused,
+        refused,
+        refused,
+        answer(0, 0, 0),
+        answer(0, 13, 0),
+    ];
     assert_eq!(answers, expected);
 }
 
