@@ -1,4 +1,4 @@
-//! Random calls of the four questions.
+//! Random calls of the five questions.
 
 use crate::books::any_book;
 use crate::lent::{hex, lend};
@@ -27,6 +27,11 @@ pub fn range(random: &mut Random) -> Result<usize, String> {
 /// The same of `book_nearest`.
 pub fn nearest(random: &mut Random) -> Result<usize, String> {
     run(random, model::book_nearest, proved::book_nearest)
+}
+
+/// The same of `book_width`.
+pub fn width(random: &mut Random) -> Result<usize, String> {
+    run(random, model::book_width, proved::book_width)
 }
 
 /// A call that asks a question of a book.

@@ -42,7 +42,7 @@ pub struct Kind {
 }
 
 /// Every kind of call, as often as the others.
-const KINDS: [Kind; 8] = [
+const KINDS: [Kind; 9] = [
     Kind {
         name: "build",
         run: building::run,
@@ -70,6 +70,10 @@ const KINDS: [Kind; 8] = [
     Kind {
         name: "nearest",
         run: asking::nearest,
+    },
+    Kind {
+        name: "width",
+        run: asking::width,
     },
     Kind {
         name: "batch",

@@ -130,7 +130,7 @@ fn as_many_as_can_be(random: &mut Random) -> Names {
 /// A book of about 65,535 bytes, sometimes more.
 fn as_large_as_can_be(random: &mut Random, block: usize) -> Names {
     let wanted = random.between(65_533, 65_538);
-    let count = random.between(500, 1800);
+    let count = random.between(500, 1650);
     let names = match random.below(3) {
         0 => lists::binary(count),
         1 => lists::pairs(count),
