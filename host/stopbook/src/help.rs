@@ -9,7 +9,7 @@ stopbook: books of stop names, built, checked, listed and asked by the proved li
 
   stopbook build NAMES.txt [-o BOOK] [--block K]   make a book from a list of names
   stopbook list BOOK [--from N] [--count N]        print its names with their numbers
-  stopbook ask BOOK [KIND QUESTION]                ask it: exact, place, range, nearest
+  stopbook ask BOOK [KIND QUESTION]                ask it: exact, place, range, nearest, width
   stopbook check BOOK                              say whether it is a book
   stopbook tree BOOK [--svg FILE | --dot FILE]     draw its tree
 
@@ -69,14 +69,15 @@ Asks a book one question of at most 200 bytes:
   place     where does it stand, or where would it?
   range     which names begin with it?
   nearest   which name shares the longest beginning with it? The shared part is in brackets.
+  width     how many bytes has the longest of the names that begin with it?
 
 Without a question, lines of standard input are asked, a kind, a blank and a question on
 each: 64 at a time, or each at once from a terminal.
 
   --limit N   of a range, print so many names at most; without it 20
 
-The exit status is 1 where exact or range find nothing or the question is refused; for
-lines of standard input, where a line is refused.
+The exit status is 1 where exact, range or width find nothing or the question is refused;
+for lines of standard input, where a line is refused.
 
 Examples:
 
@@ -100,8 +101,9 @@ Example:
 pub const TREE: &str = "\
 stopbook tree BOOK [--svg FILE | --dot FILE] [--limit N]
 
-Draws the node table of a book: the letters that lead to each node, its number, its depth
-and its names. Without a file it is indented text on standard output.
+Draws the node table of a book: the letters that lead to each node, its number, its depth,
+its width, which is how many bytes its longest name has, and its names. Without a file it
+is indented text on standard output.
 
   --svg FILE   a picture, for a light or a dark page
   --dot FILE   the same in the DOT language

@@ -1,4 +1,4 @@
-//! Document 01's layout, read from the bytes of a book.
+//! The layout of documents 01 and 02, read from the bytes of a book.
 //!
 //! Here stands what no call of the library gives: the numbers of the trailer,
 //! the stored counts of the entries, and the node table. It is meant for bytes
@@ -35,6 +35,8 @@ pub struct Node {
     pub names: usize,
     /// How many nodes stand from it on, itself and all below.
     pub nodes: usize,
+    /// How many bytes its longest name has.
+    pub width: usize,
 }
 
 /// The number of two bytes at an offset.
@@ -81,8 +83,12 @@ fn node(bytes: &[u8], at: usize) -> Option<Node> {
         first: number(bytes, at + 4)?,
         names: number(bytes, at + 6)?,
         nodes: number(bytes, at + 8)?,
+        width: number(bytes, at + 10)?,
     })
 }
+
+/// The mark of books from before nodes had widths.
+const OLD_MARK: &[u8] = b"NBK1";
 
 /// What can be said at a glance of bytes that are no book, and what to do.
 pub fn why_no_book(bytes: &[u8]) -> String {
@@ -93,6 +99,10 @@ pub fn why_no_book(bytes: &[u8]) -> String {
     } else if length > LONGEST_BOOK {
         let most = grouped(LONGEST_BOOK);
         format!("it has more than {most} bytes, the most of a book")
+    } else if bytes.ends_with(OLD_MARK) {
+        "it was built before nodes had widths, and such books are no longer taken; \
+         build it again from its names"
+            .to_string()
     } else if !bytes.ends_with(&MARK) {
         "it does not end with a book's mark; stopbook build makes a book of names".to_string()
     } else if told != length {
@@ -106,14 +116,14 @@ pub fn why_no_book(bytes: &[u8]) -> String {
 pub mod tests {
     use super::*;
 
-    /// The 85 bytes of document 01.
+    /// The 93 bytes of document 01's book, as document 02 has them.
     pub const EXAMPLE: &[u8] = b"\x00\x03Mar\x03\x03ina\x00\x0DMarket Square\
         \x00\x00\x0A\x00\
-        \x00\x00\x03\x00\x00\x00\x03\x00\x04\x00\
-        \x00\x00\x04\x00\x00\x00\x01\x00\x01\x00\
-        \x6A\x00\x07\x00\x01\x00\x01\x00\x01\x00\
-        \x6C\x00\x0E\x00\x02\x00\x01\x00\x01\x00\
-        \x03\x00\x02\x00\x19\x00\x1D\x00\x04\x00\x55\x00\x4E\x42\x4B\x31";
+        \x00\x00\x03\x00\x00\x00\x03\x00\x04\x00\x0D\x00\
+        \x00\x00\x04\x00\x00\x00\x01\x00\x01\x00\x03\x00\
+        \x6A\x00\x07\x00\x01\x00\x01\x00\x01\x00\x06\x00\
+        \x6C\x00\x0E\x00\x02\x00\x01\x00\x01\x00\x0D\x00\
+        \x03\x00\x02\x00\x19\x00\x1D\x00\x04\x00\x5D\x00\x4E\x42\x4B\x32";
 
     #[test]
     fn the_trailer_of_document_01_is_read() {
@@ -121,7 +131,7 @@ pub mod tests {
             blocks_at: 25,
             nodes_at: 29,
             nodes: 4,
-            total: 85,
+            total: 93,
         };
         assert_eq!(trailer(EXAMPLE), Some(expected));
     }
@@ -134,17 +144,18 @@ pub mod tests {
     #[test]
     fn the_nodes_of_document_01_are_read() {
         let rows = [
-            (0, 3, 0, 3, 4),
-            (0, 4, 0, 1, 1),
-            (106, 7, 1, 1, 1),
-            (108, 14, 2, 1, 1),
+            (0, 3, 0, 3, 4, 13),
+            (0, 4, 0, 1, 1, 3),
+            (106, 7, 1, 1, 1, 6),
+            (108, 14, 2, 1, 1, 13),
         ];
-        let expected = rows.map(|(symbol, depth, first, names, nodes)| Node {
+        let expected = rows.map(|(symbol, depth, first, names, nodes, width)| Node {
             symbol,
             depth,
             first,
             names,
             nodes,
+            width,
         });
         let trailer = trailer(EXAMPLE).unwrap();
         assert_eq!(nodes(EXAMPLE, &trailer), Some(expected.to_vec()));
@@ -152,10 +163,10 @@ pub mod tests {
 
     #[test]
     fn bytes_that_are_cut_short_give_nothing() {
-        assert_eq!(trailer(&EXAMPLE[70..]), None);
+        assert_eq!(trailer(&EXAMPLE[78..]), None);
         assert_eq!(stored_counts(&EXAMPLE[..11], 3), None);
         let trailer = trailer(EXAMPLE).unwrap();
-        assert_eq!(nodes(&EXAMPLE[..68], &trailer), None);
+        assert_eq!(nodes(&EXAMPLE[..76], &trailer), None);
     }
 
     #[test]
@@ -175,9 +186,11 @@ pub mod tests {
         assert!(why_no_book(b"Mar").contains("3 bytes"));
         assert!(why_no_book(&[0; 65_536]).contains("65,535"));
         assert!(why_no_book(&[0; 20]).contains("mark"));
-        assert!(why_no_book(&EXAMPLE[1..]).contains("85 bytes, and it has 84"));
+        assert!(why_no_book(&EXAMPLE[1..]).contains("93 bytes, and it has 92"));
         let mut changed = EXAMPLE.to_vec();
         changed[30] = 1;
         assert!(why_no_book(&changed).contains("damaged"));
+        changed[92] = b'1';
+        assert!(why_no_book(&changed).contains("build it again from its names"));
     }
 }

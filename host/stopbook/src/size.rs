@@ -2,7 +2,7 @@
 //!
 //! The library says only that a book would pass 65,535 bytes; here is by how
 //! much, and which block size would help. Document 01's layout decides:
-//! entries, two bytes for each block, ten for each node, and 16.
+//! entries, two bytes for each block, twelve for each node, and 16.
 
 use format::{NODE, TRAILER};
 use mistrogu::{LARGEST_BLOCK, LONGEST_BOOK};
@@ -102,25 +102,25 @@ mod tests {
         let expected = Size {
             entries: 25,
             blocks: 4,
-            nodes: 40,
+            nodes: 48,
         };
         assert_eq!(size(&example, 2), expected);
-        assert_eq!(size(&example, 2).total(), 85);
-        assert_eq!(size(&example, 4).total(), 80);
+        assert_eq!(size(&example, 2).total(), 93);
+        assert_eq!(size(&example, 4).total(), 88);
     }
 
     #[test]
     fn no_names_and_one_name() {
         assert_eq!(size(&[], 2).total(), 16);
-        assert_eq!(size(&names(&["A"]), 1).total(), 31);
+        assert_eq!(size(&names(&["A"]), 1).total(), 33);
     }
 
     #[test]
     fn nodes_are_counted_as_the_format_page_does() {
         let four = names(&["Mar", "Marina", "Marine", "Market Square"]);
-        assert_eq!(size(&four, 4).nodes, 60);
+        assert_eq!(size(&four, 4).nodes, 72);
         let bytes = vec![vec![0], vec![0, 0], vec![255]];
-        assert_eq!(size(&bytes, 3).total(), 77);
+        assert_eq!(size(&bytes, 3).total(), 87);
     }
 
     /// 0 to 1999 spelled with 11 letters a and b: the most nodes.
@@ -133,9 +133,9 @@ mod tests {
     #[test]
     fn the_book_with_the_most_nodes_fits_with_large_blocks_only() {
         let names = binary();
-        assert_eq!(size(&names, 64).nodes, 39_990);
-        assert_eq!(size(&names, 64).total(), 48_168);
-        assert_eq!(size(&names, 1).total(), 70_006);
+        assert_eq!(size(&names, 64).nodes, 47_988);
+        assert_eq!(size(&names, 64).total(), 56_166);
+        assert_eq!(size(&names, 1).total(), 78_004);
         let fitting = fitting_block(&names, 1).expect("64 fits");
         assert!(size(&names, fitting).total() <= LONGEST_BOOK);
         assert!(size(&names, fitting - 1).total() > LONGEST_BOOK);
@@ -159,7 +159,7 @@ mod tests {
         let (front, rest) = match position % 64 {
             0 if position > 0 => (position - 1, [vec![b'x'; 197], vec![b'b']].concat()),
             63 => (position, [vec![b'x'; 197], vec![b'a']].concat()),
-            _ => (position, vec![b'x'; 16]),
+            _ => (position, vec![b'x'; 14]),
         };
         [front.to_be_bytes().to_vec(), rest].concat()
     }

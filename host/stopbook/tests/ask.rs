@@ -5,7 +5,7 @@ mod common;
 use common::{place, shared, Folder, Numbers, EXAMPLE, NO_NAMES};
 
 #[test]
-fn the_rows_of_document_01_are_answered_in_words() {
+fn the_rows_of_the_documents_are_answered_in_words() {
     let folder = Folder::with("mar.book", EXAMPLE);
     let rows = [
         ("exact", "Marina", 0, "Marina is stop 1"),
@@ -70,6 +70,24 @@ fn the_rows_of_document_01_are_answered_in_words() {
             0,
             "nearest to M is [M]ar, stop 0; 1 byte shared",
         ),
+        (
+            "width",
+            "",
+            0,
+            "the longest name that begins with \"\" has 13 bytes",
+        ),
+        (
+            "width",
+            "Mari",
+            0,
+            "the longest name that begins with Mari has 6 bytes",
+        ),
+        (
+            "width",
+            "Mas",
+            1,
+            "no name begins with Mas, so the width is 0",
+        ),
     ];
     for (kind, question, status, answer) in rows {
         let ran = folder.run(&["ask", "mar.book", kind, question]);
@@ -85,11 +103,13 @@ fn the_rows_of_document_01_are_answered_in_words() {
 #[test]
 fn the_same_rows_are_answered_from_standard_input() {
     let folder = Folder::with("mar.book", EXAMPLE);
-    let lines = "exact Marina\r\nexact Marin\n\nrange\nnearest Maxim\nplace Market Square";
+    let lines =
+        "exact Marina\r\nexact Marin\n\nrange\nnearest Maxim\nwidth Mar\nplace Market Square";
     let expected = "Marina is stop 1\n\
                     Marin is no stop; it would stand between Mar and Marina\n\
                     3 names begin with \"\"\n  0 Mar\n  and 2 more\n\
                     nearest to Maxim is [Ma]rina, stop 1; 2 bytes shared\n\
+                    the longest name that begins with Mar has 13 bytes\n\
                     Market Square stands at 2, last, after Marina\n";
     let ran = folder.run_with(&["ask", "mar.book", "--limit", "1"], lines.as_bytes());
     ran.assert(0, expected);
@@ -118,7 +138,7 @@ fn questions_have_200_bytes_at_most() {
     let folder = Folder::with("mar.book", EXAMPLE);
     let (fine, long) = ("M".repeat(200), "M".repeat(201));
     assert_eq!(folder.run(&["ask", "mar.book", "place", &fine]).status, 0);
-    for kind in ["exact", "place", "range", "nearest"] {
+    for kind in ["exact", "place", "range", "nearest", "width"] {
         let ran = folder.run(&["ask", "mar.book", kind, &long]);
         ran.assert_fails(1, &["the question has 201 bytes, and 200 are the most"]);
     }
@@ -131,6 +151,7 @@ fn a_book_without_names_is_asked() {
     run("exact").assert(1, "Mar is no stop; it would stand alone\n");
     run("place").assert(0, "Mar would stand at 0, alone\n");
     run("range").assert(1, "no name begins with Mar; it would stand alone\n");
+    run("width").assert(1, "no name begins with Mar, so the width is 0\n");
     run("nearest").assert_fails(1, &["none.book has no names"]);
     let ran = folder.run_with(&["ask", "none.book"], b"nearest Mar\nplace Mar\n");
     assert_eq!(
@@ -160,7 +181,7 @@ fn between(names: &[String], before: usize, behind: usize) -> String {
     }
 }
 
-/// What the plain list answers to exact, place and range.
+/// What the plain list answers to exact, place, range and width.
 fn told(names: &[String], kind: &str, question: &str) -> String {
     let place = place(names, question);
     let is_stop = names.get(place).is_some_and(|name| name == question);
@@ -173,7 +194,18 @@ fn told(names: &[String], kind: &str, question: &str) -> String {
             format!("{question} stands at {place}, {inside}\n")
         }
         ("place", false) => format!("{question} would stand at {place}, {outside}\n"),
+        ("width", _) => width(names, question),
         _ => range(names, question, &outside),
+    }
+}
+
+/// What the plain list answers to width.
+fn width(names: &[String], question: &str) -> String {
+    let found = names.iter().filter(|name| name.starts_with(question));
+    match found.map(String::len).max() {
+        None => format!("no name begins with {question}, so the width is 0\n"),
+        Some(1) => format!("the longest name that begins with {question} has 1 byte\n"),
+        Some(most) => format!("the longest name that begins with {question} has {most} bytes\n"),
     }
 }
 
@@ -208,7 +240,7 @@ fn random_questions_get_what_the_plain_list_says() {
             0 => names[numbers.below(names.len())].clone(),
             _ => numbers.word(6),
         };
-        let kind = ["exact", "place", "range"][numbers.below(3)];
+        let kind = ["exact", "place", "range", "width"][numbers.below(4)];
         lines.push_str(&format!("{kind} {question}\n"));
         expected.push_str(&told(&names, kind, &question));
     }

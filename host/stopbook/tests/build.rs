@@ -14,7 +14,7 @@ fn the_book_of_document_01_is_built_from_unsorted_lines() {
     for part in [
         "mar.book\n",
         "names  3 in blocks of 2",
-        "bytes  85",
+        "bytes  93",
         "nodes  4",
     ] {
         assert!(ran.out().contains(part), "{}", ran.out());
@@ -28,10 +28,10 @@ fn with_larger_blocks_the_book_is_shorter() {
     let folder = Folder::with("mar.txt", b"Mar\nMarina\nMarket Square\n");
     let ran = folder.run(&["build", "mar.txt", "--block=4", "-o", "b"]);
     assert_eq!(ran.status, 0);
-    assert_eq!(folder.read("b").len(), 80);
+    assert_eq!(folder.read("b").len(), 88);
     // Without a word on it, blocks have 16.
     assert_eq!(folder.run(&["build", "mar.txt"]).status, 0);
-    assert_eq!(folder.read("mar.book")[66..68], [16, 0]);
+    assert_eq!(folder.read("mar.book")[74..76], [16, 0]);
 }
 
 #[test]
@@ -43,7 +43,7 @@ fn standard_input_goes_to_standard_output() {
     );
     assert_eq!(ran.status, 0);
     assert_eq!(ran.bytes, EXAMPLE);
-    assert!(ran.err.contains("bytes  85"));
+    assert!(ran.err.contains("bytes  93"));
     let ran = folder.run_with(&["build", "-", "--block", "2", "--output", "none"], b"\n");
     assert_eq!(ran.status, 0);
     assert_eq!(folder.read("none"), NO_NAMES);
@@ -93,8 +93,8 @@ fn bad_lines_are_named_and_nothing_is_written() {
 fn a_name_of_200_bytes_is_built() {
     let folder = Folder::with("long.txt", &[b'x'; 200]);
     assert_eq!(folder.run(&["build", "long.txt"]).status, 0);
-    // Entry 202, block table 2, one node 10, trailer 16.
-    assert_eq!(folder.read("long.book").len(), 230);
+    // Entry 202, block table 2, one node 12, trailer 16.
+    assert_eq!(folder.read("long.book").len(), 232);
 }
 
 /// So many names of four digits, a line for each.
@@ -130,15 +130,15 @@ fn binary() -> String {
 
 #[test]
 fn a_book_past_the_limit_says_by_how_much() {
-    // By the format: 48,168 bytes with blocks of 64, 70,006 with blocks of 1.
+    // By the format: 56,166 bytes with blocks of 64, 78,004 with blocks of 1.
     let folder = Folder::with("bin.txt", binary().as_bytes());
     assert_eq!(folder.run(&["build", "bin.txt", "--block", "64"]).status, 0);
-    assert_eq!(folder.read("bin.book").len(), 48_168);
+    assert_eq!(folder.read("bin.book").len(), 56_166);
     let ran = folder.run(&["build", "bin.txt", "--block", "1", "-o", "no"]);
     ran.assert_fails(
         1,
         &[
-            "70,006 bytes, and 65,535 are the most: 4,471 too many",
+            "78,004 bytes, and 65,535 are the most: 12,469 too many",
             "--block ",
         ],
     );
@@ -176,7 +176,7 @@ fn a_book_of_65535_bytes_is_built_and_one_of_65536_refused() {
     // two bytes and the name, and the block table two for each name.
     let count = 310;
     let forks = 1 + usize::div_ceil(count, 64);
-    let letters = 65_535 - (16 + 10 * (count + forks) + 2 * count + 2 * count);
+    let letters = 65_535 - (16 + 12 * (count + forks) + 2 * count + 2 * count);
     let (length, longer) = (letters / count, letters % count);
     let folder = Folder::with("full.txt", &apart(count, length, longer));
     let ran = folder.run(&["build", "full.txt", "--block", "1"]);

@@ -7,7 +7,7 @@ use common::{shared, Folder, Numbers, EXAMPLE, NO_NAMES};
 #[test]
 fn the_listing_is_that_of_document_01() {
     let folder = Folder::with("mar.book", EXAMPLE);
-    let expected = "names 3 block 2 nodes 4 bytes 85\n\
+    let expected = "names 3 block 2 nodes 4 bytes 93\n\
                     0 0 0 3 Mar\n1 0 3 6 Marina\n2 1 0 13 Market Square\n";
     folder.run(&["list", "mar.book"]).assert(0, expected);
     folder.run_with(&["list", "-"], EXAMPLE).assert(0, expected);
@@ -17,7 +17,7 @@ fn the_listing_is_that_of_document_01() {
 fn a_part_can_be_listed() {
     let folder = Folder::with("mar.book", EXAMPLE);
     let ran = folder.run(&["list", "mar.book", "--from", "1", "--count", "1"]);
-    ran.assert(0, "names 3 block 2 nodes 4 bytes 85\n1 0 3 6 Marina\n");
+    ran.assert(0, "names 3 block 2 nodes 4 bytes 93\n1 0 3 6 Marina\n");
     let ran = folder.run(&["list", "--plain", "mar.book", "--from=2", "--count=99"]);
     ran.assert(0, "Market Square\n");
     folder
@@ -104,7 +104,7 @@ fn a_check_says_what_the_book_has() {
     let ran = folder.run(&["check", "mar.book"]);
     ran.assert(
         0,
-        "mar.book is a book: 3 names in blocks of 2, 4 nodes, 85 bytes\n",
+        "mar.book is a book: 3 names in blocks of 2, 4 nodes, 93 bytes\n",
     );
     let ran = folder.run_with(&["check", "-"], NO_NAMES);
     ran.assert(
@@ -118,12 +118,15 @@ fn what_is_no_book_is_refused_by_every_command() {
     let folder = Folder::new();
     let mut changed = EXAMPLE.to_vec();
     changed[30] = 1;
+    let mut old = EXAMPLE.to_vec();
+    old[92] = b'1';
     let long = vec![0; 100_000];
-    let cases: [(&[u8], &str); 6] = [
+    let cases: [(&[u8], &str); 7] = [
         (b"", "it has 0 bytes"),
         (b"Mar\nMarina\nMarket Square\n", "mark"),
-        (&EXAMPLE[1..], "tells of 85 bytes, and it has 84"),
-        (&EXAMPLE[..84], "mark"),
+        (&EXAMPLE[1..], "tells of 93 bytes, and it has 92"),
+        (&EXAMPLE[..92], "mark"),
+        (&old, "it was built before nodes had widths"),
         (&changed, "damaged"),
         (&long, "more than 65,535 bytes"),
     ];

@@ -8,11 +8,11 @@ use common::{Folder, Numbers, EXAMPLE, NO_NAMES};
 fn the_tree_of_document_01_is_drawn_as_text() {
     let folder = Folder::with("mar.book", EXAMPLE);
     let expected = "\
-names 3 block 2 nodes 4 bytes 85
-\"Mar\"  node 0, depth 3, names 0 to 2
-├─ end  node 1, depth 4, name 0 Mar
-├─ \"ina\" end  node 2, depth 7, name 1 Marina
-└─ \"ket Square\" end  node 3, depth 14, name 2 Market Square
+names 3 block 2 nodes 4 bytes 93
+\"Mar\"  node 0, depth 3, width 13, names 0 to 2
+├─ end  node 1, depth 4, width 3, name 0 Mar
+├─ \"ina\" end  node 2, depth 7, width 6, name 1 Marina
+└─ \"ket Square\" end  node 3, depth 14, width 13, name 2 Market Square
 ";
     folder.run(&["tree", "mar.book"]).assert(0, expected);
     folder.run_with(&["tree", "-"], EXAMPLE).assert(0, expected);
@@ -80,13 +80,14 @@ fn a_book_without_names_is_drawn() {
     }
 }
 
-/// The nodes of some rising names by document 01: letters, number and depth of
-/// each, from the names alone.
-fn nodes(names: &[String], from: usize, found: &mut Vec<(Vec<u8>, usize, usize)>) {
+/// The nodes of some rising names by the documents: letters, number, depth and
+/// width of each, from the names alone.
+fn nodes(names: &[String], from: usize, found: &mut Vec<(Vec<u8>, [usize; 3])>) {
     let first = names[0].as_bytes();
     let number = found.len();
+    let width = names.iter().map(String::len).max().unwrap_or(0);
     if names.len() == 1 {
-        found.push((first[from..].to_vec(), number, first.len() + 1));
+        found.push((first[from..].to_vec(), [number, first.len() + 1, width]));
         return;
     }
     let last = names[names.len() - 1].as_bytes();
@@ -95,7 +96,7 @@ fn nodes(names: &[String], from: usize, found: &mut Vec<(Vec<u8>, usize, usize)>
         .zip(last)
         .take_while(|(one, other)| one == other)
         .count();
-    found.push((first[from..depth].to_vec(), number, depth));
+    found.push((first[from..depth].to_vec(), [number, depth, width]));
     for group in
         names.chunk_by(|one, other| one.as_bytes().get(depth) == other.as_bytes().get(depth))
     {
@@ -104,7 +105,7 @@ fn nodes(names: &[String], from: usize, found: &mut Vec<(Vec<u8>, usize, usize)>
 }
 
 #[test]
-fn random_trees_have_the_nodes_of_document_01() {
+fn random_trees_have_the_nodes_of_the_documents() {
     let mut numbers = Numbers(31);
     for _ in 0..10 {
         let count = 1 + numbers.below(60);
@@ -116,11 +117,9 @@ fn random_trees_have_the_nodes_of_document_01() {
         let ran = folder.run(&["tree", "n.book", "--limit", "999"]);
         let lines: Vec<&str> = ran.out().lines().skip(1).collect();
         assert_eq!(lines.len(), expected.len());
-        for (line, (letters, number, depth)) in lines.into_iter().zip(expected) {
-            assert!(
-                line.contains(&format!("  node {number}, depth {depth}, ")),
-                "{line}"
-            );
+        for (line, (letters, [number, depth, width])) in lines.into_iter().zip(expected) {
+            let numbers = format!("  node {number}, depth {depth}, width {width}, ");
+            assert!(line.contains(&numbers), "{line}");
             if let Ok(letters) = std::str::from_utf8(&letters) {
                 let quoted = format!("\"{letters}\"");
                 assert!(

@@ -1,10 +1,10 @@
 //! Questions and what they get.
 
-use mistrogu::{batch, exact, nearest, place, range, reply, row};
+use mistrogu::{batch, exact, nearest, place, range, reply, row, width};
 use mistrogu::{Answer, Kind, Refusal, Reply};
 
 /// The kinds, for messages.
-pub const KINDS: &str = "exact, place, range or nearest";
+pub const KINDS: &str = "exact, place, range, nearest or width";
 
 /// A question.
 #[derive(Clone, Debug, PartialEq, Eq)]
@@ -23,6 +23,7 @@ pub fn ask(book: &[u8], question: &Question) -> Result<Reply, Refusal> {
         Kind::Place => place(book, text).map(Reply::Place),
         Kind::Range => range(book, text).map(Reply::Range),
         Kind::Nearest => nearest(book, text).map(Reply::Nearest),
+        Kind::Width => width(book, text).map(Reply::Width),
     }
 }
 
@@ -57,7 +58,7 @@ mod tests {
         Reply::Nearest(Nearest { position, shared })
     }
 
-    /// The twelve rows of document 01.
+    /// The twelve rows of document 01, and some of document 02's kind.
     fn rows() -> Vec<(Question, Reply)> {
         let rows = [
             (Kind::Exact, "Marina", Reply::Exact(Some(1))),
@@ -72,6 +73,9 @@ mod tests {
             (Kind::Nearest, "Maxim", near(1, 2)),
             (Kind::Nearest, "Zoo", near(0, 0)),
             (Kind::Nearest, "M", near(0, 1)),
+            (Kind::Width, "", Reply::Width(13)),
+            (Kind::Width, "Mari", Reply::Width(6)),
+            (Kind::Width, "Mas", Reply::Width(0)),
         ];
         let row = |(kind, text, reply): (Kind, &str, Reply)| {
             let text = text.as_bytes().to_vec();
@@ -81,16 +85,16 @@ mod tests {
     }
 
     #[test]
-    fn each_row_of_document_01_is_answered_alone() {
+    fn each_row_of_the_documents_is_answered_alone() {
         for (question, reply) in rows() {
             assert_eq!(ask(EXAMPLE, &question), Ok(reply), "{question:?}");
         }
     }
 
     #[test]
-    fn all_rows_of_document_01_are_answered_in_a_batch() {
+    fn all_rows_of_the_documents_are_answered_in_a_batch() {
         let (questions, replies): (Vec<Question>, Vec<Reply>) = rows().into_iter().unzip();
-        let found = ask_batch(EXAMPLE, &questions).expect("twelve rows are a batch");
+        let found = ask_batch(EXAMPLE, &questions).expect("so few rows are a batch");
         let expected: Vec<Result<Reply, Refusal>> = replies.into_iter().map(Ok).collect();
         assert_eq!(found, expected);
     }

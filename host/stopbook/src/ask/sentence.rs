@@ -30,6 +30,7 @@ pub fn tell(
         Reply::Range(range) if range.is_empty() => no_range(book, text, range.start),
         Reply::Range(range) => tell_range(book, text, range.clone(), limit),
         Reply::Nearest(nearest) => tell_nearest(book, text, *nearest),
+        Reply::Width(width) => tell_width(text, *width),
     }
 }
 
@@ -146,4 +147,19 @@ fn tell_nearest(book: &mut Book, text: &[u8], nearest: Nearest) -> Result<Told, 
     done(format!(
         "nearest to {text} is {marked}, stop {position}; {bytes} shared\n"
     ))
+}
+
+/// How long the longest name is that begins with a question. Only an empty range
+/// has no length, since no name is empty.
+fn tell_width(text: &[u8], width: usize) -> Result<Told, Failure> {
+    let text = named(text);
+    match width {
+        0 => no(format!("no name begins with {text}, so the width is 0\n")),
+        _ => {
+            let bytes = counted(width, "byte");
+            done(format!(
+                "the longest name that begins with {text} has {bytes}\n"
+            ))
+        }
+    }
 }

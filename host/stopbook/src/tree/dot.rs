@@ -32,9 +32,10 @@ fn label(branch: &Branch, number: usize) -> [String; 3] {
         true => shown(&branch.name),
         false => format!("all begin with {}", named(shared(branch))),
     };
-    let depth = branch.node.depth;
+    let (depth, width) = (branch.node.depth, branch.node.width);
     let head = format!("node {number}, depth {depth}");
-    [head, branch.positions(), name]
+    let names = format!("{}, width {width}", branch.positions());
+    [head, names, name]
 }
 
 /// What all names of a fork begin with.
@@ -71,8 +72,8 @@ mod tests {
         let drawn = draw(&example());
         assert_eq!(drawn.matches("shape=box").count(), 1);
         for line in [
-            "  n0 [label=\"node 0, depth 3\\nnames 0 to 2\\nall begin with Mar\"];",
-            "  n1 [label=\"node 1, depth 4\\nname 0\\nMar\"];",
+            "  n0 [label=\"node 0, depth 3\\nnames 0 to 2, width 13\\nall begin with Mar\"];",
+            "  n1 [label=\"node 1, depth 4\\nname 0, width 3\\nMar\"];",
             "  n0 -> n1 [label=\"end\"];",
             "  n0 -> n2 [label=\"ina end\"];",
             "  n0 -> n3 [label=\"ket Square end\"];",

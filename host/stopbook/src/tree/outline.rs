@@ -31,15 +31,15 @@ fn add(tree: &Tree, number: usize, corner: &str, indent: &str, text: &mut String
     }
 }
 
-/// A node's letters, number, depth and names.
+/// A node's letters, number, depth, width and names.
 fn line(branch: &Branch, number: usize) -> String {
     let letters = letters(branch);
-    let depth = branch.node.depth;
+    let (depth, width) = (branch.node.depth, branch.node.width);
     let names = match branch.is_leaf() {
         true => format!("{} {}", branch.positions(), shown(&branch.name)),
         false => branch.positions(),
     };
-    format!("{letters}  node {number}, depth {depth}, {names}")
+    format!("{letters}  node {number}, depth {depth}, width {width}, {names}")
 }
 
 /// The letters of an edge in quotes, and whether the end symbol follows.
@@ -60,11 +60,11 @@ mod tests {
     #[test]
     fn the_example_is_four_lines_below_its_numbers() {
         let expected = "\
-names 3 block 2 nodes 4 bytes 85
-\"Mar\"  node 0, depth 3, names 0 to 2
-├─ end  node 1, depth 4, name 0 Mar
-├─ \"ina\" end  node 2, depth 7, name 1 Marina
-└─ \"ket Square\" end  node 3, depth 14, name 2 Market Square
+names 3 block 2 nodes 4 bytes 93
+\"Mar\"  node 0, depth 3, width 13, names 0 to 2
+├─ end  node 1, depth 4, width 3, name 0 Mar
+├─ \"ina\" end  node 2, depth 7, width 6, name 1 Marina
+└─ \"ket Square\" end  node 3, depth 14, width 13, name 2 Market Square
 ";
         assert_eq!(draw(&example()), expected);
     }
@@ -74,10 +74,10 @@ names 3 block 2 nodes 4 bytes 85
         let mut book = book_of(&["Mar", "Marina", "Marine", "Market Square"]);
         let tree = Tree::of(&mut book, 4).unwrap();
         let expected = "\
-\"Mar\"  node 0, depth 3, names 0 to 3
-├─ end  node 1, depth 4, name 0 Mar
-├─ \"in\"  node 2, depth 5, names 1 to 2
-│  ├─ \"a\" end  node 3, depth 7, name 1 Marina
+\"Mar\"  node 0, depth 3, width 13, names 0 to 3
+├─ end  node 1, depth 4, width 3, name 0 Mar
+├─ \"in\"  node 2, depth 5, width 6, names 1 to 2
+│  ├─ \"a\" end  node 3, depth 7, width 6, name 1 Marina
 │  └─ .. 1 more node
 └─ .. 1 more node
 ";

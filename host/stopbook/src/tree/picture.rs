@@ -128,8 +128,11 @@ pub fn lay_out(tree: &Tree, head: &str, foot: &str) -> Picture {
 
 /// A node's texts, not yet at their place.
 fn spot((number, branch): (usize, &Branch)) -> Spot {
-    let depth = branch.node.depth;
-    let lines = [format!("node {number}, depth {depth}"), branch.positions()];
+    let (depth, width) = (branch.node.depth, branch.node.width);
+    let lines = [
+        format!("node {number}, depth {depth}"),
+        format!("{}, width {width}", branch.positions()),
+    ];
     Spot {
         x: 0.0,
         y: 0.0,

@@ -7,7 +7,8 @@ use super::branches::Tree;
 use super::picture::{lay_out, Picture, Spot, BOX, GAP, MARGIN};
 
 /// What the signs in the picture mean.
-const FOOT: &str = "on an edge: its letters; end: the end symbol; depth: symbols up to here";
+const FOOT: &str = "on an edge: its letters; end: the end symbol; depth: symbols up to here; \
+                    width: bytes of its longest name";
 
 /// Colours and letters.
 const STYLE: &str = "\
@@ -176,7 +177,7 @@ mod tests {
             ">ina<tspan class=\"quiet\"> end</tspan></text>",
             ">Market Square</text>",
             ">node 3, depth 14</text>",
-            ">names 0 to 2</text>",
+            ">names 0 to 2, width 13</text>",
         ] {
             assert!(svg.contains(text), "{text}");
         }
