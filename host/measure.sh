@@ -5,7 +5,7 @@
 #   host/measure.sh check BOOKFILE                of book_check on that book
 #   host/measure.sh read BOOKFILE POSITION        of book_read at that position of that book
 #   host/measure.sh exact BOOKFILE QUESTION       of book_exact with that question to that book
-#   host/measure.sh place|range|nearest ..        of book_place, book_range, book_nearest, as for exact
+#   host/measure.sh place|range|nearest|width ..  of book_place, book_range, book_nearest, book_width, as for exact
 #   host/measure.sh questions BOOKFILE            of mixed questions to that book, less those of its check
 #   host/measure.sh batch BOOKFILE                of book_batch with 64 mixed questions to that book, and of each of them alone
 #   host/measure.sh growth                        of build, check and place, on lists of which one parameter doubles
@@ -16,11 +16,11 @@
 # reference.sh and small.sh make others, to measure in the same way.
 #
 # `questions` makes 100 questions from the book's names, the same ones each time: 20 names, 20 beginnings, 20 extensions, 20 that miss a
-# name by one byte, and 20 strangers. Each is asked in all four kinds, and every call is counted by itself. Since a call checks the book
+# name by one byte, and 20 strangers. Each is asked in all five kinds, and every call is counted by itself. Since a call checks the book
 # before it answers, the count of book_check on the same book is taken off. For each kind, and for all, it prints the average of what
 # is left, the most, and the question that took the most.
 #
-# `batch` takes 64 of these questions from all over the mix, 16 in each kind, asks them as one batch, and then each by a call of its own,
+# `batch` takes 64 of these questions from all over the mix, a fifth in each kind, asks them as one batch, and then each by a call of its own,
 # which checks the book again. It prints the instructions of the batch, those of the others, and how many times the average of the others
 # the batch took.
 #
@@ -85,8 +85,8 @@ mixed_questions() {
         }
         END {
             if (failed) exit 1
-            split("book_exact book_place book_range book_nearest all", kinds, " ")
-            for (i = 1; i <= 5; i++) {
+            split("book_exact book_place book_range book_nearest book_width all", kinds, " ")
+            for (i = 1; i <= 6; i++) {
                 kind = kinds[i]
                 printf "%s: %d questions, %.0f instructions on average, %d at most, for %s\n",
                     kind, calls[kind], sum[kind] / calls[kind], most[kind], dearest[kind]

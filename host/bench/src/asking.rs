@@ -1,4 +1,4 @@
-//! The four questions, of the book in a file.
+//! The five questions, of the book in a file.
 
 use crate::{read_file, Ready};
 use format::Kind;
@@ -7,11 +7,12 @@ use format::Kind;
 pub type Ask<Answer> = fn(&[u8], &[u8]) -> Answer;
 
 /// The measured calls, in the order of the kinds' numbers.
-const MEASURED: [Ask<proved::Answer>; 4] = [
+const MEASURED: [Ask<proved::Answer>; 5] = [
     measured_exact,
     measured_place,
     measured_range,
     measured_nearest,
+    measured_width,
 ];
 
 /// The measured call of a question of this kind.
@@ -37,6 +38,11 @@ pub fn range(words: &[String]) -> Result<Ready, String> {
 /// Makes `book_nearest` ready.
 pub fn nearest(words: &[String]) -> Result<Ready, String> {
     ready(words, measured_nearest, model::book_nearest)
+}
+
+/// Makes `book_width` ready.
+pub fn width(words: &[String]) -> Result<Ready, String> {
+    ready(words, measured_width, model::book_width)
 }
 
 /// Makes a call ready from a file's name and a question.
@@ -110,6 +116,12 @@ fn measured_range(book: &[u8], question: &[u8]) -> proved::Answer {
 #[inline(never)]
 fn measured_nearest(book: &[u8], question: &[u8]) -> proved::Answer {
     proved::book_nearest(book, question)
+}
+
+/// The same for `book_width`.
+#[inline(never)]
+fn measured_width(book: &[u8], question: &[u8]) -> proved::Answer {
+    proved::book_width(book, question)
 }
 
 #[cfg(test)]

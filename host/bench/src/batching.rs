@@ -1,4 +1,4 @@
-//! `book_batch`, of the book in a file: 64 of the mixed questions, 16 in each
+//! `book_batch`, of the book in a file: 64 of the mixed questions, a fifth in each
 //! kind. Of bytes that are no book they are strangers.
 
 use crate::asking::{call_of, shown_question};

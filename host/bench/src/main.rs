@@ -42,7 +42,7 @@ pub struct Ready {
 }
 
 /// Every call that can be measured.
-const CALLS: [Call; 8] = [
+const CALLS: [Call; 9] = [
     Call {
         name: "build",
         words: "LISTFILE K",
@@ -77,6 +77,11 @@ const CALLS: [Call; 8] = [
         name: "nearest",
         words: "BOOKFILE QUESTION",
         ready: asking::nearest,
+    },
+    Call {
+        name: "width",
+        words: "BOOKFILE QUESTION",
+        ready: asking::width,
     },
     Call {
         name: "batch",

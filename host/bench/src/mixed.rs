@@ -2,13 +2,13 @@
 //!
 //! The mix is the same each time: a fifth of the questions are names of the
 //! book, a fifth beginnings of names, a fifth extensions, a fifth miss a name by
-//! one byte, and a fifth are strangers. Each is asked in all four kinds.
+//! one byte, and a fifth are strangers. Each is asked in all five kinds.
 
 use crate::asking::{call_of, shown_question};
 use crate::{checking, read_file, shown};
 use format::Kind;
 use model::names::leading_equal;
-use model::questions::{exact, node_reached, place, range};
+use model::questions::{exact, node_reached, place, range, width};
 use model::tree::tree;
 use model::{book_check, open, Answer};
 use vectors::lists::Names;
@@ -43,6 +43,7 @@ pub fn run(words: &[String]) -> Result<String, String> {
             place(&names, &question),
             range(&names, &question),
             nearest(&question),
+            width(&names, &question),
         ];
         for (kind, (first, second)) in Kind::ALL.into_iter().zip(pairs) {
             let expected = Answer {

@@ -71,7 +71,7 @@ pub fn worst(words: &[String]) -> Result<String, String> {
 /// those that were dearest before.
 fn planned() -> Vec<Worst> {
     let mut shapes = vec![worst::dearest_check(), worst::dearest_question()];
-    for length in [2, 4, 8, 12, 15, 16, 17, 18, 20, 32, 64, 200] {
+    for length in [2, 4, 8, 9, 10, 11, 12, 14, 16, 18, 20, 32, 64, 200] {
         for block in [1, 2, 4, 8, 16, 64] {
             shapes.push(chains(2000, length, block));
         }

@@ -26,7 +26,7 @@ pub struct Data {
     /// The questions.
     pub questions: Names,
     /// The answers to all of them, for each kind.
-    answers: [Vec<Numbers>; 4],
+    answers: [Vec<Numbers>; Kind::ALL.len()],
     /// The positions that are read back.
     positions: Vec<usize>,
     /// The questions of a batch, one behind the other.
@@ -107,6 +107,7 @@ fn ask_names(names: &Names, kind: Kind, question: &[u8]) -> (usize, usize) {
         Kind::Place => model::questions::place(names, question),
         Kind::Range => model::questions::range(names, question),
         Kind::Nearest => model::questions::nearest(names, question).unwrap_or_default(),
+        Kind::Width => model::questions::width(names, question),
     }
 }
 
@@ -117,6 +118,7 @@ fn ask_sorted(sorted: Sorted, kind: Kind, question: &[u8]) -> Numbers {
         Kind::Place => sorted.place(question),
         Kind::Range => sorted.range(question),
         Kind::Nearest => sorted.nearest(question).unwrap_or_default(),
+        Kind::Width => sorted.width(question),
     })
 }
 
@@ -294,7 +296,7 @@ struct Checked<A, R> {
     build: fn(&[u8], usize, &mut [u8]) -> A,
     check: fn(&[u8]) -> A,
     read: fn(&[u8], usize, &mut [u8]) -> A,
-    asks: [Ask<A>; 4],
+    asks: [Ask<A>; Kind::ALL.len()],
     batch: Batch<A, R>,
     /// A row of its own.
     row: fn(usize, usize, usize) -> R,
@@ -314,6 +316,7 @@ fn library() -> Checked<proved::Answer, proved::Row> {
             proved::book_place,
             proved::book_range,
             proved::book_nearest,
+            proved::book_width,
         ],
         batch: proved::book_batch,
         row: |kind, start, length| proved::Row {
@@ -337,6 +340,7 @@ fn reference() -> Checked<reference::Answer, reference::Row> {
             reference::book_place,
             reference::book_range,
             reference::book_nearest,
+            reference::book_width,
         ],
         batch: reference::book_batch,
         row: |kind, start, length| reference::Row {
@@ -466,11 +470,12 @@ fn model_items(data: &'static Data) -> Vec<Item> {
         item(MODEL, Step::Read, read),
         item(MODEL, Step::HeldRead, held_read),
     ];
-    let calls: [AskModel; 4] = [
+    let calls: [AskModel; Kind::ALL.len()] = [
         model::book_exact,
         model::book_place,
         model::book_range,
         model::book_nearest,
+        model::book_width,
     ];
     for (kind, ask_book) in Kind::ALL.into_iter().zip(calls) {
         let ask = Asking {

@@ -31,7 +31,7 @@ pub struct Loaded {
     free: Free,
     size: Size,
     read: Option<Read>,
-    asks: [Option<Ask>; 4],
+    asks: [Option<Ask>; Kind::ALL.len()],
 }
 
 impl Loaded {
@@ -58,8 +58,10 @@ impl Loaded {
                 free: transmute::<*mut c_void, Free>(need("peer_free")?),
                 size: transmute::<*mut c_void, Size>(need("peer_size")?),
                 read: find("peer_read").map(|found| transmute::<*mut c_void, Read>(found)),
-                asks: ["peer_exact", "peer_place", "peer_range", "peer_nearest"]
-                    .map(|name| find(name).map(|found| transmute::<*mut c_void, Ask>(found))),
+                asks: Kind::ALL.map(|kind| {
+                    let found = find(&format!("peer_{}", kind.name()));
+                    found.map(|found| transmute::<*mut c_void, Ask>(found))
+                }),
             })
         }
     }

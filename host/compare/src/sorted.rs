@@ -86,6 +86,15 @@ impl<'lent> Sorted<'lent> {
         (place, self.starts[place..].partition_point(begins))
     }
 
+    /// The greatest length of the names that begin with the question, and a 0: each
+    /// of them is looked at.
+    pub fn width(&self, question: &[u8]) -> (usize, usize) {
+        let (place, names) = self.range(question);
+        let starts = &self.starts[place..place + names];
+        let lengths = starts.iter().map(|&start| self.name(start).len());
+        (lengths.max().unwrap_or(0), 0)
+    }
+
     /// The first name of the node that the question leads to, and how many
     /// leading bytes they share; nothing where there are no names.
     ///

@@ -2,21 +2,21 @@
 //!
 //! They are put together from syllables and from words such as Airport or
 //! Central Station. Their lengths, what neighbours share and how many nodes
-//! their tree has are close to those of 1,960 real stations:
+//! their tree has are close to those of 1,800 real stations:
 //!
 //! | | Real | Here |
 //! |---|---|---|
-//! | Bytes of the list | 40,577 | 40,763 |
-//! | Bytes of a name: a tenth has fewer, half, nine tenths | 7, 18, 33 | 6, 19, 33 |
-//! | Bytes shared with the name before, on average | 2.95 | 3.10 |
-//! | Nodes | 2,803 | 2,667 |
-//! | Bytes of the book with blocks of 16 | 65,471 | 63,932 |
+//! | Bytes of the list | 37,482 | 37,257 |
+//! | Bytes of a name: a tenth has fewer, half, nine tenths | 7, 18, 34 | 6, 19, 33 |
+//! | Bytes shared with the name before, on average | 2.92 | 3.06 |
+//! | Nodes | 2,574 | 2,451 |
+//! | Bytes of the book with blocks of 16 | 65,477 | 63,549 |
 
 use vectors::lists::{sorted, Names};
 use vectors::random::Random;
 
-/// How many names there are.
-pub const COUNT: usize = 1960;
+/// How many names there are: nearly as many as a book of such names can have.
+pub const COUNT: usize = 1800;
 /// How many names a block of their book has.
 pub const BLOCK: usize = 16;
 

@@ -78,7 +78,7 @@ marisa's as far as they go.
   it: an array that is out of order gives wrong answers, and a wrong offset stops the program.
 - **marisa** and **fst**, where they are here, trust their bytes as well, and need a heap. marisa numbers names in its own way: its exact
   question tells whether there is such a name, its range only how many there are, found one by one. fst maps names to positions.
-  Neither has something like nearest.
+  Neither has something like nearest or width.
 
 ![Instructions of each call](benchmark.svg)
 ",

@@ -65,9 +65,9 @@ fn after_the_check_the_librarys_check_is_taken_off() {
 fn the_page_has_a_row_for_each_call_and_says_what_is_left_out() {
     let (subjects, figures) = made_up();
     let about = About {
-        names: 1960,
-        list: 40_763,
-        nodes: 2667,
+        names: 1800,
+        list: 37_257,
+        nodes: 2451,
         questions: 100,
         rounds: 2,
         left_out: vec!["fst is left out.".to_string()],
@@ -91,8 +91,8 @@ fn the_page_has_a_row_for_each_call_and_says_what_is_left_out() {
 fn the_drawing_has_a_mark_for_each_figure() {
     let (subjects, figures) = made_up();
     let drawing = drawing(&subjects, &figures);
-    // A mark in the legend; then check, batch, its row and four kinds twice.
-    assert_eq!(drawing.matches("<circle").count(), 1 + 3 + 8);
+    // A mark in the legend; then check, batch, its row and five kinds twice.
+    assert_eq!(drawing.matches("<circle").count(), 1 + 3 + 10);
     assert!(drawing.contains("100,600") && drawing.contains("prefers-color-scheme: dark"));
     assert!(!drawing.contains("NaN") && !drawing.contains("inf"));
     assert!(drawing.ends_with("</svg>\n"));

@@ -4,13 +4,13 @@ use compare::mix::questions;
 use compare::sorted::Sorted;
 use compare::stations;
 use model::names::leading_equal;
-use model::questions::{exact, nearest, node_reached, place, range};
+use model::questions::{exact, nearest, node_reached, place, range, width};
 use model::tree::tree;
 use model::write_list;
 use vectors::lists::{self, Names};
 use vectors::questions::around_all;
 
-/// Asks these questions of the names in all four kinds.
+/// Asks these questions of the names in all five kinds.
 fn hold_to_the_model(names: &Names, questions: &Names) {
     let list = write_list(names);
     let mut starts = [0; 2000];
@@ -25,6 +25,7 @@ fn hold_to_the_model(names: &Names, questions: &Names) {
         assert_eq!(sorted.place(question), place(names, question));
         assert_eq!(sorted.range(question), range(names, question));
         assert_eq!(sorted.nearest(question), nearest, "{question:?}");
+        assert_eq!(sorted.width(question), width(names, question));
     }
 }
 

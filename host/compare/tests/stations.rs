@@ -21,13 +21,13 @@ fn they_are_those_that_the_table_over_them_describes() {
     lengths.sort();
     let at = |tenths: usize| lengths[tenths * COUNT / 10];
     assert_eq!((at(1), at(5), at(9)), (6, 19, 33));
-    assert_eq!(write_list(&names).len(), 40_763);
-    assert_eq!(node_count(&names), 2667);
+    assert_eq!(write_list(&names).len(), 37_257);
+    assert_eq!(node_count(&names), 2451);
 }
 
 #[test]
 fn their_book_is_nearly_the_longest() {
     let length = book_of(BLOCK, &stations()).len();
     assert!((60_000..=LONGEST_BOOK).contains(&length));
-    assert_eq!(length, 63_932);
+    assert_eq!(length, 63_549);
 }
