@@ -1,4 +1,5 @@
 -- Laws of the fifth question.
+--     ask-width             it is kind 5
 --     width-append          of two lists, the greater
 --     width-all, width-none     where all words begin with q it is the greatest length of all; where none does it is 0
 --     width-at              no word that begins with q is longer
@@ -16,7 +17,12 @@ use Rattle.words.specs.Rising.{All, cons, nil, nth}
 use Rattle.words.specs.Words.{Words, begins, pick}
 use Rattle.words.proofs.Words.{apart, false≠true}
 use Rattle.format.specs.Widths.{widest}
+use Rattle.answers.specs.Questions.{ask}
 use Rattle.answers.specs.Widths.{width}
+
+pub ask-width : (q : List ℕ) (ws : Words) → ask 5 q ws ≡ (width q ws, 0)
+unfolding ask
+ask-width q ws = refl
 
 module _ (q : List ℕ) where
   pub width-append : (xs ys : Words) → width q (xs ++ ys) ≡ max (width q xs) (width q ys)

@@ -1,4 +1,4 @@
-// The cases of the four questions. A case is a head, then a book and a question: of the head, 4 bytes have the book's length and 4 the
+// The cases of the five questions. A case is a head, then a book and a question: of the head, 4 bytes have the book's length and 4 the
 // question's. Where the book's length is 0, the book is that of the case before.
 ghost use Prim.Native.Nat.{_<_};
 ghost use lib.ListN.{length};
@@ -10,17 +10,19 @@ use crate::places::Place;
 
 const HEAD: usize = 8;
 
-// Asks in all four kinds, and prints the case's number and the answers.
+// Asks in all five kinds, and prints the case's number and the answers.
 fn print_asked(number: usize, book: &[u8], question: &[u8]) {
     let exact = book::book_exact(book, question);
     let place = book::book_place(book, question);
     let range = book::book_range(book, question);
     let nearest = book::book_nearest(book, question);
+    let width = book::book_width(book, question);
     lines::begin(number);
     lines::add_answer(exact);
     lines::add_answer(place);
     lines::add_answer(range);
     lines::add_answer(nearest);
+    lines::add_answer(width);
     lines::end();
 }
 

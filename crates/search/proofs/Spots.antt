@@ -22,6 +22,7 @@ use Rattle.format.specs.Nodes.{table}
 use Rattle.answers.specs.Questions.{Pair as Numbers, ask, count, exact, nearest, place, range, reached}
 use Rattle.answers.specs.Widths.{width}
 use Rattle.answers.proofs.Nearest.{reached-most}
+use Rattle.answers.proofs.Widths.{ask-width}
 use Rattle.descent.specs.Vocabulary.{Descended, Highest, Reached, Searchable, Sits, Sought, asked, from, node, upto}
 use Rattle.standing.specs.Maps.{rowsAt}
 use Rattle.descent.proofs.Cuts.{exact-here, exact-nowhere, none-wide, range-none, whole-range, whole-width}
@@ -202,11 +203,12 @@ module _ {b : Bytes} {start : ℕ} (q : Bytes) (o : Searchable plain b (rowsAt s
         (range-none (wordsOf plain b) (asked plain q) (o .rises) m
         (λ i k. omega (arith, reached-most (asked plain q) (wordsOf plain b) (o .rises) i k, a .located .shares)) (omega (arith, asked-length q)))
 
-    pub width-short : m < length q → _≡_ {A = Numbers} (0, 0) (width (asked plain q) (wordsOf plain b), 0)
+    pub width-short : (m ≡ length q → ⊥) → _≡_ {A = Numbers} (0, 0) (width (asked plain q) (wordsOf plain b), 0)
     width-short h =
+        let few = shared-le (asked plain q) (nth (wordsOf plain b) (reached (asked plain q) (wordsOf plain b))) in
         ap (λ (n : ℕ). pair n 0)
         (none-wide (wordsOf plain b) (asked plain q) (o .rises) m
-        (λ i k. omega (arith, reached-most (asked plain q) (wordsOf plain b) (o .rises) i k, a .located .shares)) (omega (arith, asked-length q)))
+        (λ i k. omega (arith, reached-most (asked plain q) (wordsOf plain b) (o .rises) i k, a .located .shares)) (omega (arith, asked-length q, a .located .shares, few)))
 
     -- all of the question is shared
     all-shared : length q ≤ m → m ≡ length (asked plain q)
@@ -217,11 +219,11 @@ module _ {b : Bytes} {start : ℕ} (q : Bytes) (o : Searchable plain b (rowsAt s
       shared-le (asked plain q) (nth (wordsOf plain b) (reached (asked plain q) (wordsOf plain b))),
     )
 
-    pub width-all : length q ≤ m → {n : ℕ} → n ≡ node (wordsOf plain b) v .width → _≡_ {A = Numbers} (n, 0) (width (asked plain q) (wordsOf plain b), 0)
+    pub width-all : m ≡ length q → {n : ℕ} → n ≡ node (wordsOf plain b) v .width → _≡_ {A = Numbers} (n, 0) (width (asked plain q) (wordsOf plain b), 0)
     width-all h e =
         ap (λ (n : ℕ). pair n 0)
         (e ∙ sits-told (wordsOf plain b) (o .rises) (a .located .found .sits) .width
-        ∙ whole-width (wordsOf plain b) (asked plain q) (o .rises) m (from (wordsOf plain b) v) (upto (wordsOf plain b) v) (a .located .found .group) (all-shared h))
+        ∙ whole-width (wordsOf plain b) (asked plain q) (o .rises) m (from (wordsOf plain b) v) (upto (wordsOf plain b) v) (a .located .found .group) (all-shared (omega arith)))
 
     pub range-all : length q ≤ m → {r n : ℕ} → r ≡ place (asked plain q) (wordsOf plain b) → n ≡ node (wordsOf plain b) v .names
         → (r, n) ≡ range (asked plain q) (wordsOf plain b)
@@ -284,5 +286,4 @@ module _ (q : List ℕ) (ws : Words) {p : Numbers} (kind : ℕ) where
   by-nearest e f = by-kind 4 e f
 
   pub by-width : kind ≡ 5 → p ≡ (width q ws, 0) → p ≡ ask kind q ws
-  unfolding ask
-  by-width e f = by-kind 5 e f
+  by-width e f = by-kind 5 e (f ∙ sym (ask-width q ws))

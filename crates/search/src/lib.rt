@@ -320,7 +320,7 @@ fn ask_width(book: &[u8], t: trailer::Trailer, question: &[u8]) -> Pair
 {
     let start = numbers::wide16(t.nodes);
     let spot = locate(book, t, question);
-    if spot.shared < question.len() {
+    if spot.shared != question.len() {
         return Pair {
             first: 0,
             second: 0,

@@ -14,6 +14,6 @@ is-leaf-spec =
     (λ c. search needs)
     (λ c. leaf-depth _ _ _ _ _ (c .before .depth .ensures .0) (c .before .before .length-of .ensures .0) (c .if1 .taken))
     (λ c κs. search needs)
-    (λ c. search leaf-width)
+    (λ c. leaf-width _ _ _ _ _ (c .before .before .before .depth .ensures .0) (c .before .before .before .before .length-of .ensures .0) _ (c .before .width .ensures .0) (c .if2 .taken))
     (λ c κs. search needs)
-    (λ c. search leaf-nodes))
+    (λ c. leaf-nodes _ _ _ _ _ (c .before .before .before .before .depth .ensures .0) (c .before .before .before .before .before .length-of .ensures .0) _ (c .before .before .width .ensures .0) (c .before .before .before .if1 .left) (c .before .if2 .left) _ (c .nodes .ensures .0)))
