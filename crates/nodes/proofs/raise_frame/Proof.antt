@@ -5,6 +5,9 @@ use Rattle.nodes.proofs.Frames.{raised-stored}
 use Rattle.nodes.proofs.raise_frame.Statement.{statement}
 use Rattle.nodes.proofs.raise_frame.Tie as tie
 
+returns : tie.Need-returns
+returns c = raised-stored _ _ _ _ _ (c .before .width-in .ensures .0) (c .greater .ensures)
+
 pub raise-frame-spec : {M : Type 1} → statement M
 raise-frame-spec =
     tie.close
@@ -16,4 +19,4 @@ raise-frame-spec =
     (λ c. search needs)
     (λ c. search needs)
     (λ c. search needs)
-    (λ c. search raised-stored))
+    returns)
