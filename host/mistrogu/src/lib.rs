@@ -78,10 +78,10 @@ pub use proved::{Answer, Row};
 pub use refusal::{Refusal, Refused};
 
 /// The bytes of stack that are enough for [`build`], whatever is lent to it.
-pub const BUILD_STACK: usize = 5504;
+pub const BUILD_STACK: usize = 5760;
 /// The bytes of stack that are enough for every other call, whatever is lent to
 /// it: a book, or bytes that are none.
-pub const STACK: usize = 20_480;
+pub const STACK: usize = 23_552;
 
 /// What a check tells of a book.
 #[derive(Clone, Copy, Debug, PartialEq, Eq, Hash)]
