@@ -16,7 +16,7 @@ use lib.ListN.{length, drop, getD, length-append, take}
 use borrow.Author.Tests.{eq-eqb, eqb-true, le-leb, leb-true, lt-leb}
 use Rattle.words.specs.Words.{Bytes, Rule, both, pick}
 use Rattle.words.proofs.Words.{both-true}
-use Rattle.format.specs.Records.{Names, Reading, Refused, longest, readList}
+use Rattle.format.specs.Records.{Names, Reading, Refused, longest, mostNames, readList}
 use Rattle.format.specs.Book.{Book, NoBook, Opened, book, goodBlock, longestBook, opened}
 use Rattle.format.proofs.Outcomes.{Kept, picked, same-kept, write-kept}
 use Rattle.format.proofs.Records.{read-refused}
@@ -39,14 +39,14 @@ write-within : (room out : Bytes) → CountWithin (write out room)
 write-within room out = picked CountWithin (leb (length out) (length room)) (simp length-append (omega arith)) (omega arith)
 
 module _ (ρ : Rule) (list : Bytes) (k : ℕ) (room : Bytes) where
-  from-within : (r : Reading) → readList ρ list ≡ r → FirstWithin (builtFrom ρ k room r)
+  from-within : (r : Reading) → readList ρ mostNames list ≡ r → FirstWithin (builtFrom ρ k room r)
   unfolding builtFrom
-  from-within (Refused code i) p = λ e. absurd (omega (arith, read-refused ρ list code i p))
+  from-within (Refused code i) p = λ e. absurd (omega (arith, read-refused ρ mostNames list code i p))
   from-within (Names xs) p = picked FirstWithin (leb (length (book ρ k xs)) longestBook) (λ e. write-within room (book ρ k xs)) (λ e. absurd (omega arith))
 
   pub build-within : (w : Written) → w ≡ build ρ list k room → FirstWithin w
   unfolding build
-  build-within w p = rw p (picked FirstWithin (goodBlock k) (from-within (readList ρ list) refl) (λ e. absurd (omega arith)))
+  build-within w p = rw p (picked FirstWithin (goodBlock k) (from-within (readList ρ mostNames list) refl) (λ e. absurd (omega arith)))
 
 module _ (ρ : Rule) (s : Bytes) (i : ℕ) (room : Bytes) where
   read-of-within : (o : Opened) → CountWithin (readBackOf i room o)
@@ -69,7 +69,7 @@ module _ (room : Bytes) where
 
     pub build-kept : (list : Bytes) (k : ℕ) → Kept room (build ρ list k room)
     unfolding build
-    build-kept list k = picked (Kept room) (goodBlock k) (from-kept k (readList ρ list)) (same-kept room (refused 8))
+    build-kept list k = picked (Kept room) (goodBlock k) (from-kept k (readList ρ mostNames list)) (same-kept room (refused 8))
 
     read-of-kept : (i : ℕ) (o : Opened) → Kept room (readBackOf i room o)
     unfolding readBackOf

@@ -8,7 +8,7 @@ use mathlib.Core.List.{List, [], map}
 use lib.Dec.{leb, ltb, eqb}
 use lib.ListN.{length, getD, take, drop}
 use Rattle.words.specs.Words.{Bytes, Rule, pick, both}
-use Rattle.format.specs.Records.{Reading, Names, Refused, readList, longest}
+use Rattle.format.specs.Records.{Names, Reading, Refused, longest, mostNames, readList}
 use Rattle.format.specs.Book.{Opened, Book, NoBook, longestBook, goodBlock, book, opened}
 use Rattle.format.specs.Outcomes.{Answer, Written, checkOf, given, numbered, refused, write}
 use Rattle.answers.specs.Widths.{lastKind}
@@ -26,7 +26,7 @@ builtFrom ρ k room (Names xs) =
     pick (leb (length (book ρ k xs)) longestBook) (write (book ρ k xs) room) (record { answer = refused 9; room = room })
 
 unfoldable pub build : Rule → Bytes → ℕ → Bytes → Written
-build ρ list k room = pick (goodBlock k) (builtFrom ρ k room (readList ρ list)) (record { answer = refused 8; room = room })
+build ρ list k room = pick (goodBlock k) (builtFrom ρ k room (readList ρ mostNames list)) (record { answer = refused 8; room = room })
 
 -- ---- check: 2
 unfoldable pub check : Rule → Bytes → Answer

@@ -12,7 +12,7 @@ use lib.ListN.{length}
 use borrow.Author.Tests.{le-leb, lt-leb}
 use Rattle.words.specs.Words.{Bytes, pick, plain}
 use Rattle.format.specs.Book.{goodBlock}
-use Rattle.format.specs.Records.{Names, Reading, Refused, readList, sound}
+use Rattle.format.specs.Records.{Names, Reading, Refused, mostNames, readList, sound}
 use Rattle.format.proofs.Records.{read-refused, read-sound, sound-few}
 use Rattle.format.specs.Outcomes.{Answer as Numbers, Written, given, numbered, refused}
 use Rattle.answers.specs.Calls.{build, builtFrom}
@@ -26,7 +26,7 @@ use Rattle.shapes.specs.Shapes.{answered, written}
 use Rattle.shapes.specs.declared.Answer.{Answer}
 
 module _ (s : Bytes) (k : ℕ) (room : Bytes) where
-  gate : (t : Bool) → goodBlock k ≡ t → build plain s k room ≡ pick t (builtFrom plain k room (readList plain s)) (record { answer = refused 8; room = room })
+  gate : (t : Bool) → goodBlock k ≡ t → build plain s k room ≡ pick t (builtFrom plain k room (readList plain mostNames s)) (record { answer = refused 8; room = room })
   unfolding build
   gate t p = rw p refl
 
@@ -41,28 +41,28 @@ module _ (s : Bytes) (k : ℕ) (room : Bytes) where
   build-high r e h = ap (λ (a : Numbers). record { answer = a; room = room }) e ∙ sym (gate false (rw (le-leb 1 k (omega arith), lt-leb k 64 h) refl))
 
   module _ (z : k ≡ 0 → ⊥) (h : k ≤ 64) where
-    build-good : (w : Written) → w ≡ builtFrom plain k room (readList plain s) → w ≡ build plain s k room
+    build-good : (w : Written) → w ≡ builtFrom plain k room (readList plain mostNames s) → w ≡ build plain s k room
     build-good w p = p ∙ sym (gate true (rw (le-leb 1 k (omega arith), le-leb k 64 h) refl))
 
-    pub build-bad : (r : Answer) (code i : ℕ) → Ends r code i → (lens shares : List ℕ) (v : Verdict) → Judged s lens shares v → v ≡ Bad code i
+    pub build-bad : (r : Answer) (code i : ℕ) → Ends r code i → (lens shares : List ℕ) (v : Verdict) → Judged s mostNames lens shares v → v ≡ Bad code i
         → written r room ≡ build plain s k room
     unfolding builtFrom readingOf
     build-bad r code i e lens shares v j u =
-        build-good (written r room) (ap (λ (a : Numbers). record { answer = a; room = room }) e ∙ go (readList plain s) (ap verdictNumbers (sym u) ∙ j .verdict))
+        build-good (written r room) (ap (λ (a : Numbers). record { answer = a; room = room }) e ∙ go (readList plain mostNames s) (ap verdictNumbers (sym u) ∙ j .verdict))
       where
         go : (x : Reading) → numbered code i ≡ readingOf x → record { answer = numbered code i; room = room } ≡ builtFrom plain k room x
         go (Names xs) f = absurd (let y : code ≡ 0 = ap (λ (a : Numbers). a .code) f in omega (arith, j .refuses code i u))
         go (Refused c j) f = ap (λ (a : Numbers). record { answer = a; room = room }) f
 
-    pub judged-asks : (n : ℕ) (lens shares : List ℕ) (v : Verdict) → Judged s lens shares v → v ≡ Good n → BuildAsk s n lens shares k
+    pub judged-asks : (n : ℕ) (lens shares : List ℕ) (v : Verdict) → Judged s mostNames lens shares v → v ≡ Good n → length lens ≡ mostNames → BuildAsk s n lens shares k
     unfolding names readingOf
-    judged-asks n lens shares v j e = go (readList plain s) refl (ap verdictNumbers (sym e) ∙ j .verdict)
+    judged-asks n lens shares v j e places = go (readList plain mostNames s) refl (ap verdictNumbers (sym e) ∙ j .verdict)
       where
-        names-are : (xs : List Bytes) → readList plain s ≡ Names xs → names s ≡ xs
+        names-are : (xs : List Bytes) → readList plain mostNames s ≡ Names xs → names s ≡ xs
         names-are xs p = ap namesIn p
 
-        go : (x : Reading) → readList plain s ≡ x → given n 0 ≡ readingOf x → BuildAsk s n lens shares k
-        go (Refused c i) p f = absurd (let y : 0 ≡ c = ap (λ (a : Numbers). a .code) f in omega (arith, read-refused plain s c i p))
+        go : (x : Reading) → readList plain mostNames s ≡ x → given n 0 ≡ readingOf x → BuildAsk s n lens shares k
+        go (Refused c i) p f = absurd (let y : 0 ≡ c = ap (λ (a : Numbers). a .code) f in omega (arith, read-refused plain mostNames s c i p))
         go (Names xs) p f =
             let all : names s ≡ xs = names-are xs p in
             let b = read-sound plain s (names s) (p ∙ ap Names (sym all)) in
@@ -70,16 +70,16 @@ module _ (s : Bytes) (k : ℕ) (room : Bytes) where
             let size : n ≡ length (names s) = count ∙ ap length (sym all) in
             record {
               read = p ∙ ap Names (sym all);
-              ready = record { bytes = b .0; total = size; few = omega (arith, sound-few plain (names s) (b .1)); sound = b .1; noted = j .noted };
+              ready = record { bytes = b .0; total = size; few = omega (arith, sound-few plain (names s) (b .1)); sound = b .1; noted = j .noted (omega arith) };
               low = omega arith;
               high = h;
             }
 
     -- what building a judged list gave, as the call's own answer
-    module _ (new : Bytes) (v : Built) (p : shownBuilt v new ≡ builtFrom plain k room (readList plain s)) where
+    module _ (new : Bytes) (v : Built) (p : shownBuilt v new ≡ builtFrom plain k room (readList plain mostNames s)) where
       pub build-refused : (r : Answer) (code : ℕ) → Ends r code 0 → v ≡ Stopped code → written r new ≡ build plain s k room
       build-refused r code e u =
-          build-good (written r new) (ap (λ (a : Numbers). record { answer = a; room = new }) e ∙ subst (λ (w : Built). shownBuilt w new ≡ builtFrom plain k room (readList plain s)) u p)
+          build-good (written r new) (ap (λ (a : Numbers). record { answer = a; room = new }) e ∙ subst (λ (w : Built). shownBuilt w new ≡ builtFrom plain k room (readList plain mostNames s)) u p)
 
       pub build-written : (total : ℕ) → v ≡ Wrote total → record { answer = given total 0; room = new } ≡ build plain s k room
-      build-written total u = build-good (shownBuilt (Wrote total) new) (subst (λ (w : Built). shownBuilt w new ≡ builtFrom plain k room (readList plain s)) u p)
+      build-written total u = build-good (shownBuilt (Wrote total) new) (subst (λ (w : Built). shownBuilt w new ≡ builtFrom plain k room (readList plain mostNames s)) u p)

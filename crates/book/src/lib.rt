@@ -22,7 +22,7 @@ pub extern "C" fn book_build(list: &[u8], block: usize, room: &mut [u8]) -> Answ
     }
     let mut lens = [0u8; 2000];
     let mut shares = [0u8; 2000];
-    let verdict = records::judge(list, &mut lens, &mut shares);
+    let verdict = records::judge(list, 2000, &mut lens, &mut shares);
     match verdict {
         records::Verdict::Bad(code, record) => shapes::refuse(code, record),
         records::Verdict::Good(n) => {

@@ -19,7 +19,7 @@ use Rattle.words.specs.Words.{Bytes, Words, pick, plain, word}
 use Rattle.format.specs.Book.{blockPart, book, entryPart, longestBook, mark, nodePart, numbers, trailer}
 use Rattle.format.specs.Spans.{nodeSize}
 use Rattle.format.specs.Nodes.{table}
-use Rattle.format.specs.Records.{readList}
+use Rattle.format.specs.Records.{mostNames, readList}
 use Rattle.format.proofs.Book.{book-length, book-parts, nodes-length, records, trailerAt, trailerNumbers}
 use Rattle.format.proofs.Groups.{table-empty}
 use Rattle.format.proofs.Spans.{table-few}
@@ -164,21 +164,21 @@ module _ {s : Bytes} {n : ℕ} {lens shares : List ℕ} {k : ℕ} (a : BuildAsk 
 
     module _ (room : Bytes) where
       chosen : (f d : Bool) → leb (length (book plain k (names s))) longestBook ≡ f → leb (length (book plain k (names s))) (length room) ≡ d
-          → builtFrom plain k room (readList plain s)
+          → builtFrom plain k room (readList plain mostNames s)
           ≡ pick f (pick d (record { answer = given (length (book plain k (names s))) 0; room = over (book plain k (names s)) room }) (record { answer = refused 4; room = room }))
           (record { answer = refused 9; room = room })
       unfolding builtFrom
       chosen f d p q = ap (builtFrom plain k room) (a .read) ∙ rw (p, q) refl
 
-      pub ends-nine : 65535 < total → record { answer = refused 9; room = room } ≡ builtFrom plain k room (readList plain s)
+      pub ends-nine : 65535 < total → record { answer = refused 9; room = room } ≡ builtFrom plain k room (readList plain mostNames s)
       ends-nine h = sym (chosen false _ (lt-leb (length (book plain k (names s))) longestBook (omega (arith, book-size))) refl)
 
-      pub ends-four : total ≤ 65535 → length room < total → record { answer = refused 4; room = room } ≡ builtFrom plain k room (readList plain s)
+      pub ends-four : total ≤ 65535 → length room < total → record { answer = refused 4; room = room } ≡ builtFrom plain k room (readList plain mostNames s)
       ends-four h l =
           sym (chosen true false (le-leb (length (book plain k (names s))) longestBook (omega (arith, book-size))) (lt-leb (length (book plain k (names s))) (length room) (omega (arith, book-size))))
 
       pub ends-done : (new : Bytes) → total ≤ 65535 → total ≤ length room → new ≡ over (book plain k (names s)) room
-          → record { answer = given total 0; room = new } ≡ builtFrom plain k room (readList plain s)
+          → record { answer = given total 0; room = new } ≡ builtFrom plain k room (readList plain mostNames s)
       ends-done new h l w =
           ap₂ (λ (i : ℕ) (r : Bytes). record { answer = given i 0; room = r }) (sym book-size) w
           ∙ sym (chosen true true (le-leb (length (book plain k (names s))) longestBook (omega (arith, book-size))) (le-leb (length (book plain k (names s))) (length room) (omega (arith, book-size))))

@@ -9,7 +9,7 @@ use mathlib.Core.List.{List}
 use lib.ListN.{length}
 use Rattle.words.specs.Words.{Bytes, plain}
 use Rattle.format.specs.Nodes.{table}
-use Rattle.format.specs.Records.{Names, readList}
+use Rattle.format.specs.Records.{Names, mostNames, readList}
 use Rattle.format.specs.Book.{entryPart, blockPart}
 use Rattle.format.specs.Spans.{nodeSize}
 use Rattle.format.specs.Outcomes.{Written, given, refused}
@@ -18,7 +18,7 @@ use Rattle.build.specs.declared.Built.{Built}
 use Rattle.build.specs.declared.Built.the-variants.{Written as Wrote, Refused}
 
 pub record BuildAsk (s : Bytes) (n : ℕ) (lens shares : List ℕ) (k : ℕ) : Type 0 where
-  pub read : readList plain s ≡ Names (names s)
+  pub read : readList plain mostNames s ≡ Names (names s)
   pub ready : Ready s n lens shares
   pub low : 1 ≤ k
   pub high : k ≤ 64

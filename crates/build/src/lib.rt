@@ -4,7 +4,7 @@ ghost use mathlib.Core.Path.{_≡_};
 ghost use Prim.Native.Nat.{_≤_};
 ghost use lib.ListN.{length};
 ghost use Rattle.words.specs.Words.{plain};
-ghost use Rattle.format.specs.Records.{readList};
+ghost use Rattle.format.specs.Records.{mostNames, readList};
 ghost use Rattle.format.specs.Book.{book};
 ghost use Rattle.format.specs.Outcomes.{over};
 ghost use Rattle.answers.specs.Calls.{builtFrom};
@@ -77,7 +77,7 @@ pub fn build_judged(
     room: &mut [u8],
 ) -> Built
     requires { ⌜ BuildAsk (now list) n (now lens) (now shares) k ⌝ }
-    ensures { λ r. ⌜ shownBuilt r (now (room .exit)) ≡ builtFrom plain k (now (room .entry)) (readList plain (now (list .entry))) ⌝ }
+    ensures { λ r. ⌜ shownBuilt r (now (room .exit)) ≡ builtFrom plain k (now (room .entry)) (readList plain mostNames (now (list .entry))) ⌝ }
 {
     let s = sizes_of(list, n, lens, shares, k);
     let total = s.total;

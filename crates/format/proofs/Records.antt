@@ -1,6 +1,6 @@
 -- A list's bytes and its names: each sound list of names is read from one run of bytes, and no other is read.
 --     read-skip                 what was skipped does not count
---     read-encode, read-sound   the round trip, both ways
+--     read-encode, read-names, read-sound   the round trip, both ways; for any number of names, and for as many as a book has
 --     read-refused              a list that is not read is refused with 5, 6 or 7
 --     sound-few, sound-rising, rising-sizes, sound-rises, word-short    what a sound list's names are; their words rise
 --     from-rising, from-sound                and back
@@ -23,56 +23,54 @@ use Rattle.words.proofs.Words.{both-true, less-start, less-trans, word-positive
 use Rattle.format.specs.Records.{Names, Reading, Refused, after, encode, goodLength, longest, mostNames, readFrom, readList, rising, sound}
 
 -- what was skipped does not count
-pub read-skip : (ρ : Rule) (i : ℕ) (prev : Bytes) (n : ℕ) (s : Bytes) → readFrom ρ i prev n s ≡ readFrom ρ i prev 0 (drop n s)
+pub read-skip : (ρ : Rule) (most i : ℕ) (prev : Bytes) (n : ℕ) (s : Bytes) → readFrom ρ most i prev n s ≡ readFrom ρ most i prev 0 (drop n s)
 unfolding readFrom
-read-skip ρ i prev zero s = refl
-read-skip ρ i prev (suc n) [] = refl
-read-skip ρ i prev (suc n) (b ∷ s) = read-skip ρ i prev n s
+read-skip ρ most i prev zero s = refl
+read-skip ρ most i prev (suc n) [] = refl
+read-skip ρ most i prev (suc n) (b ∷ s) = read-skip ρ most i prev n s
 
 -- a record that is good is its name, and then the records after it
-read-good : (ρ : Rule) (i : ℕ) (prev x rest : Bytes) → goodLength (length x) ≡ true → less (word ρ prev) (word ρ x) ≡ true → i < mostNames
-    → readFrom ρ i prev 0 (length x ∷ x ++ rest) ≡ after x (readFrom ρ (suc i) x 0 rest)
+read-good : (ρ : Rule) (most i : ℕ) (prev x rest : Bytes) → goodLength (length x) ≡ true → less (word ρ prev) (word ρ x) ≡ true → i < most
+    → readFrom ρ most i prev 0 (length x ∷ x ++ rest) ≡ after x (readFrom ρ most (suc i) x 0 rest)
 unfolding readFrom
-read-good ρ i prev x rest g l h =
-    rw (take-append-seam x rest, g, le-leb (length x) (length (x ++ rest)) (omega (arith, length-append x rest)), l, lt-ltb i mostNames h)
-    (ap (after x) (read-skip ρ (suc i) x (length x) (x ++ rest) ∙ ap (readFrom ρ (suc i) x 0) (drop-append-seam x rest)))
+read-good ρ most i prev x rest g l h =
+    rw (take-append-seam x rest, g, le-leb (length x) (length (x ++ rest)) (omega (arith, length-append x rest)), l, lt-ltb i most h)
+    (ap (after x) (read-skip ρ most (suc i) x (length x) (x ++ rest) ∙ ap (readFrom ρ most (suc i) x 0) (drop-append-seam x rest)))
 
-read-rising : (ρ : Rule) (i : ℕ) (prev : Bytes) (xs : List Bytes) → rising ρ prev xs ≡ true → length xs ≤ mostNames - i → readFrom ρ i prev 0 (encode xs) ≡ Names xs
+read-rising : (ρ : Rule) (most i : ℕ) (prev : Bytes) (xs : List Bytes) → rising ρ prev xs ≡ true → length xs ≤ most - i → readFrom ρ most i prev 0 (encode xs) ≡ Names xs
 unfolding readFrom encode rising
-read-rising ρ i prev [] r h = refl
-read-rising ρ i prev (x ∷ xs) r h =
+read-rising ρ most i prev [] r h = refl
+read-rising ρ most i prev (x ∷ xs) r h =
     let b = both-true (goodLength (length x)) (both (less (word ρ prev) (word ρ x)) (rising ρ x xs)) r in
     let c = both-true (less (word ρ prev) (word ρ x)) (rising ρ x xs) (b .1) in
-    read-good ρ i prev x (encode xs) (b .0) (c .0) (omega arith) ∙ ap (after x) (read-rising ρ (suc i) x xs (c .1) (omega arith))
+    read-good ρ most i prev x (encode xs) (b .0) (c .0) (omega arith) ∙ ap (after x) (read-rising ρ most (suc i) x xs (c .1) (omega arith))
 
-pub read-encode : (ρ : Rule) (xs : List Bytes) → sound ρ xs ≡ true → readList ρ (encode xs) ≡ Names xs
-unfolding readList sound
-read-encode ρ xs s =
-    let b = both-true (leb (length xs) mostNames) (rising ρ [] xs) s in
-    read-rising ρ 0 [] xs (b .1) (omega (arith, leb-true (length xs) mostNames (b .0)))
+pub read-encode : (ρ : Rule) (most : ℕ) (xs : List Bytes) → length xs ≤ most → rising ρ [] xs ≡ true → readList ρ most (encode xs) ≡ Names xs
+unfolding readList
+read-encode ρ most xs few r = read-rising ρ most 0 [] xs r (omega arith)
 
 -- ---- what is read is sound, and its bytes are those that were read
 
-record ReadBack (ρ : Rule) (i : ℕ) (prev s : Bytes) (xs : List Bytes) : Type 0 where
+record ReadBack (ρ : Rule) (most i : ℕ) (prev s : Bytes) (xs : List Bytes) : Type 0 where
   bytes : encode xs ≡ s
-  few : length xs ≤ mostNames - i
+  few : length xs ≤ most - i
   rises : rising ρ prev xs ≡ true
 
-read-back : (ρ : Rule) (i : ℕ) (prev : Bytes) (n : ℕ) (s : Bytes) (xs : List Bytes) → n ≤ length s → readFrom ρ i prev n s ≡ Names xs → ReadBack ρ i prev (drop n s) xs
+read-back : (ρ : Rule) (most i : ℕ) (prev : Bytes) (n : ℕ) (s : Bytes) (xs : List Bytes) → n ≤ length s → readFrom ρ most i prev n s ≡ Names xs → ReadBack ρ most i prev (drop n s) xs
 unfolding readFrom encode rising
-read-back ρ i prev (suc n) [] xs h e = absurd (not-suc-le-zero h)
-read-back ρ i prev (suc n) (b ∷ s) xs h e = read-back ρ i prev n s xs (le-of-suc-le-suc h) e
-read-back ρ i prev zero [] [] h e = record { bytes = refl; few = zero-le; rises = refl }
-read-back ρ i prev zero [] (x ∷ xs) h e = let z : _≡_ {A = ℕ} 0 1 = cc in absurd (omega arith)
-read-back ρ i prev zero (n ∷ rest) xs h e =
-    go (both (goodLength n) (leb n (length rest))) (less (word ρ prev) (word ρ (take n rest))) (ltb i mostNames) (readFrom ρ (suc i) (take n rest) n rest)
-    refl refl refl refl (λ ys k. read-back ρ (suc i) (take n rest) n rest ys k) e
+read-back ρ most i prev (suc n) [] xs h e = absurd (not-suc-le-zero h)
+read-back ρ most i prev (suc n) (b ∷ s) xs h e = read-back ρ most i prev n s xs (le-of-suc-le-suc h) e
+read-back ρ most i prev zero [] [] h e = record { bytes = refl; few = zero-le; rises = refl }
+read-back ρ most i prev zero [] (x ∷ xs) h e = let z : _≡_ {A = ℕ} 0 1 = cc in absurd (omega arith)
+read-back ρ most i prev zero (n ∷ rest) xs h e =
+    go (both (goodLength n) (leb n (length rest))) (less (word ρ prev) (word ρ (take n rest))) (ltb i most) (readFrom ρ most (suc i) (take n rest) n rest)
+    refl refl refl refl (λ ys k. read-back ρ most (suc i) (take n rest) n rest ys k) e
   where
-    go : (a b c : Bool) (r : Reading) → both (goodLength n) (leb n (length rest)) ≡ a → less (word ρ prev) (word ρ (take n rest)) ≡ b → ltb i mostNames ≡ c
-        → readFrom ρ (suc i) (take n rest) n rest ≡ r
-        → ((ys : List Bytes) → n ≤ length rest → readFrom ρ (suc i) (take n rest) n rest ≡ Names ys → ReadBack ρ (suc i) (take n rest) (drop n rest) ys)
+    go : (a b c : Bool) (r : Reading) → both (goodLength n) (leb n (length rest)) ≡ a → less (word ρ prev) (word ρ (take n rest)) ≡ b → ltb i most ≡ c
+        → readFrom ρ most (suc i) (take n rest) n rest ≡ r
+        → ((ys : List Bytes) → n ≤ length rest → readFrom ρ most (suc i) (take n rest) n rest ≡ Names ys → ReadBack ρ most (suc i) (take n rest) (drop n rest) ys)
         → pick a (pick b (pick c (after (take n rest) r) (Refused 7 i)) (Refused 6 i)) (Refused 5 i) ≡ Names xs
-        → ReadBack ρ i prev (n ∷ rest) xs
+        → ReadBack ρ most i prev (n ∷ rest) xs
     go true true true (Names ys) p q t f ih e′ =
         let l = both-true (goodLength n) (leb n (length rest)) p in
         let fits : n ≤ length rest = leb-true n (length rest) (l .1) in
@@ -81,7 +79,7 @@ read-back ρ i prev zero (n ∷ rest) xs h e =
         let all : xs ≡ take n rest ∷ ys = cc in
         rw all (record {
           bytes = ap₂ (λ (m : ℕ) (r : Bytes). m ∷ r) size (ap (λ (r : Bytes). take n rest ++ r) (b .bytes) ∙ take-append-drop n rest);
-          few = omega (arith, b .few, ltb-true i mostNames t);
+          few = omega (arith, b .few, ltb-true i most t);
           rises = rw (size, l .0, q) (b .rises);
         })
     go true true true (Refused c j) p q t f ih e′ = let z : _≡_ {A = ℕ} 0 1 = cc in absurd (omega arith)
@@ -89,25 +87,37 @@ read-back ρ i prev zero (n ∷ rest) xs h e =
     go true false c r p q t f ih e′ = let z : _≡_ {A = ℕ} 0 1 = cc in absurd (omega arith)
     go false b c r p q t f ih e′ = let z : _≡_ {A = ℕ} 0 1 = cc in absurd (omega arith)
 
-pub read-sound : (ρ : Rule) (s : Bytes) (xs : List Bytes) → readList ρ s ≡ Names xs → (encode xs ≡ s) × (sound ρ xs ≡ true)
-unfolding readList sound
+-- what a reading of at most so many names gives
+pub record ReadNames (ρ : Rule) (most : ℕ) (s : Bytes) (xs : List Bytes) : Type 0 where
+  pub bytes : encode xs ≡ s
+  pub few : length xs ≤ most
+  pub rises : rising ρ [] xs ≡ true
+
+pub read-names : (ρ : Rule) (most : ℕ) (s : Bytes) (xs : List Bytes) → readList ρ most s ≡ Names xs → ReadNames ρ most s xs
+unfolding readList
+read-names ρ most s xs e =
+    let b = read-back ρ most 0 [] 0 s xs zero-le e in
+    record { bytes = b .bytes; few = omega (arith, b .few); rises = b .rises }
+
+pub read-sound : (ρ : Rule) (s : Bytes) (xs : List Bytes) → readList ρ mostNames s ≡ Names xs → (encode xs ≡ s) × (sound ρ xs ≡ true)
+unfolding sound
 read-sound ρ s xs e =
-    let b = read-back ρ 0 [] 0 s xs zero-le e in
-    (b .bytes, rw (le-leb (length xs) mostNames (omega (arith, b .few))) (b .rises))
+    let b = read-names ρ mostNames s xs e in
+    (b .bytes, rw (le-leb (length xs) mostNames (b .few)) (b .rises))
 
 -- ---- a list that is not read
 
-from-refused : (ρ : Rule) (i : ℕ) (prev : Bytes) (n : ℕ) (s : Bytes) (code j : ℕ) → readFrom ρ i prev n s ≡ Refused code j → 5 ≤ code
+from-refused : (ρ : Rule) (most i : ℕ) (prev : Bytes) (n : ℕ) (s : Bytes) (code j : ℕ) → readFrom ρ most i prev n s ≡ Refused code j → 5 ≤ code
 unfolding readFrom
-from-refused ρ i prev zero [] code j e = let z : _≡_ {A = ℕ} 0 1 = cc in absurd (omega arith)
-from-refused ρ i prev (suc n) [] code j e = let z : _≡_ {A = ℕ} 0 1 = cc in absurd (omega arith)
-from-refused ρ i prev (suc n) (b ∷ s) code j e = from-refused ρ i prev n s code j e
-from-refused ρ i prev zero (n ∷ rest) code j e =
-    go (both (goodLength n) (leb n (length rest))) (less (word ρ prev) (word ρ (take n rest))) (ltb i mostNames) (readFrom ρ (suc i) (take n rest) n rest) refl
-    (λ c k. from-refused ρ (suc i) (take n rest) n rest c k) e
+from-refused ρ most i prev zero [] code j e = let z : _≡_ {A = ℕ} 0 1 = cc in absurd (omega arith)
+from-refused ρ most i prev (suc n) [] code j e = let z : _≡_ {A = ℕ} 0 1 = cc in absurd (omega arith)
+from-refused ρ most i prev (suc n) (b ∷ s) code j e = from-refused ρ most i prev n s code j e
+from-refused ρ most i prev zero (n ∷ rest) code j e =
+    go (both (goodLength n) (leb n (length rest))) (less (word ρ prev) (word ρ (take n rest))) (ltb i most) (readFrom ρ most (suc i) (take n rest) n rest) refl
+    (λ c k. from-refused ρ most (suc i) (take n rest) n rest c k) e
   where
-    go : (a b c : Bool) (r : Reading) → readFrom ρ (suc i) (take n rest) n rest ≡ r
-        → ((c′ k : ℕ) → readFrom ρ (suc i) (take n rest) n rest ≡ Refused c′ k → 5 ≤ c′)
+    go : (a b c : Bool) (r : Reading) → readFrom ρ most (suc i) (take n rest) n rest ≡ r
+        → ((c′ k : ℕ) → readFrom ρ most (suc i) (take n rest) n rest ≡ Refused c′ k → 5 ≤ c′)
         → pick a (pick b (pick c (after (take n rest) r) (Refused 7 i)) (Refused 6 i)) (Refused 5 i) ≡ Refused code j
         → 5 ≤ code
     go true true true (Names xs) f ih e′ = let z : _≡_ {A = ℕ} 0 1 = cc in absurd (omega arith)
@@ -116,9 +126,9 @@ from-refused ρ i prev zero (n ∷ rest) code j e =
     go true false c r f ih e′ = let same : 6 ≡ code = cc in omega arith
     go false b c r f ih e′ = let same : 5 ≡ code = cc in omega arith
 
-pub read-refused : (ρ : Rule) (s : Bytes) (code i : ℕ) → readList ρ s ≡ Refused code i → 5 ≤ code
+pub read-refused : (ρ : Rule) (most : ℕ) (s : Bytes) (code i : ℕ) → readList ρ most s ≡ Refused code i → 5 ≤ code
 unfolding readList
-read-refused ρ s code i e = from-refused ρ 0 [] 0 s code i e
+read-refused ρ most s code i e = from-refused ρ most 0 [] 0 s code i e
 
 -- ---- what a sound list is
 

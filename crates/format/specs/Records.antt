@@ -1,7 +1,7 @@
 -- Document 01, 'A list is a run of records': one length byte, then that many bytes; names strictly rise, and the first bad record
 -- ends the reading with refusal 5, 6 or 7 and the record's number.
 --     longest, mostNames, goodLength    1 to 200 bytes; 2,000 names
---     readList, encode, sound           the names of a list, or the refusal; the records of names; names that a list can have
+--     readList, encode, sound           the names of a list, if they are no more than allowed, or the refusal; the records of names; names that a list can have
 -- The laws are in proofs/Records.antt. Assumes nothing: these are definitions.
 use Prim.Native.Nat.{ℕ, zero, suc}
 use mathlib.Core.Bool.{Bool, true}
@@ -28,20 +28,20 @@ after x (Names xs) = Names (x ∷ xs)
 after x (Refused code record-number) = Refused code record-number
 
 -- From number i on, after the name prev; the first `skip` bytes belong to the record before. A record is asked 5, then 6, then 7.
-unfoldable pub readFrom : Rule → ℕ → Bytes → ℕ → Bytes → Reading
-readFrom ρ i prev zero [] = Names []
-readFrom ρ i prev zero (n ∷ rest) =
+unfoldable pub readFrom : Rule → ℕ → ℕ → Bytes → ℕ → Bytes → Reading
+readFrom ρ most i prev zero [] = Names []
+readFrom ρ most i prev zero (n ∷ rest) =
     let x = take n rest in
-    let more = after x (readFrom ρ (suc i) x n rest) in
+    let more = after x (readFrom ρ most (suc i) x n rest) in
     pick (both (goodLength n) (leb n (length rest)))
-    (pick (less (word ρ prev) (word ρ x)) (pick (ltb i mostNames) more (Refused 7 i)) (Refused 6 i))
+    (pick (less (word ρ prev) (word ρ x)) (pick (ltb i most) more (Refused 7 i)) (Refused 6 i))
     (Refused 5 i)
-readFrom ρ i prev (suc skip) [] = Names []
-readFrom ρ i prev (suc skip) (b ∷ rest) = readFrom ρ i prev skip rest
+readFrom ρ most i prev (suc skip) [] = Names []
+readFrom ρ most i prev (suc skip) (b ∷ rest) = readFrom ρ most i prev skip rest
 
 -- the empty word is below every name, so the first record is no case of its own
-unfoldable pub readList : Rule → Bytes → Reading
-readList ρ s = readFrom ρ 0 [] 0 s
+unfoldable pub readList : Rule → ℕ → Bytes → Reading
+readList ρ most s = readFrom ρ most 0 [] 0 s
 
 unfoldable pub encode : List Bytes → Bytes
 encode [] = []

@@ -12,7 +12,7 @@ use mathlib.Core.List.{List, [], map}
 use mathlib.Core.Bool.{true}
 use lib.ListN.{length, getD, take}
 use Rattle.words.specs.Words.{Bytes, Words, plain, word, shared}
-use Rattle.format.specs.Records.{Reading, Names, Refused, readList, encode, sound}
+use Rattle.format.specs.Records.{Names, Reading, Refused, encode, mostNames, readList, sound}
 use Rattle.format.specs.Outcomes.{Answer, given, numbered}
 use Rattle.records.specs.declared.Verdict.{Verdict}
 use Rattle.records.specs.declared.Verdict.the-variants.{Good, Bad}
@@ -31,7 +31,7 @@ namesIn (Names xs) = xs
 namesIn (Refused code i) = []
 
 unfoldable pub names : Bytes → List Bytes
-names s = namesIn (readList plain s)
+names s = namesIn (readList plain mostNames s)
 
 unfoldable pub words : Bytes → Words
 words s = map (word plain) (names s)
@@ -43,10 +43,11 @@ pub record Noted (xs : List Bytes) (lens shares : List ℕ) : Type 0 where
   pub first : 0 < length xs → getD shares 0 0 ≡ 0
   pub common : (i : ℕ) → suc i < length xs → getD shares (suc i) 0 ≡ shared (getD xs i []) (getD xs (suc i) [])
 
-pub record Judged (s : Bytes) (lens shares : List ℕ) (r : Verdict) : Type 0 where
-  pub verdict : verdictNumbers r ≡ readingOf (readList plain s)
+-- a list may have at most so many names; they are noted where the rows have a place for as many
+pub record Judged (s : Bytes) (most : ℕ) (lens shares : List ℕ) (r : Verdict) : Type 0 where
+  pub verdict : verdictNumbers r ≡ readingOf (readList plain most s)
   pub refuses : (code i : ℕ) → r ≡ Bad code i → 5 ≤ code
-  pub noted : Noted (names s) lens shares
+  pub noted : most ≤ length lens → Noted (namesIn (readList plain most s)) lens shares
 
 -- a list of n names has been judged
 pub record Ready (s : Bytes) (n : ℕ) (lens shares : List ℕ) : Type 0 where

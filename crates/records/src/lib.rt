@@ -1,7 +1,7 @@
 // Judging a list: document 01, 'The first bad record ends the reading'. One loop over the records yields the verdict by `break`; the
 // comparison of a name with the one before is nested inside and left by its label. It finds the bytes that both begin with; the next
 // byte then tells the order, in one test. What it learns on the way, each name's length and what it shares with the name before, is
-// noted for those who write the book.
+// noted for those who write the book, as far as there are places to note it.
 ghost use mathlib.Core.Path.{_≡_};
 ghost use lib.ListN.{length};
 ghost use Rattle.records.specs.Lists.{Judged};
@@ -14,10 +14,10 @@ pub enum Verdict {
     Bad(usize, usize),
 }
 
-// Reads the list. The name before stands at `prev` and has `before` bytes: at first there is none.
-pub fn judge(list: &[u8], lens: &mut [u8], shares: &mut [u8]) -> Verdict
-    requires { ⌜ (length (now lens) ≡ 2000) × (length (now shares) ≡ 2000) ⌝ }
-    ensures { λ r. ⌜ Judged (now (list .entry)) (now (lens .exit)) (now (shares .exit)) r ⌝ }
+// Reads a list that may have `limit` names. The name before stands at `prev` and has `before` bytes: at first there is none.
+pub fn judge(list: &[u8], limit: usize, lens: &mut [u8], shares: &mut [u8]) -> Verdict
+    requires { ⌜ length (now lens) ≡ length (now shares) ⌝ }
+    ensures { λ r. ⌜ Judged (now (list .entry)) limit (now (lens .exit)) (now (shares .exit)) r ⌝ }
 {
     let mut at: usize = 0;
     let mut prev: usize = 0;
@@ -57,11 +57,13 @@ pub fn judge(list: &[u8], lens: &mut [u8], shares: &mut [u8]) -> Verdict
                 break 'records Verdict::Bad(6, n);
             }
         }
-        if 2000 <= n {
+        if limit <= n {
             break 'records Verdict::Bad(7, n);
         }
-        lens[n] = len as u8;
-        shares[n] = i as u8;
+        if n < lens.len() {
+            lens[n] = len as u8;
+            shares[n] = i as u8;
+        }
         prev = start;
         before = len;
         at = start + len;

@@ -20,19 +20,19 @@ use Rattle.words.proofs.Rising.{nth-less, nth-word}
 use Rattle.words.proofs.Words.{both-true, less-short, shared-word-le}
 use Rattle.format.specs.Book.{book, entryPart, fits, goodBlock, longestBook}
 use Rattle.format.specs.Entries.{blocks, decode, decodeFrom, offsets}
-use Rattle.format.specs.Records.{Names, Reading, Refused, encode, readList, sound}
+use Rattle.format.specs.Records.{Names, Reading, Refused, encode, mostNames, readList, sound}
 use Rattle.format.proofs.Book.{Fits, fits-parts, opened-book, parts-fits}
 use Rattle.format.proofs.Entries.{decode-at, decode-entries}
-use Rattle.format.proofs.Records.{read-encode, read-refused, read-sound, rising-sizes, sound-rises, sound-rising}
+use Rattle.format.proofs.Records.{read-encode, read-refused, read-sound, rising-sizes, sound-few, sound-rises, sound-rising}
 use Rattle.format.specs.Outcomes.{Written, checkOf, given, over, refused, write}
 use Rattle.answers.specs.Calls.{build, builtFrom, check, readBack, readBackOf}
 use Rattle.theorems.specs.Demands.{RoundTrip}
 
 module _ (ρ : Rule) where
-  pub list-read : (xs : List Bytes) → sound ρ xs ≡ true → readList ρ (encode xs) ≡ Names xs
-  list-read xs h = read-encode ρ xs h
+  pub list-read : (xs : List Bytes) → sound ρ xs ≡ true → readList ρ mostNames (encode xs) ≡ Names xs
+  list-read xs h = read-encode ρ mostNames xs (sound-few ρ xs h) (sound-rising ρ xs h)
 
-  pub list-written : (s : Bytes) (xs : List Bytes) → readList ρ s ≡ Names xs → (encode xs ≡ s) × (sound ρ xs ≡ true)
+  pub list-written : (s : Bytes) (xs : List Bytes) → readList ρ mostNames s ≡ Names xs → (encode xs ≡ s) × (sound ρ xs ≡ true)
   list-written s xs e = read-sound ρ s xs e
 
   module _ (k : ℕ) (xs : List Bytes) where
@@ -78,9 +78,9 @@ module _ (ρ : Rule) (list : Bytes) (k : ℕ) (room : Bytes) where
         front : take (length (book ρ k xs)) (over (book ρ k xs) room) ≡ book ρ k xs
         front = take-append-seam (book ρ k xs) (drop (length (book ρ k xs)) room)
 
-  trip-from : goodBlock k ≡ true → (r : Reading) → readList ρ list ≡ r → Trip (builtFrom ρ k room r)
+  trip-from : goodBlock k ≡ true → (r : Reading) → readList ρ mostNames list ≡ r → Trip (builtFrom ρ k room r)
   unfolding builtFrom
-  trip-from good (Refused code i) p e = absurd (omega (arith, read-refused ρ list code i p))
+  trip-from good (Refused code i) p e = absurd (omega (arith, read-refused ρ mostNames list code i p))
   trip-from good (Names xs) p e = short (leb (length (book ρ k xs)) longestBook) refl e
     where
       a : (encode xs ≡ list) × (sound ρ xs ≡ true)
@@ -105,8 +105,8 @@ module _ (ρ : Rule) (list : Bytes) (k : ℕ) (room : Bytes) where
   unfolding build
   round-trip = go (goodBlock k) refl
     where
-      go : (t : Bool) → goodBlock k ≡ t → Trip (pick t (builtFrom ρ k room (readList ρ list)) (record { answer = refused 8; room = room }))
-      go true h e = trip-from h (readList ρ list) refl e
+      go : (t : Bool) → goodBlock k ≡ t → Trip (pick t (builtFrom ρ k room (readList ρ mostNames list)) (record { answer = refused 8; room = room }))
+      go true h e = trip-from h (readList ρ mostNames list) refl e
       go false h e = absurd (omega (arith, e))
 
 -- ---- what an entry adds

@@ -11,16 +11,16 @@ use Rattle.records.proofs.judge.Statement.{statement}
 use Rattle.records.proofs.judge.Tie as tie
 
 abbrev Inv-bytes : tie.InvT-bytes
-Inv-bytes list lens shares at prev before n len start most i₀ i = law.Comparing list lens shares at prev before n len i
+Inv-bytes list limit lens shares at prev before n len start most i₀ i = law.Comparing list limit lens shares at prev before n len i
 
 abbrev μ-bytes : tie.MeasureT-bytes
-μ-bytes list lens shares at prev before n len start most i₀ i = most - i
+μ-bytes list limit lens shares at prev before n len start most i₀ i = most - i
 
 abbrev Inv-records : tie.InvT-records
-Inv-records list lens₀ steps₀ at₀ prev₀ before₀ n₀ lens shares at prev before n = law.ReadUpTo list lens shares at prev before n
+Inv-records list limit lens₀ shares₀ at₀ prev₀ before₀ n₀ lens shares at prev before n = law.Reads list limit lens₀ shares₀ lens shares at prev before n
 
 abbrev μ-records : tie.MeasureT-records
-μ-records list lens₀ steps₀ at₀ prev₀ before₀ n₀ lens shares at prev before n = length list - at
+μ-records list limit lens₀ shares₀ at₀ prev₀ before₀ n₀ lens shares at prev before n = length list - at
 
 -- the comparison was left by either `break 'bytes`
 parted : (c : tie.Left-bytes Inv-bytes μ-bytes Inv-records μ-records) → law.ComesApart (c .before .bytes .inv)
@@ -44,7 +44,7 @@ judge-spec =
     μ-bytes
     Inv-records
     μ-records
-    (λ c. search law.reading-start)
+    (λ c. search law.reads-start)
     (λ c. omega arith)
     (λ c κs. search needs)
     (λ c. omega arith)
@@ -68,8 +68,13 @@ judge-spec =
     (λ c. omega arith)
     (λ c. omega arith)
     (λ c. omega arith)
-    (λ c. law.list-falls (above (c .before)))
-    (λ c. law.reading-more (above (c .before)) (c .if9 .left))
+    (λ c. law.list-falls (above (c .before .before)))
+    (λ c.
+    let inv = c .before .before .before .before .before .before .before .before .before .before .before .before .before .records .inv in
+    ⊎-elim
+    (λ w. rw (w .1, w .2) (law.reads-noted (above (c .before .before)) (inv .lens-kept) (inv .shares-kept) (c .before .if9 .left) (w .0 .taken)))
+    (λ w. rw (w .1, w .2) (law.reads-passed (above (c .before .before)) (inv .lens-kept) (inv .shares-kept) (c .before .if9 .left) (w .0 .left)))
+    (c .if10 .came))
     (λ c. omega arith)
     (λ c. omega arith)
     (λ c. search law.good-list)
