@@ -1,5 +1,6 @@
 -- Laws of the list records and of the layout. No contract cites them.
 pub mod Records
+pub mod Merging
 pub mod Entries
 pub mod Groups
 pub mod Widths

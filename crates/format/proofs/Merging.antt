@@ -1,0 +1,197 @@
+-- Laws of the union of two lists of names.
+--     merged-none, merged-first, merged-second, merged-both     name by name: the other list has ended; the lesser head is the first list's, the second's, both
+--     merged-rises              the union of rising lists rises
+--     among-left, among-right, among-either     a name is in the union just where it is in one of the two
+-- Assumes nothing.
+use Prim.Native.Nat.{ℕ, zero, suc, _+_, _≤_, _<_}
+use native.Mathlib.Nat.{lt-irrefl}
+use native.Mathlib.Omega.{arith}
+use mathlib.Core.Path.{_≡_, refl, sym, ap, ap₂, _∙_, subst}
+use mathlib.Core.Logic.{_⊎_, inl, inr}
+use mathlib.Core.Bool.{Bool, true, false}
+use mathlib.Core.List.{List, [], _∷_, _++_, map}
+use lib.ListN.{length}
+use Rattle.words.specs.Rising.{All, Positive, cons, nil}
+use Rattle.words.specs.Words.{Bytes, Lawful, Rule, both, less, pick, word}
+use Rattle.words.proofs.Lists.{all-map}
+use Rattle.words.proofs.Words.{Ordered, both-true, equal, false≠true, greater, less-asym, less-irrefl, less-trans, lesser, ordered, word-positive}
+use Rattle.format.specs.Records.{goodLength, rising}
+use Rattle.format.specs.Merging.{Among, above, below, here, merged, there}
+use Rattle.format.proofs.Records.{First, rising-first}
+
+-- ---- names that rise from one on are all above it
+
+module _ (ρ : Rule) where
+  abbrev AllAbove : Bytes → List Bytes → Type 0
+  AllAbove x ys = All (λ y. less (word ρ x) (word ρ y) ≡ true) ys
+
+  rising-above : (x : Bytes) (ys : List Bytes) → rising ρ x ys ≡ true → AllAbove x ys
+  rising-above x [] r = nil
+  rising-above x (y ∷ ys) r =
+      let f = rising-first ρ x y ys r in
+      cons (f .above) (all-map (λ z k. less-trans (word ρ x) (word ρ y) (word ρ z) (f .above) k) (rising-above y ys (f .rest)))
+
+  below-none : (x : Bytes) (ys : List Bytes) → All (λ y. less (word ρ y) (word ρ x) ≡ false) ys → below ρ x ys ≡ []
+  unfolding below
+  below-none x [] a = refl
+  below-none x (y ∷ ys) (cons h a) = rw h (below-none x ys a)
+
+  above-all : (x : Bytes) (ys : List Bytes) → AllAbove x ys → above ρ x ys ≡ ys
+  unfolding above
+  above-all x [] a = refl
+  above-all x (y ∷ ys) (cons h a) = rw h (ap (λ (l : List Bytes). y ∷ l) (above-all x ys a))
+
+  -- none of the names above x is below it
+  not-below : (x : Bytes) (ys : List Bytes) → AllAbove x ys → All (λ y. less (word ρ y) (word ρ x) ≡ false) ys
+  not-below x ys a = all-map (λ y k. less-asym (word ρ x) (word ρ y) k) a
+
+  -- ---- name by name
+
+  pub merged-none : (xs : List Bytes) → merged ρ xs [] ≡ xs
+  unfolding merged below above
+  merged-none [] = refl
+  merged-none (x ∷ xs) = ap (λ (l : List Bytes). x ∷ l) (merged-none xs)
+
+  module _ (x y : Bytes) (xs ys : List Bytes) where
+    pub merged-first : less (word ρ x) (word ρ y) ≡ true → rising ρ y ys ≡ true → merged ρ (x ∷ xs) (y ∷ ys) ≡ x ∷ merged ρ xs (y ∷ ys)
+    unfolding merged
+    merged-first h r =
+        let a : AllAbove x (y ∷ ys) = cons h (all-map (λ z k. less-trans (word ρ x) (word ρ y) (word ρ z) h k) (rising-above y ys r)) in
+        rw (below-none x (y ∷ ys) (not-below x (y ∷ ys) a), above-all x (y ∷ ys) a)
+
+    pub merged-second : less (word ρ y) (word ρ x) ≡ true → merged ρ (x ∷ xs) (y ∷ ys) ≡ y ∷ merged ρ (x ∷ xs) ys
+    unfolding merged below above
+    merged-second h = rw (h, less-asym (word ρ y) (word ρ x) h) refl
+
+    pub merged-both : word ρ x ≡ word ρ y → rising ρ y ys ≡ true → merged ρ (x ∷ xs) (y ∷ ys) ≡ x ∷ merged ρ xs ys
+    unfolding merged below above
+    merged-both e r =
+        let same : less (word ρ x) (word ρ y) ≡ false = ap (less (word ρ x)) (sym e) ∙ less-irrefl (word ρ x) in
+        let back : less (word ρ y) (word ρ x) ≡ false = ap (λ (w : List ℕ). less w (word ρ x)) (sym e) ∙ less-irrefl (word ρ x) in
+        let a : AllAbove x ys = subst (λ (w : List ℕ). All (λ z. less w (word ρ z) ≡ true) ys) (sym e) (rising-above y ys r) in
+        rw (same, back, below-none x ys (not-below x ys a), above-all x ys a) refl
+
+  -- ---- it rises
+
+  rises-cons : (prev x : Bytes) (xs : List Bytes) → goodLength (length x) ≡ true → less (word ρ prev) (word ρ x) ≡ true → rising ρ x xs ≡ true → rising ρ prev (x ∷ xs) ≡ true
+  unfolding rising
+  rises-cons prev x xs g l r = rw (g, l, r) refl
+
+  module _ (ok : Lawful ρ) where
+    -- f bounds how many names there are in both
+    rises-within : (f : ℕ) (prev : Bytes) (xs ys : List Bytes) → length xs + length ys ≤ f → rising ρ prev xs ≡ true → rising ρ prev ys ≡ true → rising ρ prev (merged ρ xs ys) ≡ true
+    unfolding merged rising
+    rises-within f prev [] ys l r t = t
+    rises-within f prev (x ∷ xs) [] l r t = subst (λ (zs : List Bytes). rising ρ prev zs ≡ true) (sym (merged-none (x ∷ xs))) r
+    rises-within zero prev (x ∷ xs) (y ∷ ys) l r t = absurd (lt-irrefl 0 (omega arith))
+    rises-within (suc f) prev (x ∷ xs) (y ∷ ys) l r t =
+        let a = rising-first ρ prev x xs r in
+        let b = rising-first ρ prev y ys t in
+        elim (ordered (word ρ x) (word ρ y) (word-positive ρ ok x) (word-positive ρ ok y)) [
+          | lesser h ↦ subst (λ (zs : List Bytes). rising ρ prev zs ≡ true) (sym (merged-first x y xs ys h (b .rest)))
+              (rises-cons prev x (merged ρ xs (y ∷ ys)) (a .size) (a .above) (rises-within f x xs (y ∷ ys) (omega arith) (a .rest) (rises-cons x y ys (b .size) h (b .rest))))
+          | equal e ↦ subst (λ (zs : List Bytes). rising ρ prev zs ≡ true) (sym (merged-both x y xs ys e (b .rest)))
+              (rises-cons prev x (merged ρ xs ys) (a .size) (a .above) (rises-within f x xs ys (omega arith) (a .rest) (same-start e ys (b .rest))))
+          | greater h ↦ subst (λ (zs : List Bytes). rising ρ prev zs ≡ true) (sym (merged-second x y xs ys h))
+              (rises-cons prev y (merged ρ (x ∷ xs) ys) (b .size) (b .above) (rises-within f y (x ∷ xs) ys (omega arith) (rises-cons y x xs (a .size) h (a .rest)) (b .rest)))
+        ]
+      where
+        -- what rises from y on rises from x on, whose word is the same
+        same-start : word ρ x ≡ word ρ y → (zs : List Bytes) → rising ρ y zs ≡ true → rising ρ x zs ≡ true
+        same-start e [] k = refl
+        same-start e (z ∷ zs) k =
+            let c = rising-first ρ y z zs k in
+            rises-cons x z zs (c .size) (ap (λ (w : List ℕ). less w (word ρ z)) e ∙ c .above) (c .rest)
+
+    pub merged-rises : (xs ys : List Bytes) → rising ρ [] xs ≡ true → rising ρ [] ys ≡ true → rising ρ [] (merged ρ xs ys) ≡ true
+    merged-rises xs ys r t = rises-within (length xs + length ys) [] xs ys (omega arith) r t
+
+  -- ---- whose names are in it
+
+  among-append : {z : Bytes} (xs ys : List Bytes) → Among z (xs ++ ys) → (Among z xs) ⊎ (Among z ys)
+  among-append [] ys m = inr m
+  among-append (x ∷ xs) ys (here e) = inl (here e)
+  among-append (x ∷ xs) ys (there m) = elim (among-append xs ys m) [
+    | inl k ↦ inl (there k)
+    | inr k ↦ inr k
+  ]
+
+  among-front : {z : Bytes} {xs : List Bytes} (ys : List Bytes) → Among z xs → Among z (xs ++ ys)
+  among-front ys (here e) = here e
+  among-front ys (there m) = there (among-front ys m)
+
+  among-back : {z : Bytes} (xs : List Bytes) {ys : List Bytes} → Among z ys → Among z (xs ++ ys)
+  among-back [] m = m
+  among-back (x ∷ xs) m = there (among-back xs m)
+
+  -- those that are kept of a list are in it
+  among-below : {z : Bytes} (x : Bytes) (ys : List Bytes) → Among z (below ρ x ys) → Among z ys
+  unfolding below
+  among-below x [] m = m
+  among-below {z} x (y ∷ ys) m = go (among-below x ys) (less (word ρ y) (word ρ x)) m
+    where
+      go : (Among z (below ρ x ys) → Among z ys) → (t : Bool) → Among z (pick t (y ∷ below ρ x ys) (below ρ x ys)) → Among z (y ∷ ys)
+      go more true (here e) = here e
+      go more true (there k) = there (more k)
+      go more false k = there (more k)
+
+  among-above : {z : Bytes} (x : Bytes) (ys : List Bytes) → Among z (above ρ x ys) → Among z ys
+  unfolding above
+  among-above x [] m = m
+  among-above {z} x (y ∷ ys) m = go (among-above x ys) (less (word ρ x) (word ρ y)) m
+    where
+      go : (Among z (above ρ x ys) → Among z ys) → (t : Bool) → Among z (pick t (y ∷ above ρ x ys) (above ρ x ys)) → Among z (y ∷ ys)
+      go more true (here e) = here e
+      go more true (there k) = there (more k)
+      go more false k = there (more k)
+
+  -- and those that are less, or greater, are kept
+  kept-below : {z : Bytes} (x : Bytes) (ys : List Bytes) → less (word ρ z) (word ρ x) ≡ true → Among z ys → Among z (below ρ x ys)
+  unfolding below
+  kept-below x [] h m = m
+  kept-below {z} x (y ∷ ys) h (here e) = let k : less (word ρ y) (word ρ x) ≡ true = ap (λ (a : Bytes). less (word ρ a) (word ρ x)) (sym e) ∙ h in rw k (here e)
+  kept-below {z} x (y ∷ ys) h (there m) = go (less (word ρ y) (word ρ x)) (kept-below x ys h m)
+    where
+      go : (t : Bool) → Among z (below ρ x ys) → Among z (pick t (y ∷ below ρ x ys) (below ρ x ys))
+      go true k = there k
+      go false k = k
+
+  kept-above : {z : Bytes} (x : Bytes) (ys : List Bytes) → less (word ρ x) (word ρ z) ≡ true → Among z ys → Among z (above ρ x ys)
+  unfolding above
+  kept-above x [] h m = m
+  kept-above {z} x (y ∷ ys) h (here e) = let k : less (word ρ x) (word ρ y) ≡ true = ap (λ (a : Bytes). less (word ρ x) (word ρ a)) (sym e) ∙ h in rw k (here e)
+  kept-above {z} x (y ∷ ys) h (there m) = go (less (word ρ x) (word ρ y)) (kept-above x ys h m)
+    where
+      go : (t : Bool) → Among z (above ρ x ys) → Among z (pick t (y ∷ above ρ x ys) (above ρ x ys))
+      go true k = there k
+      go false k = k
+
+  pub among-either : {z : Bytes} (xs ys : List Bytes) → Among z (merged ρ xs ys) → (Among z xs) ⊎ (Among z ys)
+  unfolding merged
+  among-either [] ys m = inr m
+  among-either {z} (x ∷ xs) ys m = go (among-either xs (above ρ x ys)) (among-append (below ρ x ys) (x ∷ merged ρ xs (above ρ x ys)) m)
+    where
+      go : (Among z (merged ρ xs (above ρ x ys)) → (Among z xs) ⊎ (Among z (above ρ x ys))) → (Among z (below ρ x ys)) ⊎ (Among z (x ∷ merged ρ xs (above ρ x ys))) → (Among z (x ∷ xs)) ⊎ (Among z ys)
+      go more (inl k) = inr (among-below x ys k)
+      go more (inr (here e)) = inl (here e)
+      go more (inr (there k)) = elim (more k) [
+        | inl a ↦ inl (there a)
+        | inr b ↦ inr (among-above x ys b)
+      ]
+
+  pub among-left : {z : Bytes} (xs ys : List Bytes) → Among z xs → Among z (merged ρ xs ys)
+  unfolding merged
+  among-left (x ∷ xs) ys (here e) = among-back (below ρ x ys) (here e)
+  among-left (x ∷ xs) ys (there m) = among-back (below ρ x ys) (there (among-left xs (above ρ x ys) m))
+
+  -- names with equal words are one name, as under document 01's rule
+  module _ (ok : Lawful ρ) (one : (a b : Bytes) → word ρ a ≡ word ρ b → a ≡ b) where
+    pub among-right : {z : Bytes} (xs ys : List Bytes) → Among z ys → Among z (merged ρ xs ys)
+    unfolding merged
+    among-right [] ys m = m
+    among-right {z} (x ∷ xs) ys m = go (λ k. among-right xs (above ρ x ys) k) (ordered (word ρ z) (word ρ x) (word-positive ρ ok z) (word-positive ρ ok x))
+      where
+        go : (Among z (above ρ x ys) → Among z (merged ρ xs (above ρ x ys))) → Ordered (word ρ z) (word ρ x) → Among z (below ρ x ys ++ (x ∷ merged ρ xs (above ρ x ys)))
+        go more (lesser h) = among-front (x ∷ merged ρ xs (above ρ x ys)) (kept-below x ys h m)
+        go more (equal e) = among-back (below ρ x ys) (here (one z x e))
+        go more (greater h) = among-back (below ρ x ys) (there (more (kept-above x ys h m)))
