@@ -1,6 +1,6 @@
 -- Laws of the union of two lists of names.
 --     merged-none, merged-first, merged-second, merged-both     name by name: the other list has ended; the lesser head is the first list's, the second's, both
---     merged-rises              the union of rising lists rises
+--     rising-only, merged-rises      names that rise from one on rise by themselves; the union of rising lists rises
 --     among-left, among-right, among-either     a name is in the union just where it is in one of the two
 -- Assumes nothing.
 use Prim.Native.Nat.{ℕ, zero, suc, _+_, _≤_, _<_}
@@ -11,13 +11,14 @@ use mathlib.Core.Logic.{_⊎_, inl, inr}
 use mathlib.Core.Bool.{Bool, true, false}
 use mathlib.Core.List.{List, [], _∷_, _++_, map}
 use lib.ListN.{length}
+use borrow.Author.Tests.{lt-ltb}
 use Rattle.words.specs.Rising.{All, Positive, cons, nil}
 use Rattle.words.specs.Words.{Bytes, Lawful, Rule, both, less, pick, word}
 use Rattle.words.proofs.Lists.{all-map}
-use Rattle.words.proofs.Words.{Ordered, both-true, equal, false≠true, greater, less-asym, less-irrefl, less-trans, lesser, ordered, word-positive}
+use Rattle.words.proofs.Words.{Ordered, both-true, equal, false≠true, greater, less-asym, less-irrefl, less-start, less-trans, lesser, ordered, word-positive}
 use Rattle.format.specs.Records.{goodLength, rising}
 use Rattle.format.specs.Merging.{Among, above, below, here, merged, there}
-use Rattle.format.proofs.Records.{First, rising-first}
+use Rattle.format.proofs.Records.{First, good-length, rising-first}
 
 -- ---- names that rise from one on are all above it
 
@@ -44,6 +45,16 @@ module _ (ρ : Rule) where
   -- none of the names above x is below it
   not-below : (x : Bytes) (ys : List Bytes) → AllAbove x ys → All (λ y. less (word ρ y) (word ρ x) ≡ false) ys
   not-below x ys a = all-map (λ y k. less-asym (word ρ x) (word ρ y) k) a
+
+  -- names that rise from one on rise from the empty word on
+  pub rising-only : Lawful ρ → (x : Bytes) (ys : List Bytes) → rising ρ x ys ≡ true → rising ρ [] ys ≡ true
+  unfolding rising
+  rising-only ok x [] r = refl
+  rising-only ok x (y ∷ ys) r = let f = rising-first ρ x y ys r in rw (f .size, first-above y (f .size), f .rest) refl
+    where
+      first-above : (z : Bytes) → goodLength (length z) ≡ true → less (word ρ []) (word ρ z) ≡ true
+      first-above [] g = absurd (lt-irrefl 0 (good-length 0 g .0))
+      first-above (c ∷ z) g = less-start (ρ c) (word ρ z) ∙ lt-ltb 0 (ρ c) (ok .low c)
 
   -- ---- name by name
 

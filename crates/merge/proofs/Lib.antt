@@ -1,0 +1,2 @@
+-- Laws of merging. No contract cites them.
+pub mod Heads
