@@ -102,7 +102,7 @@ module _ {first second : Bytes} {i j : ℕ} {xs ys : List Bytes} (a : RestOf fir
       go [] f = refl
       go (z ∷ zs) f = absurd (lt-irrefl 0 (omega (arith, ap length f, length-drop j second)))
 
-  pub alone-second : i ≡ length first → 0 < length xs + length ys → (size : ℕ) → size ≡ 1 + getD second j 0 → Step first second xs ys (headIn true j size i (j + size))
+  pub alone-second : i ≡ length first → 0 < length xs + length ys → (size : ℕ) → size ≡ 1 + getD second j 0 → Step first second i j xs ys (headIn true j size i (j + size))
   unfolding merged
   alone-second e some size z =
       let none : xs ≡ [] = none-left e in
@@ -114,6 +114,8 @@ module _ {first second : Bytes} {i j : ℕ} {xs ys : List Bytes} (a : RestOf fir
         is = ap₂ (merged plain) none (h .all);
         ahead = subst (RestOf first i) none a;
         beside = h .rest;
+        some = omega (arith, h .size-is);
+        onward = omega arith;
         fits = h .fits;
         record-is = h .record-is;
         strict = λ t x zs f. absurd (lt-irrefl 0 (omega (arith, ap length none, ap length f)));
@@ -127,7 +129,7 @@ module _ {first second : Bytes} {i j : ℕ} {xs ys : List Bytes} (a : RestOf fir
     pub head-fits : i + size ≤ length first
     head-fits = p .fits
 
-    pub alone-first : j ≡ length second → Step first second xs ys (headIn false i size (i + size) j)
+    pub alone-first : j ≡ length second → Step first second i j xs ys (headIn false i size (i + size) j)
     alone-first e =
         let none : ys ≡ [] = none-right e in
         record {
@@ -137,6 +139,8 @@ module _ {first second : Bytes} {i j : ℕ} {xs ys : List Bytes} (a : RestOf fir
           is = ap₂ (merged plain) (p .all) none ∙ merged-none plain (p .x ∷ p .others) ∙ ap (λ (l : List Bytes). p .x ∷ l) (sym (merged-none plain (p .others)));
           ahead = p .rest;
           beside = subst (RestOf second j) none b;
+          some = omega (arith, p .size-is);
+          onward = omega arith;
           fits = p .fits;
           record-is = p .record-is;
           strict = λ t. absurd (false≠true t);
@@ -160,7 +164,7 @@ module _ {first second : Bytes} {i j : ℕ} {xs ys : List Bytes} (a : RestOf fir
       abbrev y : Bytes
       y = take (j + other - (j + 1)) (drop (j + 1) second)
 
-      pub lesser-first : {r : Lesser} → LesserSays x y r → r ≡ FirstLess → Step first second xs ys (headIn false i size (i + size) j)
+      pub lesser-first : {r : Lesser} → LesserSays x y r → r ≡ FirstLess → Step first second i j xs ys (headIn false i size (i + size) j)
       lesser-first {r} says e =
           let l : less (word plain (p .x)) (word plain (q .x)) ≡ true = rw (← p .name-is, ← q .name-is) (rw e at says) in
           record {
@@ -170,12 +174,14 @@ module _ {first second : Bytes} {i j : ℕ} {xs ys : List Bytes} (a : RestOf fir
             is = heads ∙ merged-first plain (p .x) (q .x) (p .others) (q .others) l (q .first .rest) ∙ ap (λ (l : List Bytes). p .x ∷ merged plain (p .others) l) (sym (q .all));
             ahead = p .rest;
             beside = b;
+            some = omega (arith, p .size-is);
+            onward = omega arith;
             fits = p .fits;
             record-is = p .record-is;
             strict = λ t. absurd (false≠true t);
           }
 
-      pub lesser-second : {r : Lesser} → LesserSays x y r → r ≡ Second → Step first second xs ys (headIn true j other i (j + other))
+      pub lesser-second : {r : Lesser} → LesserSays x y r → r ≡ Second → Step first second i j xs ys (headIn true j other i (j + other))
       lesser-second {r} says e =
           let l : less (word plain (q .x)) (word plain (p .x)) ≡ true = rw (← p .name-is, ← q .name-is) (rw e at says) in
           record {
@@ -185,12 +191,14 @@ module _ {first second : Bytes} {i j : ℕ} {xs ys : List Bytes} (a : RestOf fir
             is = heads ∙ merged-second plain (p .x) (q .x) (p .others) (q .others) l ∙ ap (λ (l : List Bytes). q .x ∷ merged plain l (q .others)) (sym (p .all));
             ahead = a;
             beside = q .rest;
+            some = omega (arith, q .size-is);
+            onward = omega arith;
             fits = q .fits;
             record-is = q .record-is;
             strict = λ t z zs f. subst (λ (w : Bytes). less (word plain (q .x)) (word plain w) ≡ true) (head-same (sym (p .all) ∙ f)) l;
           }
 
-      pub lesser-both : {r : Lesser} → LesserSays x y r → r ≡ Both → Step first second xs ys (headIn false i size (i + size) (j + other))
+      pub lesser-both : {r : Lesser} → LesserSays x y r → r ≡ Both → Step first second i j xs ys (headIn false i size (i + size) (j + other))
       lesser-both {r} says e =
           let l : word plain (p .x) ≡ word plain (q .x) = rw (← p .name-is, ← q .name-is) (rw e at says) in
           record {
@@ -200,6 +208,8 @@ module _ {first second : Bytes} {i j : ℕ} {xs ys : List Bytes} (a : RestOf fir
             is = heads ∙ merged-both plain (p .x) (q .x) (p .others) (q .others) l (q .first .rest);
             ahead = p .rest;
             beside = q .rest;
+            some = omega (arith, p .size-is);
+            onward = omega arith;
             fits = p .fits;
             record-is = p .record-is;
             strict = λ t. absurd (false≠true t);

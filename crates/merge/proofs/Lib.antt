@@ -1,2 +1,3 @@
 -- Laws of merging. No contract cites them.
 pub mod Heads
+pub mod Joining

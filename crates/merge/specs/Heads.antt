@@ -40,16 +40,18 @@ pub record HeadAsk (first : Bytes) (i : ℕ) (second : Bytes) (j : ℕ) : Type 0
 
 -- `name` comes next, its record stands where r says, in the second list only where it is less than the first list's head, and the lists go
 -- on with others
-pub record Step (first second : Bytes) (xs ys : List Bytes) (r : Next) : Type 0 where
+pub record Step (first second : Bytes) (i j : ℕ) (xs ys : List Bytes) (r : Next) : Type 0 where
   pub name : Bytes
   pub xs-left : List Bytes
   pub ys-left : List Bytes
   pub is : merged plain xs ys ≡ name ∷ merged plain xs-left ys-left
   pub ahead : RestOf first (r .left) xs-left
   pub beside : RestOf second (r .right) ys-left
+  pub some : 0 < r .size
+  pub onward : i + j + r .size ≤ r .left + r .right
   pub fits : r .from + r .size ≤ length (pick (r .second) second first)
   pub record-is : take (r .size) (drop (r .from) (pick (r .second) second first)) ≡ encode (name ∷ [])
   pub strict : r .second ≡ true → (x : Bytes) (others : List Bytes) → xs ≡ x ∷ others → less (word plain name) (word plain x) ≡ true
 
 abbrev pub HeadSays : Bytes → ℕ → Bytes → ℕ → Next → Type 0
-HeadSays first i second j r = (xs ys : List Bytes) → RestOf first i xs → RestOf second j ys → 0 < length xs + length ys → Step first second xs ys r
+HeadSays first i second j r = (xs ys : List Bytes) → RestOf first i xs → RestOf second j ys → 0 < length xs + length ys → Step first second i j xs ys r

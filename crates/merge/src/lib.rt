@@ -1,9 +1,10 @@
 // Two lists of names become one. A list is gone through by the offset of its next record; the lesser of two heads is found by the
 // comparison of names that all others use, and nothing is kept of a name but where it stands.
 ghost use mathlib.Core.Path.{_≡_};
-ghost use Prim.Native.Nat.{_+_, _<_};
+ghost use Prim.Native.Nat.{_+_, _<_, _≤_};
 ghost use lib.ListN.{getD, length};
 ghost use Rattle.merge.specs.Heads.{HeadAsk, HeadSays, LesserSays, headIn};
+ghost use Rattle.merge.specs.Joining.{MergeAsk, MergedInto, RecordPut};
 
 // The lesser of two heads: whether it stands in the second list, where its record begins and how many bytes that has; and where either
 // list goes on behind it.
@@ -82,4 +83,50 @@ pub fn next_head(first: &[u8], i: usize, second: &[u8], j: usize) -> Next
         Lesser::Second => head_in(true, j, other, i, right),
         Lesser::Both => head_in(false, i, size, left, right),
     }
+}
+
+// How many names a merged list has, and how many bytes its records take.
+pub struct Tally {
+    pub names: usize,
+    pub bytes: usize,
+}
+
+// The record at an offset of a list, at a place of the room, where there is room for it.
+fn put_record(list: &[u8], from: usize, size: usize, room: &mut [u8], at: usize)
+    requires { ⌜ from + size ≤ length (now list) ⌝ }
+    ensures { λ _. ⌜ RecordPut (now (list .entry)) from size (now (room .entry)) (now (room .exit)) at ⌝ }
+{
+    if room.len() < at {
+        return;
+    }
+    if room.len() - at < size {
+        return;
+    }
+    let to = from + size;
+    bytes::copy(&list[from..to], &mut room[at..]);
+}
+
+// The records of both lists in one row, as far as there is room for them; in an empty room it only counts.
+pub fn merge_into(first: &[u8], second: &[u8], room: &mut [u8]) -> Tally
+    requires { ⌜ MergeAsk (now first) (now second) ⌝ }
+    ensures { λ r. ⌜ MergedInto (now (first .entry)) (now (second .entry)) (now (room .entry)) (now (room .exit)) (r .names) (r .bytes) ⌝ }
+{
+    let mut i: usize = 0;
+    let mut j: usize = 0;
+    let mut names: usize = 0;
+    let mut bytes: usize = 0;
+    while i + j < first.len() + second.len() {
+        let next = next_head(first, i, second, j);
+        let size = next.size;
+        if next.second {
+            put_record(second, next.from, size, room, bytes);
+        } else {
+            put_record(first, next.from, size, room, bytes);
+        }
+        i = next.left;
+        j = next.right;
+        names += 1;
+        bytes += size;
+    }
+    Tally { names, bytes }
 }
