@@ -23,13 +23,13 @@ use Rattle.merge.specs.Heads.{HeadAsk, HeadSays, RestOf, Step}
 use Rattle.merge.specs.Joining.{Joined, MergeAsk, MergedInto, RecordPut}
 use Rattle.merge.specs.declared.Next.{Next}
 
-encode-append : (xs ys : List Bytes) → encode (xs ++ ys) ≡ encode xs ++ encode ys
+pub encode-append : (xs ys : List Bytes) → encode (xs ++ ys) ≡ encode xs ++ encode ys
 unfolding encode
 encode-append [] ys = refl
 encode-append (x ∷ xs) ys = ap (λ (l : Bytes). length x ∷ l) (ap (λ (l : Bytes). x ++ l) (encode-append xs ys) ∙ sym (append-assoc x (encode xs) (encode ys)))
 
 -- an empty list of names has no records, and no other has none
-no-records : (xs : List Bytes) → length (encode xs) ≡ 0 → xs ≡ []
+pub no-records : (xs : List Bytes) → length (encode xs) ≡ 0 → xs ≡ []
 unfolding encode
 no-records [] e = refl
 no-records (x ∷ xs) e = absurd (lt-irrefl 0 (omega arith))

@@ -1,3 +1,4 @@
 -- Laws of merging. No contract cites them.
 pub mod Heads
 pub mod Joining
+pub mod Passing

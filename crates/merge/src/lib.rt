@@ -5,6 +5,7 @@ ghost use Prim.Native.Nat.{_+_, _<_, _≤_};
 ghost use lib.ListN.{getD, length};
 ghost use Rattle.merge.specs.Heads.{HeadAsk, HeadSays, LesserSays, headIn};
 ghost use Rattle.merge.specs.Joining.{MergeAsk, MergedInto, RecordPut};
+ghost use Rattle.merge.specs.Passing.{ListAsk, PassedTo};
 
 // The lesser of two heads: whether it stands in the second list, where its record begins and how many bytes that has; and where either
 // list goes on behind it.
@@ -35,6 +36,23 @@ fn record_size(list: &[u8], at: usize) -> usize
     ensures { λ r. ⌜ r ≡ 1 + getD (now (list .entry)) at 0 ⌝ }
 {
     1 + numbers::wide(list[at])
+}
+
+// Where a list goes on behind so many records; at its end, where it has no more. Linear in the records that are passed.
+pub fn pass_records(list: &[u8], count: usize) -> usize
+    requires { ⌜ ListAsk (now list) ⌝ }
+    ensures { λ r. ⌜ PassedTo (now (list .entry)) count r ⌝ }
+{
+    let mut at: usize = 0;
+    let mut left = count;
+    while 0 < left {
+        if at == list.len() {
+            return at;
+        }
+        at += record_size(list, at);
+        left -= 1;
+    }
+    at
 }
 
 // Which of two names is the lesser.

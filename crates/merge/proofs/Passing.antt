@@ -1,0 +1,76 @@
+-- Laws of passing records.
+--     Passes, passes-start, passes-here, passes-more, passes-ended, passes-all     record by record
+-- Assumes nothing.
+use Prim.Native.Nat.{ℕ, zero, suc, _+_, _-_, _≤_, _<_}
+use native.Mathlib.Nat.{lt-irrefl}
+use native.Mathlib.Omega.{arith}
+use mathlib.Core.Path.{_≡_, refl, sym, ap, ap₂, _∙_, subst}
+use mathlib.Core.List.{List, [], _∷_, _++_, append-assoc, append-nil}
+use lib.ListN.{drop, drop-of-length-le, getD, length, length-append, length-drop, take}
+use lib.Seq.{drop-append-seam, take-all, take-append-seam}
+use Rattle.words.specs.Words.{Bytes}
+use Rattle.format.specs.Records.{encode}
+use Rattle.numbers.proofs.Parts.{part-length}
+use Rattle.merge.specs.Heads.{RestOf}
+use Rattle.merge.specs.Passing.{ListAsk, PassedTo}
+use Rattle.merge.proofs.Heads.{Headed, headed}
+use Rattle.merge.proofs.Joining.{encode-append, no-records}
+
+-- of the names xs those of `done` are passed, which with `left` are so many
+pub record Part (s : Bytes) (count at left : ℕ) (xs : List Bytes) : Type 0 where
+  pub done : List Bytes
+  pub others : List Bytes
+  pub all : xs ≡ done ++ others
+  pub counted : length done + left ≡ count
+  pub rest : RestOf s at others
+  pub size : at ≡ length (encode done)
+
+pub record Passes (s : Bytes) (count at left : ℕ) : Type 0 where
+  pub within : at ≤ length s
+  pub state : (xs : List Bytes) → RestOf s 0 xs → Part s count at left xs
+
+pub passes-start : (s : Bytes) (count : ℕ) → Passes s count 0 count
+unfolding encode
+passes-start s count = record {
+  within = omega arith;
+  state = λ xs r. record { done = []; others = xs; all = refl; counted = omega arith; rest = r; size = refl };
+}
+
+module _ {s : Bytes} {count at left : ℕ} (k : Passes s count at left) where
+  module _ (n : at ≡ length s → ⊥) (size : ℕ) (e : size ≡ 1 + getD s at 0) where
+    pub passes-fits : ListAsk s → at + size ≤ length s
+    passes-fits q = headed s at size (k .state (q .xs) (q .rest) .others) (k .state (q .xs) (q .rest) .rest) n e .fits
+
+    pub passes-more : ListAsk s → 0 < left → Passes s count (at + size) (left - 1)
+    passes-more q l = record { within = passes-fits q; state = λ xs r. more xs (k .state xs r) }
+      where
+        more : (xs : List Bytes) → Part s count at left xs → Part s count (at + size) (left - 1) xs
+        more xs o =
+            let h = headed s at size (o .others) (o .rest) n e in
+            let long : length (encode (h .x ∷ [])) ≡ size = ap length (sym (h .record-is)) ∙ part-length s at size (h .fits) in
+            record {
+              done = o .done ++ (h .x ∷ []);
+              others = h .others;
+              all = o .all ∙ ap (λ (l : List Bytes). o .done ++ l) (h .all) ∙ sym (append-assoc (o .done) (h .x ∷ []) (h .others));
+              counted = omega (arith, o .counted, length-append (o .done) (h .x ∷ []));
+              rest = h .rest;
+              size = omega (arith, o .size, ap length (encode-append (o .done) (h .x ∷ [])), length-append (encode (o .done)) (encode (h .x ∷ [])), long);
+            }
+
+  pub passes-ended : at ≡ length s → PassedTo s count at
+  passes-ended e xs r =
+      let o = k .state xs r in
+      let none : o .others ≡ [] = no-records (o .others) (omega (arith, ap length (o .rest .bytes), length-drop at s)) in
+      let whole : xs ≡ o .done = o .all ∙ ap (λ (l : List Bytes). o .done ++ l) none ∙ append-nil (o .done) in
+      let long : length xs ≤ count = omega (arith, ap length whole, o .counted) in (
+        subst (RestOf s at) (none ∙ sym (drop-of-length-le xs {i = count} long)) (o .rest),
+        o .size ∙ ap (λ (l : List Bytes). length (encode l)) (sym whole ∙ sym (take-all count xs long)),
+      )
+
+  pub passes-all : left ≤ 0 → PassedTo s count at
+  passes-all h xs r =
+      let o = k .state xs r in
+      let c : count ≡ length (o .done) = omega (arith, o .counted) in (
+        subst (RestOf s at) (sym (ap₂ drop c (o .all) ∙ drop-append-seam (o .done) (o .others))) (o .rest),
+        o .size ∙ ap (λ (l : List Bytes). length (encode l)) (sym (ap₂ take c (o .all) ∙ take-append-seam (o .done) (o .others))),
+      )
