@@ -10,7 +10,7 @@ use format::{LONGEST_BOOK, MOST_NAMES};
 use model::{write_list, Answer};
 use vectors::growth;
 use vectors::random::Random;
-use vectors::worst::{self, chains, Comb, Worst};
+use vectors::worst::{self, fitting_chains, Comb, Worst};
 
 /// Builds, checks and asks: a line for each call, with this label. Nothing
 /// where the list is too large for a book.
@@ -67,22 +67,43 @@ pub fn worst(words: &[String]) -> Result<String, String> {
     Ok(all.join("\n"))
 }
 
-/// Chains of every length in blocks of every size, as many names as can be, and
-/// those that were dearest before.
+/// Chains and combs, as many names of each as fit a book, and those that were
+/// dearest before.
 fn planned() -> Vec<Worst> {
     let mut shapes = vec![worst::dearest_check(), worst::dearest_question()];
     for length in [2, 4, 8, 9, 10, 11, 12, 14, 16, 18, 20, 32, 64, 200] {
         for block in [1, 2, 4, 8, 16, 64] {
-            shapes.push(chains(2000, length, block));
+            shapes.push(fitting_chains(MOST_NAMES, length, block));
         }
     }
+    shapes.extend((2..200).filter_map(planned_comb));
     shapes
+}
+
+/// A comb of so many levels in blocks of 1, with as many leaves as fit.
+fn planned_comb(levels: usize) -> Option<Worst> {
+    let most = Comb {
+        levels,
+        step: 1,
+        leaves: 254,
+        tail: 0,
+        last: 254,
+        block: 1,
+        astray: false,
+    };
+    most.fitting().map(|comb| comb.worst())
 }
 
 /// Some chains.
 fn any_chains(random: &mut Random) -> Worst {
-    let count = random.between(1000, 2000);
-    chains(count, random.between(1, 60), random.between(1, 64))
+    let count = random.between(1000, MOST_NAMES);
+    fitting_chains(count, random.between(1, 60), any_block(random))
+}
+
+/// Some block size, often the least: such books take most to check.
+fn any_block(random: &mut Random) -> usize {
+    let most = if random.once_in(4) { 1 } else { 64 };
+    random.between(1, most)
 }
 
 /// Some comb, if there is one like that: mostly with as many names as can be.
@@ -98,8 +119,8 @@ fn any_comb(random: &mut Random) -> Option<Worst> {
         leaves: random.between(least.min(most), most).clamp(1, 254),
         tail: random.below(120) / random.between(1, 20),
         last,
-        block: random.between(1, 64),
+        block: any_block(random),
         astray: random.once_in(2),
     };
-    comb.can_be().then(|| comb.worst())
+    comb.fitting().map(|comb| comb.worst())
 }

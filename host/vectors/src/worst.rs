@@ -8,8 +8,10 @@
 
 use crate::lists::{sorted, Names};
 use crate::random::Random;
-use format::{LONGEST_BOOK, LONGEST_NAME, MOST_NAMES};
+use format::{LONGEST_BOOK, LONGEST_NAME, MOST_NAMES, NODE, TRAILER};
 use model::book_of;
+use model::layout::stored_count;
+use model::names::leading_equal;
 
 /// A list, a block size and a question.
 #[derive(Clone)]
@@ -30,10 +32,30 @@ impl Worst {
         book_of(self.block, &self.names)
     }
 
-    /// Whether a book can be made of it.
-    pub fn fits(&self) -> bool {
-        let names = self.names.len() <= MOST_NAMES;
-        names && self.book().len() <= LONGEST_BOOK
+    /// How many of its first names fit a book. No book is made for it: a search
+    /// over many shapes would take too long.
+    pub fn fitting(&self) -> usize {
+        let mut length = TRAILER;
+        // How deep the forks above the name at hand are.
+        let mut forks: Vec<usize> = Vec::new();
+        for (position, name) in self.names.iter().enumerate().take(MOST_NAMES) {
+            length += 2 + name.len() - stored_count(self.block, &self.names, position) + NODE;
+            if position.is_multiple_of(self.block) {
+                length += 2;
+            }
+            if position > 0 {
+                let shared = leading_equal(&self.names[position - 1], name);
+                forks.retain(|&depth| depth <= shared);
+                if forks.last() != Some(&shared) {
+                    forks.push(shared);
+                    length += NODE;
+                }
+            }
+            if length > LONGEST_BOOK {
+                return position;
+            }
+        }
+        self.names.len().min(MOST_NAMES)
     }
 }
 
@@ -57,6 +79,12 @@ pub fn chains(count: usize, length: usize, block: usize) -> Worst {
         names,
         block,
     }
+}
+
+/// Such chains with as many names as fit a book, up to this count.
+pub fn fitting_chains(count: usize, length: usize, block: usize) -> Worst {
+    let fitting = chains(count, length, block).fitting();
+    chains(fitting, length, block)
 }
 
 /// A path of forks, each as many bytes below the one before as `step` says. At
@@ -93,6 +121,23 @@ impl Comb {
         let rows = self.leaves < usize::from(DOWN) && (2..=254).contains(&self.last);
         let count = self.levels * self.leaves + self.last;
         rows && depth + self.tail <= LONGEST_NAME && count <= MOST_NAMES
+    }
+
+    /// This comb with as many leaves as fit a book, up to those that it has: first
+    /// of those before the way down, then of those at the last fork.
+    pub fn fitting(&self) -> Option<Comb> {
+        (1..=self.leaves).rev().find_map(|leaves| {
+            let before = self.levels * leaves;
+            let last = self.last.min(MOST_NAMES.checked_sub(before)?);
+            let fewer = Comb {
+                leaves,
+                last,
+                ..*self
+            };
+            let possible = Some(fewer).filter(Comb::can_be)?;
+            let last = possible.worst().fitting().checked_sub(before)?;
+            Some(Comb { last, ..possible }).filter(Comb::can_be)
+        })
     }
 
     /// The bytes down to the fork of this number.
@@ -140,9 +185,7 @@ pub fn any(random: &mut Random) -> Worst {
         block,
         question: Vec::new(),
     };
-    while !worst.fits() {
-        worst.names.truncate(worst.names.len() * 9 / 10);
-    }
+    worst.names.truncate(worst.fitting());
     worst.question = random.one_of(&worst.names).clone();
     worst
 }

@@ -1,9 +1,10 @@
 //! Lists that cost most, and those of which one parameter doubles, are lists.
 
-use format::{LONGEST_NAME, LONGEST_QUESTION};
+use format::{LONGEST_BOOK, LONGEST_NAME, LONGEST_QUESTION, MOST_NAMES};
+use model::book_of;
 use vectors::growth;
 use vectors::random::Random;
-use vectors::worst::{any, chains, dearest_check, dearest_question, Comb, Worst};
+use vectors::worst::{any, chains, dearest_check, dearest_question, fitting_chains, Comb, Worst};
 
 /// Names rise and are long enough, a book can be made, the question can be asked.
 fn assert_sound(worst: &Worst) {
@@ -13,7 +14,18 @@ fn assert_sound(worst: &Worst) {
     assert!(lengths.clone().min() > Some(0), "{what}");
     assert!(lengths.max() <= Some(LONGEST_NAME), "{what}");
     assert!(worst.question.len() <= LONGEST_QUESTION, "{what}");
-    assert!(worst.fits(), "{what}");
+    assert!(worst.names.len() <= MOST_NAMES, "{what}");
+    assert!(worst.book().len() <= LONGEST_BOOK, "{what}");
+}
+
+/// As many of the first names fit as it says, and one more does not.
+fn assert_fitting(worst: &Worst) {
+    let (what, fitting) = (&worst.what, worst.fitting());
+    let length = |count: usize| book_of(worst.block, &worst.names[..count]).len();
+    assert!(length(fitting) <= LONGEST_BOOK, "{what}");
+    if fitting < worst.names.len().min(MOST_NAMES) {
+        assert!(length(fitting + 1) > LONGEST_BOOK, "{what}");
+    }
 }
 
 #[test]
@@ -25,10 +37,40 @@ fn the_dearest_are_sound_and_as_large_as_they_say() {
     }
     assert_eq!(check.book().len(), 64_628);
     assert_eq!(question.book().len(), 36_148);
-    assert!(!chains(2000, 11, 1).fits(), "one more would be too long");
     // The name that the question comes to is the last of a block.
     let first = question.names.partition_point(|name| name.len() < 200);
     assert_eq!(first % question.block, question.block - 1);
+}
+
+#[test]
+fn as_many_names_fit_as_a_book_has_space_for() {
+    let comb = Comb {
+        levels: 42,
+        step: 1,
+        leaves: 254,
+        tail: 0,
+        last: 254,
+        block: 1,
+        astray: false,
+    };
+    for (length, block) in [(4, 1), (10, 1), (11, 1), (64, 2), (200, 1), (200, 16)] {
+        assert_fitting(&chains(2000, length, block));
+        assert_sound(&fitting_chains(2000, length, block));
+    }
+    assert_eq!(fitting_chains(2000, 200, 1).names.len(), 542);
+    assert_eq!(chains(2001, 4, 64).fitting(), MOST_NAMES);
+    assert_fitting(&comb.worst());
+    let fitting = comb.fitting().expect("such a comb");
+    assert_eq!((fitting.leaves, fitting.last), (41, 7));
+    assert_sound(&fitting.worst());
+    let one_more = Comb { last: 8, ..fitting };
+    assert!(one_more.worst().book().len() > LONGEST_BOOK);
+    let other = Comb {
+        leaves: 42,
+        last: 2,
+        ..fitting
+    };
+    assert!(other.worst().book().len() > LONGEST_BOOK);
 }
 
 #[test]
