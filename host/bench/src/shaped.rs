@@ -76,15 +76,19 @@ fn planned() -> Vec<Worst> {
             shapes.push(fitting_chains(MOST_NAMES, length, block));
         }
     }
-    shapes.extend((2..200).filter_map(planned_comb));
+    for step in [1, 2, 4, 8, 16, 32] {
+        let depths = 1..=199 / step;
+        shapes.extend(depths.filter_map(|levels| planned_comb(levels, step)));
+    }
     shapes
 }
 
-/// A comb of so many levels in blocks of 1, with as many leaves as fit.
-fn planned_comb(levels: usize) -> Option<Worst> {
+/// A comb of so many levels, so many bytes apart, in blocks of 1, with as many
+/// leaves as fit.
+fn planned_comb(levels: usize, step: usize) -> Option<Worst> {
     let most = Comb {
         levels,
-        step: 1,
+        step,
         leaves: 254,
         tail: 0,
         last: 254,

@@ -123,21 +123,28 @@ impl Comb {
         rows && depth + self.tail <= LONGEST_NAME && count <= MOST_NAMES
     }
 
+    /// Whether it can be, and a book has space for it.
+    fn fits(&self) -> bool {
+        self.can_be() && {
+            let worst = self.worst();
+            worst.fitting() == worst.names.len()
+        }
+    }
+
     /// This comb with as many leaves as fit a book, up to those that it has: first
     /// of those before the way down, then of those at the last fork.
     pub fn fitting(&self) -> Option<Comb> {
-        (1..=self.leaves).rev().find_map(|leaves| {
-            let before = self.levels * leaves;
-            let last = self.last.min(MOST_NAMES.checked_sub(before)?);
-            let fewer = Comb {
-                leaves,
-                last,
-                ..*self
-            };
-            let possible = Some(fewer).filter(Comb::can_be)?;
-            let last = possible.worst().fitting().checked_sub(before)?;
-            Some(Comb { last, ..possible }).filter(Comb::can_be)
-        })
+        let with = |leaves, last| Comb {
+            leaves,
+            last,
+            ..*self
+        };
+        let rows: Vec<usize> = (1..=self.leaves).collect();
+        let leaves = rows.partition_point(|&leaves| with(leaves, 2).fits());
+        let before = self.levels * leaves;
+        let last = self.last.min(MOST_NAMES - before);
+        let last = with(leaves, last).worst().fitting().checked_sub(before)?;
+        Some(with(leaves, last)).filter(|comb| leaves > 0 && comb.fits())
     }
 
     /// The bytes down to the fork of this number.
@@ -190,10 +197,20 @@ pub fn any(random: &mut Random) -> Worst {
     worst
 }
 
-/// The dearest check that was found: as many names as can be, nearly all of them
-/// forks, each in a block of its own and as long as there is space for.
+/// The dearest check that was found: wide rows of names that share much, each in
+/// a block of its own, so that all of it is stored again and compared, and as
+/// many as there is space for.
 pub fn dearest_check() -> Worst {
-    chains(MOST_NAMES, 10, 1)
+    let comb = Comb {
+        levels: 4,
+        step: 32,
+        leaves: 250,
+        tail: 0,
+        last: 3,
+        block: 1,
+        astray: false,
+    };
+    comb.worst()
 }
 
 /// The dearest question that was found: as many levels as can be, with nine

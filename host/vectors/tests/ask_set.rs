@@ -227,12 +227,13 @@ fn the_dearest_books_are_a_file_of_the_same_kind() {
     let lines = cases.iter().enumerate();
     let text: String = lines.map(|(number, case)| line(number, case)).collect();
     assert_eq!(text, asking::DEAREST.expected());
-    // Of 2,000 names in chains of 10 the last one stands at 1,999 and has 10
-    // bytes. The path has 199 levels with nine names each.
+    // The paths have 4 levels with 250 names each, 32 bytes apart, and 199 with
+    // nine; the names of the last fork stand behind those, and share the path
+    // with the question.
     for (purpose, outcome) in [
         (
             "dearest check: ",
-            "0 1999 1 0 1999 0 0 1999 1 0 1999 10 0 10 0",
+            "0 0 0 0 1003 0 0 1003 0 0 1000 128 0 0 0",
         ),
         (
             "dearest question: ",
