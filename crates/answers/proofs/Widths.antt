@@ -8,14 +8,14 @@
 use Prim.Native.Nat.{ℕ, zero, suc, _≤_, _<_, max}
 use native.Mathlib.Nat.{le-of-suc-le-suc, not-suc-le-zero}
 use native.Mathlib.Omega.{arith}
-use mathlib.Core.Path.{_≡_, refl, sym, _∙_}
-use mathlib.Core.Logic.{_⊎_, inl, inr}
+use mathlib.Core.Path.{_≡_, refl}
+use mathlib.Core.Logic.{inl, inr}
 use mathlib.Core.Bool.{Bool, true, false}
 use mathlib.Core.List.{List, [], _∷_, _++_}
 use lib.ListN.{length}
-use Rattle.words.specs.Rising.{All, cons, nil, nth}
+use Rattle.words.specs.Rising.{All, cons, nth}
 use Rattle.words.specs.Words.{Words, begins, pick}
-use Rattle.words.proofs.Words.{apart, false≠true}
+use Rattle.words.proofs.Words.{apart}
 use Rattle.format.specs.Widths.{widest}
 use Rattle.answers.specs.Questions.{ask}
 use Rattle.answers.specs.Widths.{width}

@@ -1,24 +1,58 @@
 -- Laws of the union of two lists of names.
+--     kept-none, kept-all, among-kept, kept-among     the names that pass a test
 --     merged-none, merged-first, merged-second, merged-both     name by name: the other list has ended; the lesser head is the first list's, the second's, both
 --     rising-only, merged-rises      names that rise from one on rise by themselves; the union of rising lists rises
 --     among-left, among-right, among-either     a name is in the union just where it is in one of the two
 -- Assumes nothing.
-use Prim.Native.Nat.{ℕ, zero, suc, _+_, _≤_, _<_}
+use Prim.Native.Nat.{ℕ, zero, suc, _+_, _≤_}
 use native.Mathlib.Nat.{lt-irrefl}
 use native.Mathlib.Omega.{arith}
-use mathlib.Core.Path.{_≡_, refl, sym, ap, ap₂, _∙_, subst}
+use mathlib.Core.Path.{_≡_, refl, sym, ap, _∙_, subst}
 use mathlib.Core.Logic.{_⊎_, inl, inr}
 use mathlib.Core.Bool.{Bool, true, false}
-use mathlib.Core.List.{List, [], _∷_, _++_, map}
+use mathlib.Core.List.{List, [], _∷_, _++_}
 use lib.ListN.{length}
 use borrow.Author.Tests.{lt-ltb}
-use Rattle.words.specs.Rising.{All, Positive, cons, nil}
-use Rattle.words.specs.Words.{Bytes, Lawful, Rule, both, less, pick, word}
+use Rattle.words.specs.Rising.{All, cons, nil}
+use Rattle.words.specs.Words.{Bytes, Lawful, Rule, less, pick, word}
 use Rattle.words.proofs.Lists.{all-map}
-use Rattle.words.proofs.Words.{Ordered, both-true, equal, false≠true, greater, less-asym, less-irrefl, less-start, less-trans, lesser, ordered, word-positive}
+use Rattle.words.proofs.Words.{Ordered, equal, greater, less-asym, less-irrefl, less-start, less-trans, lesser, ordered, word-positive}
 use Rattle.format.specs.Records.{goodLength, rising}
-use Rattle.format.specs.Merging.{Among, above, below, here, merged, there}
-use Rattle.format.proofs.Records.{First, good-length, rising-first}
+use Rattle.format.specs.Merging.{Among, above, below, here, kept, merged, there}
+use Rattle.format.proofs.Records.{good-length, rising-first}
+
+-- ---- the names that pass a test
+
+module _ (f : Bytes → Bool) where
+  kept-none : (ys : List Bytes) → All (λ y. f y ≡ false) ys → kept f ys ≡ []
+  unfolding kept
+  kept-none [] a = refl
+  kept-none (y ∷ ys) (cons h a) = rw h (kept-none ys a)
+
+  kept-all : (ys : List Bytes) → All (λ y. f y ≡ true) ys → kept f ys ≡ ys
+  unfolding kept
+  kept-all [] a = refl
+  kept-all (y ∷ ys) (cons h a) = rw h (ap (λ (l : List Bytes). y ∷ l) (kept-all ys a))
+
+  among-kept : {z : Bytes} (ys : List Bytes) → Among z (kept f ys) → Among z ys
+  unfolding kept
+  among-kept [] m = m
+  among-kept {z} (y ∷ ys) m = go (among-kept ys) (f y) m
+    where
+      go : (Among z (kept f ys) → Among z ys) → (t : Bool) → Among z (pick t (y ∷ kept f ys) (kept f ys)) → Among z (y ∷ ys)
+      go more true (here e) = here e
+      go more true (there k) = there (more k)
+      go more false k = there (more k)
+
+  kept-among : {z : Bytes} (ys : List Bytes) → f z ≡ true → Among z ys → Among z (kept f ys)
+  unfolding kept
+  kept-among [] h m = m
+  kept-among {z} (y ∷ ys) h (here e) = let k : f y ≡ true = ap f (sym e) ∙ h in rw k (here e)
+  kept-among {z} (y ∷ ys) h (there m) = go (f y) (kept-among ys h m)
+    where
+      go : (t : Bool) → Among z (kept f ys) → Among z (pick t (y ∷ kept f ys) (kept f ys))
+      go true k = there k
+      go false k = k
 
 -- ---- names that rise from one on are all above it
 
@@ -31,16 +65,6 @@ module _ (ρ : Rule) where
   rising-above x (y ∷ ys) r =
       let f = rising-first ρ x y ys r in
       cons (f .above) (all-map (λ z k. less-trans (word ρ x) (word ρ y) (word ρ z) (f .above) k) (rising-above y ys (f .rest)))
-
-  below-none : (x : Bytes) (ys : List Bytes) → All (λ y. less (word ρ y) (word ρ x) ≡ false) ys → below ρ x ys ≡ []
-  unfolding below
-  below-none x [] a = refl
-  below-none x (y ∷ ys) (cons h a) = rw h (below-none x ys a)
-
-  above-all : (x : Bytes) (ys : List Bytes) → AllAbove x ys → above ρ x ys ≡ ys
-  unfolding above
-  above-all x [] a = refl
-  above-all x (y ∷ ys) (cons h a) = rw h (ap (λ (l : List Bytes). y ∷ l) (above-all x ys a))
 
   -- none of the names above x is below it
   not-below : (x : Bytes) (ys : List Bytes) → AllAbove x ys → All (λ y. less (word ρ y) (word ρ x) ≡ false) ys
@@ -59,7 +83,7 @@ module _ (ρ : Rule) where
   -- ---- name by name
 
   pub merged-none : (xs : List Bytes) → merged ρ xs [] ≡ xs
-  unfolding merged below above
+  unfolding merged kept
   merged-none [] = refl
   merged-none (x ∷ xs) = ap (λ (l : List Bytes). x ∷ l) (merged-none xs)
 
@@ -68,19 +92,19 @@ module _ (ρ : Rule) where
     unfolding merged
     merged-first h r =
         let a : AllAbove x (y ∷ ys) = cons h (all-map (λ z k. less-trans (word ρ x) (word ρ y) (word ρ z) h k) (rising-above y ys r)) in
-        rw (below-none x (y ∷ ys) (not-below x (y ∷ ys) a), above-all x (y ∷ ys) a)
+        rw (kept-none _ (y ∷ ys) (not-below x (y ∷ ys) a), kept-all _ (y ∷ ys) a)
 
     pub merged-second : less (word ρ y) (word ρ x) ≡ true → merged ρ (x ∷ xs) (y ∷ ys) ≡ y ∷ merged ρ (x ∷ xs) ys
-    unfolding merged below above
+    unfolding merged kept
     merged-second h = rw (h, less-asym (word ρ y) (word ρ x) h) refl
 
     pub merged-both : word ρ x ≡ word ρ y → rising ρ y ys ≡ true → merged ρ (x ∷ xs) (y ∷ ys) ≡ x ∷ merged ρ xs ys
-    unfolding merged below above
+    unfolding merged kept
     merged-both e r =
         let same : less (word ρ x) (word ρ y) ≡ false = ap (less (word ρ x)) (sym e) ∙ less-irrefl (word ρ x) in
         let back : less (word ρ y) (word ρ x) ≡ false = ap (λ (w : List ℕ). less w (word ρ x)) (sym e) ∙ less-irrefl (word ρ x) in
         let a : AllAbove x ys = subst (λ (w : List ℕ). All (λ z. less w (word ρ z) ≡ true) ys) (sym e) (rising-above y ys r) in
-        rw (same, back, below-none x ys (not-below x ys a), above-all x ys a) refl
+        rw (same, back, kept-none _ ys (not-below x ys a), kept-all _ ys a) refl
 
   -- ---- it rises
 
@@ -135,59 +159,17 @@ module _ (ρ : Rule) where
   among-back [] m = m
   among-back (x ∷ xs) m = there (among-back xs m)
 
-  -- those that are kept of a list are in it
-  among-below : {z : Bytes} (x : Bytes) (ys : List Bytes) → Among z (below ρ x ys) → Among z ys
-  unfolding below
-  among-below x [] m = m
-  among-below {z} x (y ∷ ys) m = go (among-below x ys) (less (word ρ y) (word ρ x)) m
-    where
-      go : (Among z (below ρ x ys) → Among z ys) → (t : Bool) → Among z (pick t (y ∷ below ρ x ys) (below ρ x ys)) → Among z (y ∷ ys)
-      go more true (here e) = here e
-      go more true (there k) = there (more k)
-      go more false k = there (more k)
-
-  among-above : {z : Bytes} (x : Bytes) (ys : List Bytes) → Among z (above ρ x ys) → Among z ys
-  unfolding above
-  among-above x [] m = m
-  among-above {z} x (y ∷ ys) m = go (among-above x ys) (less (word ρ x) (word ρ y)) m
-    where
-      go : (Among z (above ρ x ys) → Among z ys) → (t : Bool) → Among z (pick t (y ∷ above ρ x ys) (above ρ x ys)) → Among z (y ∷ ys)
-      go more true (here e) = here e
-      go more true (there k) = there (more k)
-      go more false k = there (more k)
-
-  -- and those that are less, or greater, are kept
-  kept-below : {z : Bytes} (x : Bytes) (ys : List Bytes) → less (word ρ z) (word ρ x) ≡ true → Among z ys → Among z (below ρ x ys)
-  unfolding below
-  kept-below x [] h m = m
-  kept-below {z} x (y ∷ ys) h (here e) = let k : less (word ρ y) (word ρ x) ≡ true = ap (λ (a : Bytes). less (word ρ a) (word ρ x)) (sym e) ∙ h in rw k (here e)
-  kept-below {z} x (y ∷ ys) h (there m) = go (less (word ρ y) (word ρ x)) (kept-below x ys h m)
-    where
-      go : (t : Bool) → Among z (below ρ x ys) → Among z (pick t (y ∷ below ρ x ys) (below ρ x ys))
-      go true k = there k
-      go false k = k
-
-  kept-above : {z : Bytes} (x : Bytes) (ys : List Bytes) → less (word ρ x) (word ρ z) ≡ true → Among z ys → Among z (above ρ x ys)
-  unfolding above
-  kept-above x [] h m = m
-  kept-above {z} x (y ∷ ys) h (here e) = let k : less (word ρ x) (word ρ y) ≡ true = ap (λ (a : Bytes). less (word ρ x) (word ρ a)) (sym e) ∙ h in rw k (here e)
-  kept-above {z} x (y ∷ ys) h (there m) = go (less (word ρ x) (word ρ y)) (kept-above x ys h m)
-    where
-      go : (t : Bool) → Among z (above ρ x ys) → Among z (pick t (y ∷ above ρ x ys) (above ρ x ys))
-      go true k = there k
-      go false k = k
-
   pub among-either : {z : Bytes} (xs ys : List Bytes) → Among z (merged ρ xs ys) → (Among z xs) ⊎ (Among z ys)
   unfolding merged
   among-either [] ys m = inr m
   among-either {z} (x ∷ xs) ys m = go (among-either xs (above ρ x ys)) (among-append (below ρ x ys) (x ∷ merged ρ xs (above ρ x ys)) m)
     where
       go : (Among z (merged ρ xs (above ρ x ys)) → (Among z xs) ⊎ (Among z (above ρ x ys))) → (Among z (below ρ x ys)) ⊎ (Among z (x ∷ merged ρ xs (above ρ x ys))) → (Among z (x ∷ xs)) ⊎ (Among z ys)
-      go more (inl k) = inr (among-below x ys k)
+      go more (inl k) = inr (among-kept _ ys k)
       go more (inr (here e)) = inl (here e)
       go more (inr (there k)) = elim (more k) [
         | inl a ↦ inl (there a)
-        | inr b ↦ inr (among-above x ys b)
+        | inr b ↦ inr (among-kept _ ys b)
       ]
 
   pub among-left : {z : Bytes} (xs ys : List Bytes) → Among z xs → Among z (merged ρ xs ys)
@@ -203,6 +185,6 @@ module _ (ρ : Rule) where
     among-right {z} (x ∷ xs) ys m = go (λ k. among-right xs (above ρ x ys) k) (ordered (word ρ z) (word ρ x) (word-positive ρ ok z) (word-positive ρ ok x))
       where
         go : (Among z (above ρ x ys) → Among z (merged ρ xs (above ρ x ys))) → Ordered (word ρ z) (word ρ x) → Among z (below ρ x ys ++ (x ∷ merged ρ xs (above ρ x ys)))
-        go more (lesser h) = among-front (x ∷ merged ρ xs (above ρ x ys)) (kept-below x ys h m)
+        go more (lesser h) = among-front (x ∷ merged ρ xs (above ρ x ys)) (kept-among _ ys h m)
         go more (equal e) = among-back (below ρ x ys) (here (one z x e))
-        go more (greater h) = among-back (below ρ x ys) (there (more (kept-above x ys h m)))
+        go more (greater h) = among-back (below ρ x ys) (there (more (kept-among _ ys h m)))

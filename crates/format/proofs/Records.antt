@@ -1,4 +1,5 @@
 -- A list's bytes and its names: each sound list of names is read from one run of bytes, and no other is read.
+--     encode-append             the records of two lists of names are the records of both
 --     read-skip                 what was skipped does not count
 --     read-encode, read-names, read-sound   the round trip, both ways; for any number of names, and for as many as a book has
 --     read-refused              a list that is not read is refused with 5, 6 or 7
@@ -8,9 +9,9 @@
 use Prim.Native.Nat.{ℕ, suc-le-suc, zero, suc, _-_, _≤_, _<_, zero-le}
 use native.Mathlib.Nat.{le-of-suc-le-suc, not-suc-le-zero}
 use native.Mathlib.Omega.{arith}
-use mathlib.Core.Path.{_≡_, refl, ap, ap₂, _∙_}
+use mathlib.Core.Path.{_≡_, refl, sym, ap, ap₂, _∙_}
 use mathlib.Core.Bool.{Bool, true, false}
-use mathlib.Core.List.{List, [], _∷_, _++_, map}
+use mathlib.Core.List.{List, [], _∷_, _++_, append-assoc, map}
 use lib.Dec.{leb, ltb}
 use lib.ListN.{length, length-map, getD, take, drop, length-append, take-append-drop}
 use lib.Seq.{take-append-seam, drop-append-seam, length-take-le}
@@ -21,6 +22,12 @@ use Rattle.words.proofs.Lists.{all-map}
 use Rattle.words.proofs.Rising.{Above}
 use Rattle.words.proofs.Words.{both-true, less-start, less-trans, word-positive}
 use Rattle.format.specs.Records.{Names, Reading, Refused, after, encode, goodLength, longest, mostNames, readFrom, readList, rising, sound}
+
+-- the records of two lists of names are the records of both
+pub encode-append : (xs ys : List Bytes) → encode (xs ++ ys) ≡ encode xs ++ encode ys
+unfolding encode
+encode-append [] ys = refl
+encode-append (x ∷ xs) ys = ap (λ (l : Bytes). length x ∷ x ++ l) (encode-append xs ys) ∙ ap (λ (l : Bytes). length x ∷ l) (sym (append-assoc x (encode xs) (encode ys)))
 
 -- what was skipped does not count
 pub read-skip : (ρ : Rule) (most i : ℕ) (prev : Bytes) (n : ℕ) (s : Bytes) → readFrom ρ most i prev n s ≡ readFrom ρ most i prev 0 (drop n s)

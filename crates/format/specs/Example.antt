@@ -1,7 +1,7 @@
 -- Document 01, 'A book in full' and 'Checked on that book': Mar, Marina and Market Square, in blocks of two and in one block.
 --     text, example, exampleBy2, exampleBy4     a text of ASCII as bytes; the three names; the two books, byte for byte
 --     marked            the twelve rows marked P: kind, question and what it is to give
--- That layout and questions yield them is computed, in proofs/Example.antt here and in answers, and of the books' bytes in theorems.
+-- That layout and questions yield them is computed: proofs/Example.antt here and in answers, Examples in theorems. Assumes nothing.
 use Prim.Native.Char.{code}
 use Prim.Native.Nat.{ℕ}
 use Prim.Native.String.{String}

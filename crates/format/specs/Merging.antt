@@ -1,19 +1,22 @@
 -- Document 02, CR 2: two lists of names become one, a name in both once.
---     below, above      those of some names that are less than a name, and those that are greater
+--     kept, below, above     the names that pass a test; those that are less than a name, and those that are greater
 --     merged            the union of two lists of rising names, rising again
 --     Among             a name is one of a list's
 -- The laws are in proofs/Merging.antt. Assumes nothing: these are definitions.
 use mathlib.Core.Path.{_≡_}
+use mathlib.Core.Bool.{Bool}
 use mathlib.Core.List.{List, [], _∷_, _++_}
 use Rattle.words.specs.Words.{Bytes, Rule, less, pick, word}
 
-unfoldable pub below : Rule → Bytes → List Bytes → List Bytes
-below ρ x [] = []
-below ρ x (y ∷ ys) = let more = below ρ x ys in pick (less (word ρ y) (word ρ x)) (y ∷ more) more
+unfoldable pub kept : (Bytes → Bool) → List Bytes → List Bytes
+kept f [] = []
+kept f (y ∷ ys) = let more = kept f ys in pick (f y) (y ∷ more) more
 
-unfoldable pub above : Rule → Bytes → List Bytes → List Bytes
-above ρ x [] = []
-above ρ x (y ∷ ys) = let more = above ρ x ys in pick (less (word ρ x) (word ρ y)) (y ∷ more) more
+abbrev pub below : Rule → Bytes → List Bytes → List Bytes
+below ρ x ys = kept (λ y. less (word ρ y) (word ρ x)) ys
+
+abbrev pub above : Rule → Bytes → List Bytes → List Bytes
+above ρ x ys = kept (λ y. less (word ρ x) (word ρ y)) ys
 
 -- a name of the second list that equals x is neither below nor above it, so x stands for both
 unfoldable pub merged : Rule → List Bytes → List Bytes → List Bytes

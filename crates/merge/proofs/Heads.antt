@@ -14,13 +14,12 @@ use lib.Seq.{drop-append-seam, drop-drop, getD-drop, take-append-seam}
 use Rattle.words.specs.Words.{Bytes, less, plain, word}
 use Rattle.words.proofs.Words.{equal, false≠true, greater, lesser, ordered, plain-lawful, word-positive}
 use Rattle.format.specs.Merging.{merged}
-use Rattle.format.specs.Records.{encode, goodLength, rising}
+use Rattle.format.specs.Records.{encode}
 use Rattle.format.proofs.Merging.{merged-both, merged-first, merged-none, merged-second, rising-only}
 use Rattle.format.proofs.Records.{First, rising-first}
 use Rattle.merge.specs.Heads.{HeadAsk, LesserSays, RestOf, Step, headIn}
 use Rattle.merge.specs.declared.Lesser.{Lesser}
 use Rattle.merge.specs.declared.Lesser.the-variants.{Both, First as FirstLess, Second}
-use Rattle.merge.specs.declared.Next.{Next}
 
 -- the next record of a list, of `size` bytes, is that of x
 pub record Headed (s : Bytes) (at size : ℕ) (xs : List Bytes) : Type 0 where

@@ -3,11 +3,10 @@
 --     in-first, in-second       the list that a head stands in
 --     Joins, joins-start, joins-ask, joins-less, joins-within, joins-bytes, head-inside, joins-more, joins-all     the walk over both lists
 -- Assumes nothing.
-use Prim.Native.Nat.{ℕ, suc, _+_, _-_, _≤_, _<_, zero-le}
+use Prim.Native.Nat.{ℕ, _+_, _-_, _≤_, _<_, zero-le}
 use native.Mathlib.Nat.{lt-irrefl}
 use native.Mathlib.Omega.{arith}
-use native.Mathlib.Numerals.{add-one}
-use mathlib.Core.Path.{_≡_, refl, sym, ap, ap₂, _∙_, subst}
+use mathlib.Core.Path.{_≡_, refl, sym, ap, ap₂, _∙_}
 use mathlib.Core.Logic.{inl, inr}
 use mathlib.Core.Bool.{Bool, true, false}
 use mathlib.Core.List.{List, [], _∷_, _++_, append-assoc, append-nil}
@@ -17,16 +16,12 @@ use Rattle.words.specs.Words.{Bytes, pick, plain}
 use Rattle.format.specs.Records.{encode}
 use Rattle.format.specs.Merging.{merged}
 use Rattle.format.specs.Outcomes.{over}
+use Rattle.format.proofs.Records.{encode-append}
 use Rattle.numbers.proofs.Parts.{Copied, copied, lent-front, over-length, part-length}
 use Rattle.words.proofs.Words.{apart}
 use Rattle.merge.specs.Heads.{HeadAsk, HeadSays, RestOf, Step}
 use Rattle.merge.specs.Joining.{Joined, MergeAsk, MergedInto, RecordPut}
 use Rattle.merge.specs.declared.Next.{Next}
-
-pub encode-append : (xs ys : List Bytes) → encode (xs ++ ys) ≡ encode xs ++ encode ys
-unfolding encode
-encode-append [] ys = refl
-encode-append (x ∷ xs) ys = ap (λ (l : Bytes). length x ∷ l) (ap (λ (l : Bytes). x ++ l) (encode-append xs ys) ∙ sym (append-assoc x (encode xs) (encode ys)))
 
 -- an empty list of names has no records, and no other has none
 pub no-records : (xs : List Bytes) → length (encode xs) ≡ 0 → xs ≡ []

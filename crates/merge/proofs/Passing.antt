@@ -1,8 +1,7 @@
 -- Laws of passing records.
 --     Passes, passes-start, passes-here, passes-more, passes-ended, passes-all     record by record
 -- Assumes nothing.
-use Prim.Native.Nat.{ℕ, zero, suc, _+_, _-_, _≤_, _<_}
-use native.Mathlib.Nat.{lt-irrefl}
+use Prim.Native.Nat.{ℕ, _+_, _-_, _≤_, _<_}
 use native.Mathlib.Omega.{arith}
 use mathlib.Core.Path.{_≡_, refl, sym, ap, ap₂, _∙_, subst}
 use mathlib.Core.List.{List, [], _∷_, _++_, append-assoc, append-nil}
@@ -10,11 +9,12 @@ use lib.ListN.{drop, drop-of-length-le, getD, length, length-append, length-drop
 use lib.Seq.{drop-append-seam, take-all, take-append-seam}
 use Rattle.words.specs.Words.{Bytes}
 use Rattle.format.specs.Records.{encode}
+use Rattle.format.proofs.Records.{encode-append}
 use Rattle.numbers.proofs.Parts.{part-length}
 use Rattle.merge.specs.Heads.{RestOf}
 use Rattle.merge.specs.Passing.{ListAsk, PassedTo}
-use Rattle.merge.proofs.Heads.{Headed, headed}
-use Rattle.merge.proofs.Joining.{encode-append, no-records}
+use Rattle.merge.proofs.Heads.{headed}
+use Rattle.merge.proofs.Joining.{no-records}
 
 -- of the names xs those of `done` are passed, which with `left` are so many
 pub record Part (s : Bytes) (count at left : ℕ) (xs : List Bytes) : Type 0 where

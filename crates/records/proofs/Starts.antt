@@ -8,7 +8,7 @@
 use Prim.Native.Nat.{ℕ, suc, _+_, _≤_, _<_}
 use native.Mathlib.Omega.{arith}
 use mathlib.Core.Path.{_≡_, refl, sym, ap, _∙_}
-use mathlib.Core.List.{List, [], _∷_, _++_, append-assoc, append-nil}
+use mathlib.Core.List.{List, [], _∷_, _++_, append-nil}
 use lib.ListN.{length, getD, take, drop, length-append, length-map, take-append-drop}
 use lib.Seq.{getD-drop, take-suc, drop-drop, drop-cons, drop-at, take-at, take-all}
 use Rattle.words.specs.Rising.{Rises, nth}
@@ -17,13 +17,8 @@ use Rattle.words.proofs.Lists.{all-at}
 use Rattle.words.proofs.Rising.{nth-word}
 use Rattle.words.proofs.Words.{plain-lawful}
 use Rattle.format.specs.Records.{encode, sound}
-use Rattle.format.proofs.Records.{rising-sizes, sound-rises, sound-rising}
+use Rattle.format.proofs.Records.{encode-append, rising-sizes, sound-rises, sound-rising}
 use Rattle.records.specs.Lists.{Ready, names, startOf, words}
-
-encode-append : (xs ys : List Bytes) → encode (xs ++ ys) ≡ encode xs ++ encode ys
-unfolding encode
-encode-append [] ys = refl
-encode-append (x ∷ xs) ys = ap (λ (l : Bytes). length x ∷ x ++ l) (encode-append xs ys) ∙ ap (λ (l : Bytes). length x ∷ l) (sym (append-assoc x (encode xs) (encode ys)))
 
 encode-one : (x : Bytes) → encode (x ∷ []) ≡ length x ∷ x
 unfolding encode

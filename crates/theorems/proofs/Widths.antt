@@ -9,9 +9,9 @@
 use Prim.Native.Nat.{ℕ, _+_, _≤_, _<_}
 use native.Mathlib.Nat.{lt-irrefl}
 use native.Mathlib.Omega.{arith}
-use mathlib.Core.Path.{_≡_, refl, sym, ap, ap₂, _∙_, subst}
-use mathlib.Core.Logic.{_⊎_, inl, inr}
-use mathlib.Core.Bool.{Bool, false, true}
+use mathlib.Core.Path.{_≡_, refl, sym, ap, ap₂, _∙_}
+use mathlib.Core.Logic.{inl, inr}
+use mathlib.Core.Bool.{true}
 use mathlib.Core.List.{List, [], map}
 use lib.Dec.{leb, ltb}
 use lib.ListN.{List·getD-eq-default, length, getD, length-map}
@@ -26,7 +26,7 @@ use Rattle.format.specs.Records.{longest, sound}
 use Rattle.format.specs.Outcomes.{Answer, given}
 use Rattle.format.specs.Widths.{widest}
 use Rattle.format.proofs.Book.{book-opened, fits-parts}
-use Rattle.answers.specs.Questions.{answer, ask, count, range}
+use Rattle.answers.specs.Questions.{answer, ask, range}
 use Rattle.answers.specs.Widths.{width}
 use Rattle.answers.specs.Calls.{question, questionOf}
 use Rattle.answers.proofs.Calls.{question-given}
@@ -43,9 +43,6 @@ module _ (ρ : Rule) (ok : Lawful ρ) (s : Bytes) (k : ℕ) (xs : List Bytes) (o
   -- the words of the names
   abbrev ws : Words
   ws = map (word ρ) xs
-
-  inside : {i : ℕ} → i < length xs → i < length (map (word ρ) xs)
-  inside h = omega (arith, length-map xs (word ρ))
 
   word-length : (i : ℕ) → length (nth (map (word ρ) xs) i) ≡ length (getD xs i [])
   word-length i = ap length (nth-word ρ xs i) ∙ length-map (getD xs i []) ρ
@@ -93,7 +90,7 @@ module _ (ρ : Rule) (ok : Lawful ρ) (s : Bytes) (k : ℕ) (xs : List Bytes) (o
 
     pub width-most : (i : ℕ) → question ρ 3 s q .first ≤ i → i < question ρ 3 s q .first + question ρ 3 s q .second → length (getD xs i []) ≤ question ρ 5 s q .first
     width-most i low high = elim (apart i (length xs)) [
-      | inl l ↦ omega (arith, width-is, word-length i, width-at (word ρ q) (map (word ρ) xs) i (inside l) (begun i l low high))
+      | inl l ↦ omega (arith, width-is, word-length i, width-at (word ρ q) (map (word ρ) xs) i (omega (arith, length-map xs (word ρ))) (begun i l low high))
       | inr l ↦ omega (arith, ap length (List·getD-eq-default xs [] l))
     ]
 

@@ -1,9 +1,7 @@
 -- `merge::next_head` meets its contract: one list has ended, or one head is the lesser, or both are one name.
 -- Assumes nothing.
 use native.Mathlib.Omega.{arith}
-use mathlib.Core.Path.{subst, sym}
 use borrow.Author.Needs.{needs}
-use Rattle.merge.specs.Heads.{Step}
 use Rattle.merge.proofs.Heads.{alone-first, alone-second, ask-fits, ask-other-fits, lesser-both, lesser-first, lesser-second, second-fits, second-left}
 use Rattle.merge.proofs.next_head.Statement.{statement}
 use Rattle.merge.proofs.next_head.Tie as tie

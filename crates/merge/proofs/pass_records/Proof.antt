@@ -1,7 +1,6 @@
 -- `merge::pass_records` meets its contract. The loop keeps `Passes`; the records that are left to pass are its measure.
 -- Assumes nothing.
 use native.Mathlib.Omega.{arith}
-use borrow.Author.Needs.{needs}
 use Rattle.merge.proofs.Passing.{Passes, passes-all, passes-ended, passes-fits, passes-more, passes-start}
 use Rattle.merge.proofs.pass_records.Statement.{statement}
 use Rattle.merge.proofs.pass_records.Tie as tie
