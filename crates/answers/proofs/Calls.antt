@@ -28,14 +28,14 @@ use Rattle.answers.specs.Questions.{Pair, answer}
 -- ---- what the numbers count
 
 -- where the code is 0, the number counts bytes that stand in the room
-abbrev FirstWithin : Written → Type 0
+abbrev pub FirstWithin : Written → Type 0
 FirstWithin w = w .answer .code ≡ 0 → w .answer .first ≤ length (w .room)
 
 -- the number counts bytes that stand in the room
 abbrev CountWithin : Written → Type 0
 CountWithin w = w .answer .first ≤ length (w .room)
 
-write-within : (room out : Bytes) → CountWithin (write out room)
+pub write-within : (room out : Bytes) → CountWithin (write out room)
 write-within room out = picked CountWithin (leb (length out) (length room)) (simp length-append (omega arith)) (omega arith)
 
 module _ (ρ : Rule) (list : Bytes) (k : ℕ) (room : Bytes) where

@@ -3,4 +3,6 @@ pub mod Places
 pub mod Nearest
 pub mod Widths
 pub mod Calls
+pub mod Merging
+pub mod Heads
 pub mod Example

@@ -1,3 +1,5 @@
 pub mod Widths
 pub mod Questions
 pub mod Calls
+pub mod Heads
+pub mod Merging

@@ -3,3 +3,4 @@ pub mod Building
 pub mod Reading
 pub mod Batching
 pub mod Walking
+pub mod Merging

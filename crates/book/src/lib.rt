@@ -2,11 +2,15 @@
 // one statement: its answer and all that was lent, as they are when it ends, equal a function of what came in. They are exported for C
 // and Rust; a slice is a pointer and a length. Inner functions, which may ask something, stand in the crates below.
 pub use shapes::Answer;
+pub use shapes::Head;
 pub use shapes::Row;
 ghost use mathlib.Core.Path.{_≡_};
 ghost use mathlib.Core.List.{map};
 ghost use Rattle.words.specs.Words.{plain};
 ghost use Rattle.answers.specs.Calls.{batch, build, check, question as askedOf, readBack};
+ghost use Rattle.answers.specs.Heads.{headOf, partOf};
+ghost use Rattle.answers.specs.Merging.{judgeLists, mergeLists};
+ghost use Rattle.shapes.specs.Heads.{headed, lentPart};
 ghost use Rattle.shapes.specs.Shapes.{answered, rowOf, batched, written};
 
 // Builds the book of a list with blocks of so many names, at the front of the room. Refusals: 8; record by record 5, 6, 7; 9; 4.
@@ -140,4 +144,60 @@ pub extern "C" fn book_batch(
         i += 1;
     }
     opening.answer
+}
+
+// Whether two lists can be merged: both read well. Refusals, with the record's number and the list's: 5, 6 of the first, then of the second.
+#[no_mangle]
+pub extern "C" fn list_judge(first: &[u8], second: &[u8]) -> Answer
+    ensures { λ r. ⌜ answered r ≡ judgeLists (now (first .entry)) (now (second .entry)) ⌝ }
+{
+    merge::judge_both(first, second)
+}
+
+// The names of two lists in one, a name in both once, at the front of the room. Refusals: 5, 6 of either list; 7; 4.
+#[no_mangle]
+pub extern "C" fn list_merge(first: &[u8], second: &[u8], room: &mut [u8]) -> Answer
+    ensures { λ r. ⌜ written r (now (room .exit)) ≡ mergeLists (now (first .entry)) (now (second .entry)) (now (room .entry)) ⌝ }
+{
+    let judged = merge::judge_both(first, second);
+    if judged.code != 0 {
+        return judged;
+    }
+    merge::merge_judged(first, second, room)
+}
+
+// The lesser of the heads of two lists, of which so many records have been passed, by its list and its place there. Linear in both lists.
+#[no_mangle]
+pub extern "C" fn list_head(
+    first: &[u8],
+    second: &[u8],
+    passed_first: usize,
+    passed_second: usize,
+) -> Head
+    ensures { λ r. ⌜ headed r ≡ headOf (now (first .entry)) (now (second .entry)) «passed_first» «passed_second» ⌝ }
+{
+    let judged = merge::judge_both(first, second);
+    if judged.code != 0 {
+        return merge::no_head();
+    }
+    merge::head_judged(first, second, passed_first, passed_second)
+}
+
+// That head as a part of the list it stands in. Linear in both lists.
+pub fn list_step<'a>(
+    first: &'a [u8],
+    second: &'a [u8],
+    passed_first: usize,
+    passed_second: usize,
+) -> &'a [u8]
+    ensures { λ r. ⌜ lentPart r ≡ partOf (first .entry) (second .entry) (headOf (now (first .entry)) (now (second .entry)) «passed_first» «passed_second») ⌝ }
+{
+    let head = list_head(first, second, passed_first, passed_second);
+    let start = head.start;
+    let end = start + head.length;
+    if head.list == 2 {
+        &second[start..end]
+    } else {
+        &first[start..end]
+    }
 }

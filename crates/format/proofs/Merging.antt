@@ -1,7 +1,7 @@
 -- Laws of the union of two lists of names.
 --     kept-none, kept-all, among-kept, kept-among     the names that pass a test
 --     merged-none, merged-first, merged-second, merged-both     name by name: the other list has ended; the lesser head is the first list's, the second's, both
---     rising-only, merged-rises      names that rise from one on rise by themselves; the union of rising lists rises
+--     rising-only, rising-drop, merged-rises      names that rise from one on rise by themselves; so do the last of them; the union of rising lists rises
 --     among-left, among-right, among-either     a name is in the union just where it is in one of the two
 -- Assumes nothing.
 use Prim.Native.Nat.{ℕ, zero, suc, _+_, _≤_}
@@ -10,15 +10,15 @@ use native.Mathlib.Omega.{arith}
 use mathlib.Core.Path.{_≡_, refl, sym, ap, _∙_, subst}
 use mathlib.Core.Logic.{_⊎_, inl, inr}
 use mathlib.Core.Bool.{Bool, true, false}
-use mathlib.Core.List.{List, [], _∷_, _++_}
-use lib.ListN.{length}
+use mathlib.Core.List.{List, List·Memᴰ as Among, List·Memᴰ·append-cases, List·Memᴰ·head as here, List·Memᴰ·tail as there, Memᴰ·append-left, Memᴰ·append-right, [], _∷_, _++_}
+use lib.ListN.{drop, length}
 use borrow.Author.Tests.{lt-ltb}
 use Rattle.words.specs.Rising.{All, cons, nil}
 use Rattle.words.specs.Words.{Bytes, Lawful, Rule, less, pick, word}
 use Rattle.words.proofs.Lists.{all-map}
 use Rattle.words.proofs.Words.{Ordered, equal, greater, less-asym, less-irrefl, less-start, less-trans, lesser, ordered, word-positive}
 use Rattle.format.specs.Records.{goodLength, rising}
-use Rattle.format.specs.Merging.{Among, above, below, here, kept, merged, there}
+use Rattle.format.specs.Merging.{kept, merged}
 use Rattle.format.proofs.Records.{good-length, rising-first}
 
 -- ---- the names that pass a test
@@ -54,6 +54,12 @@ module _ (f : Bytes → Bool) where
       go true k = there k
       go false k = k
 
+abbrev below : Rule → Bytes → List Bytes → List Bytes
+below ρ x ys = kept (λ y. less (word ρ y) (word ρ x)) ys
+
+abbrev above : Rule → Bytes → List Bytes → List Bytes
+above ρ x ys = kept (λ y. less (word ρ x) (word ρ y)) ys
+
 -- ---- names that rise from one on are all above it
 
 module _ (ρ : Rule) where
@@ -79,6 +85,12 @@ module _ (ρ : Rule) where
       first-above : (z : Bytes) → goodLength (length z) ≡ true → less (word ρ []) (word ρ z) ≡ true
       first-above [] g = absurd (lt-irrefl 0 (good-length 0 g .0))
       first-above (c ∷ z) g = less-start (ρ c) (word ρ z) ∙ lt-ltb 0 (ρ c) (ok .low c)
+
+  pub rising-drop : Lawful ρ → (i : ℕ) (xs : List Bytes) → rising ρ [] xs ≡ true → rising ρ [] (drop i xs) ≡ true
+  unfolding rising
+  rising-drop ok zero xs r = r
+  rising-drop ok (suc i) [] r = r
+  rising-drop ok (suc i) (x ∷ xs) r = rising-drop ok i xs (rising-only ok x xs (rising-first ρ [] x xs r .rest))
 
   -- ---- name by name
 
@@ -143,26 +155,10 @@ module _ (ρ : Rule) where
 
   -- ---- whose names are in it
 
-  among-append : {z : Bytes} (xs ys : List Bytes) → Among z (xs ++ ys) → (Among z xs) ⊎ (Among z ys)
-  among-append [] ys m = inr m
-  among-append (x ∷ xs) ys (here e) = inl (here e)
-  among-append (x ∷ xs) ys (there m) = elim (among-append xs ys m) [
-    | inl k ↦ inl (there k)
-    | inr k ↦ inr k
-  ]
-
-  among-front : {z : Bytes} {xs : List Bytes} (ys : List Bytes) → Among z xs → Among z (xs ++ ys)
-  among-front ys (here e) = here e
-  among-front ys (there m) = there (among-front ys m)
-
-  among-back : {z : Bytes} (xs : List Bytes) {ys : List Bytes} → Among z ys → Among z (xs ++ ys)
-  among-back [] m = m
-  among-back (x ∷ xs) m = there (among-back xs m)
-
   pub among-either : {z : Bytes} (xs ys : List Bytes) → Among z (merged ρ xs ys) → (Among z xs) ⊎ (Among z ys)
   unfolding merged
   among-either [] ys m = inr m
-  among-either {z} (x ∷ xs) ys m = go (among-either xs (above ρ x ys)) (among-append (below ρ x ys) (x ∷ merged ρ xs (above ρ x ys)) m)
+  among-either {z} (x ∷ xs) ys m = go (among-either xs (above ρ x ys)) (List·Memᴰ·append-cases (below ρ x ys) m)
     where
       go : (Among z (merged ρ xs (above ρ x ys)) → (Among z xs) ⊎ (Among z (above ρ x ys))) → (Among z (below ρ x ys)) ⊎ (Among z (x ∷ merged ρ xs (above ρ x ys))) → (Among z (x ∷ xs)) ⊎ (Among z ys)
       go more (inl k) = inr (among-kept _ ys k)
@@ -174,8 +170,8 @@ module _ (ρ : Rule) where
 
   pub among-left : {z : Bytes} (xs ys : List Bytes) → Among z xs → Among z (merged ρ xs ys)
   unfolding merged
-  among-left (x ∷ xs) ys (here e) = among-back (below ρ x ys) (here e)
-  among-left (x ∷ xs) ys (there m) = among-back (below ρ x ys) (there (among-left xs (above ρ x ys) m))
+  among-left (x ∷ xs) ys (here e) = Memᴰ·append-right (below ρ x ys) (here e)
+  among-left (x ∷ xs) ys (there m) = Memᴰ·append-right (below ρ x ys) (there (among-left xs (above ρ x ys) m))
 
   -- names with equal words are one name, as under document 01's rule
   module _ (ok : Lawful ρ) (one : (a b : Bytes) → word ρ a ≡ word ρ b → a ≡ b) where
@@ -185,6 +181,6 @@ module _ (ρ : Rule) where
     among-right {z} (x ∷ xs) ys m = go (λ k. among-right xs (above ρ x ys) k) (ordered (word ρ z) (word ρ x) (word-positive ρ ok z) (word-positive ρ ok x))
       where
         go : (Among z (above ρ x ys) → Among z (merged ρ xs (above ρ x ys))) → Ordered (word ρ z) (word ρ x) → Among z (below ρ x ys ++ (x ∷ merged ρ xs (above ρ x ys)))
-        go more (lesser h) = among-front (x ∷ merged ρ xs (above ρ x ys)) (kept-among _ ys h m)
-        go more (equal e) = among-back (below ρ x ys) (here (one z x e))
-        go more (greater h) = among-back (below ρ x ys) (there (more (kept-among _ ys h m)))
+        go more (lesser h) = Memᴰ·append-left (x ∷ merged ρ xs (above ρ x ys)) (kept-among _ ys h m)
+        go more (equal e) = Memᴰ·append-right (below ρ x ys) (here (one z x e))
+        go more (greater h) = Memᴰ·append-right (below ρ x ys) (there (more (kept-among _ ys h m)))

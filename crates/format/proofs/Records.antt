@@ -1,12 +1,13 @@
 -- A list's bytes and its names: each sound list of names is read from one run of bytes, and no other is read.
 --     encode-append             the records of two lists of names are the records of both
+--     encode-from, encode-name, encode-fits     the records from number i on, its name, and that both are there
 --     read-skip                 what was skipped does not count
 --     read-encode, read-names, read-sound   the round trip, both ways; for any number of names, and for as many as a book has
 --     read-refused              a list that is not read is refused with 5, 6 or 7
 --     sound-few, sound-rising, rising-sizes, sound-rises, word-short    what a sound list's names are; their words rise
 --     from-rising, from-sound                and back
 -- Assumes nothing.
-use Prim.Native.Nat.{ℕ, suc-le-suc, zero, suc, _-_, _≤_, _<_, zero-le}
+use Prim.Native.Nat.{ℕ, suc-le-suc, zero, suc, _+_, _-_, _≤_, _<_, zero-le}
 use native.Mathlib.Nat.{le-of-suc-le-suc, not-suc-le-zero}
 use native.Mathlib.Omega.{arith}
 use mathlib.Core.Path.{_≡_, refl, sym, ap, ap₂, _∙_}
@@ -14,7 +15,7 @@ use mathlib.Core.Bool.{Bool, true, false}
 use mathlib.Core.List.{List, [], _∷_, _++_, append-assoc, map}
 use lib.Dec.{leb, ltb}
 use lib.ListN.{length, length-map, getD, take, drop, length-append, take-append-drop}
-use lib.Seq.{take-append-seam, drop-append-seam, length-take-le}
+use lib.Seq.{drop-append-seam, drop-cons, drop-drop, length-take-le, take-append-seam}
 use borrow.Author.Tests.{lt-ltb, ltb-true, leb-true, le-leb}
 use Rattle.words.specs.Rising.{All, Rises, cons, nil, rise, start, nth}
 use Rattle.words.specs.Words.{Bytes, Lawful, Rule, both, less, pick, word}
@@ -28,6 +29,37 @@ pub encode-append : (xs ys : List Bytes) → encode (xs ++ ys) ≡ encode xs ++ 
 unfolding encode
 encode-append [] ys = refl
 encode-append (x ∷ xs) ys = ap (λ (l : Bytes). length x ∷ x ++ l) (encode-append xs ys) ∙ ap (λ (l : Bytes). length x ∷ l) (sym (append-assoc x (encode xs) (encode ys)))
+
+-- ---- record number i of the records of some names
+
+encode-cons : (x : Bytes) (xs : List Bytes) → encode (x ∷ xs) ≡ length x ∷ x ++ encode xs
+unfolding encode
+encode-cons x xs = refl
+
+module _ (xs : List Bytes) (i : ℕ) (h : i < length xs) where
+  encode-parts : encode xs ≡ encode (take i xs) ++ (length (getD xs i []) ∷ getD xs i [] ++ encode (drop (suc i) xs))
+  encode-parts =
+      ap encode (sym (take-append-drop i xs)) ∙ encode-append (take i xs) (drop i xs)
+      ∙ ap (λ (l : Bytes). encode (take i xs) ++ l) (ap encode (drop-cons xs i [] h) ∙ encode-cons (getD xs i []) (drop (suc i) xs))
+
+  -- from there on
+  pub encode-from : drop (length (encode (take i xs))) (encode xs) ≡ length (getD xs i []) ∷ getD xs i [] ++ encode (drop (suc i) xs)
+  encode-from = ap (drop (length (encode (take i xs)))) encode-parts ∙ drop-append-seam (encode (take i xs)) (length (getD xs i []) ∷ getD xs i [] ++ encode (drop (suc i) xs))
+
+  -- its name, behind the length byte
+  pub encode-name : take (length (getD xs i [])) (drop (length (encode (take i xs)) + 1) (encode xs)) ≡ getD xs i []
+  encode-name =
+      ap (take (length (getD xs i []))) (sym (drop-drop 1 (length (encode (take i xs))) (encode xs)) ∙ ap (drop 1) encode-from)
+      ∙ take-append-seam (getD xs i []) (encode (drop (suc i) xs))
+
+  pub encode-fits : length (encode (take i xs)) + 1 + length (getD xs i []) ≤ length (encode xs)
+  encode-fits =
+      omega (
+        arith,
+        ap length encode-parts,
+        length-append (encode (take i xs)) (length (getD xs i []) ∷ getD xs i [] ++ encode (drop (suc i) xs)),
+        length-append (getD xs i []) (encode (drop (suc i) xs)),
+      )
 
 -- what was skipped does not count
 pub read-skip : (ρ : Rule) (most i : ℕ) (prev : Bytes) (n : ℕ) (s : Bytes) → readFrom ρ most i prev n s ≡ readFrom ρ most i prev 0 (drop n s)

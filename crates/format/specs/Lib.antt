@@ -1,4 +1,5 @@
 pub mod Records
+pub mod Alone
 pub mod Merging
 pub mod Entries
 pub mod Widths

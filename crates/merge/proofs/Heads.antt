@@ -1,22 +1,25 @@
 -- Laws of the heads of two lists.
 --     Headed, headed            a list that has not ended: its next record, the name in it, and the records behind
---     step-second, step-first, step-both     ways out of `next_head`
+--     shows-alone, shows-only, shows-first, shows-second     the head that is shown
+--     alone-second, alone-first, lesser-first, lesser-second, lesser-both     ways out of `next_head`
 -- Assumes nothing.
 use Prim.Native.Nat.{ℕ, suc, _+_, _-_, _≤_, _<_}
 use native.Mathlib.Nat.{lt-irrefl}
 use native.Mathlib.Decide.{ℕ-discrete}
 use native.Mathlib.Omega.{arith}
 use mathlib.Core.Path.{_≡_, refl, sym, ap, ap₂, _∙_, subst}
+use mathlib.Core.Logic.{inl, inr}
 use mathlib.Core.Bool.{Bool, true, false}
 use mathlib.Core.List.{List, [], _∷_, _++_, append-nil}
 use lib.ListN.{drop, getD, length, length-append, length-drop, take}
 use lib.Seq.{drop-append-seam, drop-drop, getD-drop, take-append-seam}
-use Rattle.words.specs.Words.{Bytes, less, plain, word}
-use Rattle.words.proofs.Words.{equal, false≠true, greater, lesser, ordered, plain-lawful, word-positive}
+use Rattle.words.specs.Words.{Bytes, less, pick, plain, word}
+use Rattle.words.proofs.Words.{apart, equal, false≠true, greater, less-asym, less-irrefl, lesser, ordered, plain-lawful, word-positive}
 use Rattle.format.specs.Merging.{merged}
 use Rattle.format.specs.Records.{encode}
 use Rattle.format.proofs.Merging.{merged-both, merged-first, merged-none, merged-second, rising-only}
 use Rattle.format.proofs.Records.{First, rising-first}
+use Rattle.answers.specs.Heads.{Head, lesserHead}
 use Rattle.merge.specs.Heads.{HeadAsk, LesserSays, RestOf, Step, headIn}
 use Rattle.merge.specs.declared.Lesser.{Lesser}
 use Rattle.merge.specs.declared.Lesser.the-variants.{Both, First as FirstLess, Second}
@@ -69,8 +72,28 @@ headed s at size (x ∷ xs) r n e =
     after big =
         sym (drop-drop size at s) ∙ ap₂ drop big (r .bytes) ∙ drop-append-seam x (encode xs)
 
-head-same : {x y : Bytes} {xs ys : List Bytes} → x ∷ xs ≡ y ∷ ys → x ≡ y
-head-same {x} e = ap (λ (l : List Bytes). getD l 0 []) e
+-- ---- the head that is shown
+
+abbrev Shows : ℕ → ℕ → List Bytes → List Bytes → Head → Type 0
+Shows i j xs ys h = h ≡ lesserHead (1, i + 1, length (getD xs 0 [])) (2, j + 1, length (getD ys 0 [])) xs ys
+
+module _ (i j size : ℕ) {xs ys : List Bytes} where
+  shows-alone : {y : Bytes} {others : List Bytes} → size ≡ suc (length y) → xs ≡ [] → ys ≡ y ∷ others → Shows i j xs ys (2, j + 1, size - 1)
+  unfolding lesserHead
+  shows-alone {y} z e f = let n : size - 1 ≡ length y = omega arith in rw (e, f, n) refl
+
+  module _ {x : Bytes} {others : List Bytes} (z : size ≡ suc (length x)) (e : xs ≡ x ∷ others) where
+    shows-only : ys ≡ [] → Shows i j xs ys (1, i + 1, size - 1)
+    unfolding lesserHead
+    shows-only f = let n : size - 1 ≡ length x = omega arith in rw (e, f, n) refl
+
+    shows-first : {y : Bytes} {more : List Bytes} → ys ≡ y ∷ more → less (word plain y) (word plain x) ≡ false → Shows i j xs ys (1, i + 1, size - 1)
+    unfolding lesserHead
+    shows-first f l = let n : size - 1 ≡ length x = omega arith in rw (e, f, n, l) refl
+
+  shows-second : {x y : Bytes} {others more : List Bytes} → size ≡ suc (length y) → xs ≡ x ∷ others → ys ≡ y ∷ more → less (word plain y) (word plain x) ≡ true → Shows i j xs ys (2, j + 1, size - 1)
+  unfolding lesserHead
+  shows-second {x} {y} z e f l = let n : size - 1 ≡ length y = omega arith in rw (e, f, n, l) refl
 
 -- ---- which of two names is the lesser
 
@@ -117,7 +140,7 @@ module _ {first second : Bytes} {i j : ℕ} {xs ys : List Bytes} (a : RestOf fir
         onward = omega arith;
         fits = h .fits;
         record-is = h .record-is;
-        strict = λ t x zs f. absurd (lt-irrefl 0 (omega (arith, ap length none, ap length f)));
+        lesser = shows-alone i j size (h .size-is) none (h .all);
       }
 
   -- a record of the first list is there
@@ -142,7 +165,7 @@ module _ {first second : Bytes} {i j : ℕ} {xs ys : List Bytes} (a : RestOf fir
           onward = omega arith;
           fits = p .fits;
           record-is = p .record-is;
-          strict = λ t. absurd (false≠true t);
+          lesser = shows-only i j size (p .size-is) (p .all) none;
         }
 
     -- and one of the second
@@ -177,7 +200,7 @@ module _ {first second : Bytes} {i j : ℕ} {xs ys : List Bytes} (a : RestOf fir
             onward = omega arith;
             fits = p .fits;
             record-is = p .record-is;
-            strict = λ t. absurd (false≠true t);
+            lesser = shows-first i j size (p .size-is) (p .all) (q .all) (less-asym (word plain (p .x)) (word plain (q .x)) l);
           }
 
       pub lesser-second : {r : Lesser} → LesserSays x y r → r ≡ Second → Step first second i j xs ys (headIn true j other i (j + other))
@@ -194,7 +217,7 @@ module _ {first second : Bytes} {i j : ℕ} {xs ys : List Bytes} (a : RestOf fir
             onward = omega arith;
             fits = q .fits;
             record-is = q .record-is;
-            strict = λ t z zs f. subst (λ (w : Bytes). less (word plain (q .x)) (word plain w) ≡ true) (head-same (sym (p .all) ∙ f)) l;
+            lesser = shows-second i j other (q .size-is) (p .all) (q .all) l;
           }
 
       pub lesser-both : {r : Lesser} → LesserSays x y r → r ≡ Both → Step first second i j xs ys (headIn false i size (i + size) (j + other))
@@ -211,8 +234,22 @@ module _ {first second : Bytes} {i j : ℕ} {xs ys : List Bytes} (a : RestOf fir
             onward = omega arith;
             fits = p .fits;
             record-is = p .record-is;
-            strict = λ t. absurd (false≠true t);
+            lesser = shows-first i j size (p .size-is) (p .all) (q .all) (ap (less (word plain (q .x))) l ∙ less-irrefl (word plain (q .x)));
           }
+
+-- ---- lists that have ended, and those that have not
+
+-- a list whose records are those of no names has ended
+pub rest-ended : {s : Bytes} {at : ℕ} (xs : List Bytes) → RestOf s at xs → length xs ≡ 0 → at ≡ length s
+unfolding encode
+rest-ended {s} {at} [] r e = omega (arith, ap length (r .bytes), length-drop at s, r .within)
+rest-ended (x ∷ xs) r e = absurd (lt-irrefl 0 (omega arith))
+
+pub some-left : {first second : Bytes} {i j : ℕ} {xs ys : List Bytes} → RestOf first i xs → RestOf second j ys → i + j < length first + length second → 0 < length xs + length ys
+some-left {i = i} {j = j} {xs} {ys} a b h = elim (apart 0 (length xs + length ys)) [
+  | inl l ↦ l
+  | inr l ↦ absurd (lt-irrefl (i + j) (omega (arith, rest-ended xs a (omega arith), rest-ended ys b (omega arith))))
+]
 
 -- where the first list has ended the second has not
 pub second-left : {first second : Bytes} {i j : ℕ} → HeadAsk first i second j → i ≡ length first → j < length second

@@ -22,6 +22,7 @@ use Rattle.words.proofs.Words.{apart}
 use Rattle.merge.specs.Heads.{HeadAsk, HeadSays, RestOf, Step}
 use Rattle.merge.specs.Joining.{Joined, MergeAsk, MergedInto, RecordPut}
 use Rattle.merge.specs.declared.Next.{Next}
+use Rattle.merge.proofs.Heads.{some-left}
 
 -- an empty list of names has no records, and no other has none
 pub no-records : (xs : List Bytes) → length (encode xs) ≡ 0 → xs ≡ []
@@ -76,25 +77,13 @@ joins-start first second room = record {
   state = λ xs ys a b. record { done = []; xs-left = xs; ys-left = ys; whole = refl; ahead = a; beside = b; counted = refl; sized = refl; front = λ f. refl };
 }
 
--- a list whose records are those of no names has ended
-rest-ended : {s : Bytes} {at : ℕ} (xs : List Bytes) → RestOf s at xs → length xs ≡ 0 → at ≡ length s
-unfolding encode
-rest-ended {s} {at} [] r e = omega (arith, ap length (r .bytes), length-drop at s, r .within)
-rest-ended (x ∷ xs) r e = absurd (lt-irrefl 0 (omega arith))
-
 module _ {first second room₀ room : Bytes} {i j names bytes : ℕ} (k : Joins first second room₀ room i j names bytes) where
-  some-left : (xs ys : List Bytes) → RestOf first i xs → RestOf second j ys → i + j < length first + length second → 0 < length xs + length ys
-  some-left xs ys a b h = elim (apart 0 (length xs + length ys)) [
-    | inl l ↦ l
-    | inr l ↦ absurd (lt-irrefl (i + j) (omega (arith, rest-ended xs a (omega arith), rest-ended ys b (omega arith))))
-  ]
-
   module _ (q : MergeAsk first second) where
     now : Joined (q .xs) (q .ys) first second room₀ room i j names bytes
     now = k .state (q .xs) (q .ys) (q .ahead) (q .beside)
 
     pub joins-ask : i + j < length first + length second → HeadAsk first i second j
-    joins-ask h = record { xs = now .xs-left; ys = now .ys-left; ahead = now .ahead; beside = now .beside; some = some-left (now .xs-left) (now .ys-left) (now .ahead) (now .beside) h }
+    joins-ask h = record { xs = now .xs-left; ys = now .ys-left; ahead = now .ahead; beside = now .beside; some = some-left (now .ahead) (now .beside) h }
 
     module _ (h : i + j < length first + length second) {r : Next} (says : HeadSays first i second j r) where
       head-step : Step first second i j (now .xs-left) (now .ys-left) r
@@ -127,7 +116,7 @@ module _ {first second room₀ room : Bytes} {i j names bytes : ℕ} (k : Joins 
           where
             more : (xs ys : List Bytes) → Joined xs ys first second room₀ room i j names bytes → Joined xs ys first second room₀ new (r .left) (r .right) (names + 1) (bytes + r .size)
             more xs ys o =
-                let t = says (o .xs-left) (o .ys-left) (o .ahead) (o .beside) (some-left (o .xs-left) (o .ys-left) (o .ahead) (o .beside) h) in
+                let t = says (o .xs-left) (o .ys-left) (o .ahead) (o .beside) (some-left (o .ahead) (o .beside) h) in
                 let rec : take (r .size) (drop (r .from) list) ≡ encode (t .name ∷ []) = ap (λ (l : Bytes). take (r .size) (drop (r .from) l)) in-list ∙ t .record-is in
                 let size : length (encode (t .name ∷ [])) ≡ r .size = ap length (sym rec) ∙ part-length list (r .from) (r .size) head-inside in
                 let written : encode (o .done ++ (t .name ∷ [])) ≡ encode (o .done) ++ encode (t .name ∷ []) = encode-append (o .done) (t .name ∷ []) in

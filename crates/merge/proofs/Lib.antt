@@ -2,3 +2,5 @@
 pub mod Heads
 pub mod Joining
 pub mod Passing
+pub mod Judging
+pub mod Showing

@@ -58,19 +58,25 @@ module _ {s : Bytes} {count at left : ℕ} (k : Passes s count at left) where
             }
 
   pub passes-ended : at ≡ length s → PassedTo s count at
-  passes-ended e xs r =
-      let o = k .state xs r in
-      let none : o .others ≡ [] = no-records (o .others) (omega (arith, ap length (o .rest .bytes), length-drop at s)) in
-      let whole : xs ≡ o .done = o .all ∙ ap (λ (l : List Bytes). o .done ++ l) none ∙ append-nil (o .done) in
-      let long : length xs ≤ count = omega (arith, ap length whole, o .counted) in (
-        subst (RestOf s at) (none ∙ sym (drop-of-length-le xs {i = count} long)) (o .rest),
-        o .size ∙ ap (λ (l : List Bytes). length (encode l)) (sym whole ∙ sym (take-all count xs long)),
-      )
+  passes-ended e = record {
+    rest = λ xs r. subst (RestOf s at) (none (k .state xs r) ∙ sym (drop-of-length-le xs {i = count} (long (k .state xs r)))) (k .state xs r .rest);
+    place = λ xs r. k .state xs r .size ∙ ap (λ (l : List Bytes). length (encode l)) (sym (whole (k .state xs r)) ∙ sym (take-all count xs (long (k .state xs r))));
+  }
+    where
+      none : {xs : List Bytes} (o : Part s count at left xs) → o .others ≡ []
+      none o = no-records (o .others) (omega (arith, ap length (o .rest .bytes), length-drop at s))
+
+      whole : {xs : List Bytes} (o : Part s count at left xs) → xs ≡ o .done
+      whole o = o .all ∙ ap (λ (l : List Bytes). o .done ++ l) (none o) ∙ append-nil (o .done)
+
+      long : {xs : List Bytes} (o : Part s count at left xs) → length xs ≤ count
+      long o = omega (arith, ap length (whole o), o .counted)
 
   pub passes-all : left ≤ 0 → PassedTo s count at
-  passes-all h xs r =
-      let o = k .state xs r in
-      let c : count ≡ length (o .done) = omega (arith, o .counted) in (
-        subst (RestOf s at) (sym (ap₂ drop c (o .all) ∙ drop-append-seam (o .done) (o .others))) (o .rest),
-        o .size ∙ ap (λ (l : List Bytes). length (encode l)) (sym (ap₂ take c (o .all) ∙ take-append-seam (o .done) (o .others))),
-      )
+  passes-all h = record {
+    rest = λ xs r. let o = k .state xs r in subst (RestOf s at) (sym (ap₂ drop (all-passed o) (o .all) ∙ drop-append-seam (o .done) (o .others))) (o .rest);
+    place = λ xs r. let o = k .state xs r in o .size ∙ ap (λ (l : List Bytes). length (encode l)) (sym (ap₂ take (all-passed o) (o .all) ∙ take-append-seam (o .done) (o .others)));
+  }
+    where
+      all-passed : {xs : List Bytes} (o : Part s count at left xs) → count ≡ length (o .done)
+      all-passed o = omega (arith, o .counted)

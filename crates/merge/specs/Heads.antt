@@ -3,16 +3,18 @@
 --     LesserSays        which of two names is the lesser
 --     headIn            a head, by its numbers
 --     HeadAsk           what is asked for the lesser head of two lists
---     Step, HeadSays    it is the next name of the union; for any names that the records are
+--     shownBy           the head as a step shows it
+--     Step, HeadSays    it is the next name of the union, and the lesser head; for any names that the records are
 -- The laws are in proofs/. Assumes nothing: these are definitions.
-use Prim.Native.Nat.{ℕ, _+_, _≤_, _<_}
+use Prim.Native.Nat.{ℕ, _+_, _-_, _≤_, _<_}
 use mathlib.Core.Path.{_≡_}
 use mathlib.Core.Bool.{Bool, true}
 use mathlib.Core.List.{List, [], _∷_}
-use lib.ListN.{drop, length, take}
+use lib.ListN.{drop, getD, length, take}
 use Rattle.words.specs.Words.{Bytes, less, pick, plain, word}
 use Rattle.format.specs.Records.{encode, rising}
 use Rattle.format.specs.Merging.{merged}
+use Rattle.answers.specs.Heads.{Head, lesserHead}
 use Rattle.merge.specs.declared.Next.{Next}
 use Rattle.merge.specs.declared.Lesser.{Lesser}
 use Rattle.merge.specs.declared.Lesser.the-variants.{Both, First, Second}
@@ -38,8 +40,11 @@ pub record HeadAsk (first : Bytes) (i : ℕ) (second : Bytes) (j : ℕ) : Type 0
   pub beside : RestOf second j ys
   pub some : 0 < length xs + length ys
 
--- `name` comes next, its record stands where r says, in the second list only where it is less than the first list's head, and the lists go
--- on with others
+-- the head that r tells, as a step shows it: without its length byte
+abbrev pub shownBy : Next → Head
+shownBy r = (pick (r .second) 2 1, r .from + 1, r .size - 1)
+
+-- `name` comes next, its record stands where r says, which is the lesser head, and the lists go on with others
 pub record Step (first second : Bytes) (i j : ℕ) (xs ys : List Bytes) (r : Next) : Type 0 where
   pub name : Bytes
   pub xs-left : List Bytes
@@ -51,7 +56,7 @@ pub record Step (first second : Bytes) (i j : ℕ) (xs ys : List Bytes) (r : Nex
   pub onward : i + j + r .size ≤ r .left + r .right
   pub fits : r .from + r .size ≤ length (pick (r .second) second first)
   pub record-is : take (r .size) (drop (r .from) (pick (r .second) second first)) ≡ encode (name ∷ [])
-  pub strict : r .second ≡ true → (x : Bytes) (others : List Bytes) → xs ≡ x ∷ others → less (word plain name) (word plain x) ≡ true
+  pub lesser : shownBy r ≡ lesserHead (1, i + 1, length (getD xs 0 [])) (2, j + 1, length (getD ys 0 [])) xs ys
 
 abbrev pub HeadSays : Bytes → ℕ → Bytes → ℕ → Next → Type 0
 HeadSays first i second j r = (xs ys : List Bytes) → RestOf first i xs → RestOf second j ys → 0 < length xs + length ys → Step first second i j xs ys r

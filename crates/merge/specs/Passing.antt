@@ -14,5 +14,6 @@ pub record ListAsk (s : Bytes) : Type 0 where
   pub xs : List Bytes
   pub rest : RestOf s 0 xs
 
-abbrev pub PassedTo : Bytes → ℕ → ℕ → Type 0
-PassedTo s count r = (xs : List Bytes) → RestOf s 0 xs → (RestOf s r (drop count xs)) × (r ≡ length (encode (take count xs)))
+pub record PassedTo (s : Bytes) (count r : ℕ) : Type 0 where
+  pub rest : (xs : List Bytes) → RestOf s 0 xs → RestOf s r (drop count xs)
+  pub place : (xs : List Bytes) → RestOf s 0 xs → r ≡ length (encode (take count xs))

@@ -1,11 +1,59 @@
-// Two lists of names become one. A list is gone through by the offset of its next record; the lesser of two heads is found by the
-// comparison of names that all others use, and nothing is kept of a name but where it stands.
+// Two lists of names become one. Both are judged by the loop that judges a list for a book. A list is gone through by the offset of its
+// next record; the lesser of two heads is found by the comparison of names that all others use, and nothing is kept of a name but where
+// it stands.
 ghost use mathlib.Core.Path.{_≡_};
 ghost use Prim.Native.Nat.{_+_, _<_, _≤_};
 ghost use lib.ListN.{getD, length};
+ghost use Rattle.format.specs.Alone.{BothRead, readAlone};
+ghost use Rattle.answers.specs.Heads.{headOf};
+ghost use Rattle.answers.specs.Merging.{judgeLists, mergeLists};
+ghost use Rattle.records.specs.Lists.{verdictOf};
+ghost use Rattle.shapes.specs.Heads.{headed};
+ghost use Rattle.shapes.specs.Shapes.{answered, written};
 ghost use Rattle.merge.specs.Heads.{HeadAsk, HeadSays, LesserSays, headIn};
 ghost use Rattle.merge.specs.Joining.{MergeAsk, MergedInto, RecordPut};
 ghost use Rattle.merge.specs.Passing.{ListAsk, PassedTo};
+use records::Verdict;
+use shapes::Answer;
+use shapes::Head;
+
+// Reads a list that has no limit of its own, and notes nothing.
+fn judge_alone(list: &[u8]) -> Verdict
+    ensures { λ r. ⌜ r ≡ verdictOf (readAlone (now (list .entry))) ⌝ }
+{
+    let mut lens = [0u8; 0];
+    let mut shares = [0u8; 0];
+    records::judge(list, list.len(), &mut lens, &mut shares)
+}
+
+// Whether both lists read well: else refusal 5 or 6, the record's number and the list's, the first list's before the second's.
+pub fn judge_both(first: &[u8], second: &[u8]) -> Answer
+    ensures { λ r. ⌜ answered r ≡ judgeLists (now (first .entry)) (now (second .entry)) ⌝ }
+{
+    let one = judge_alone(first);
+    match one {
+        Verdict::Bad(code, number) => Answer {
+            code,
+            first: number,
+            second: 1,
+        },
+        Verdict::Good(_) => {
+            let other = judge_alone(second);
+            match other {
+                Verdict::Bad(code, number) => Answer {
+                    code,
+                    first: number,
+                    second: 2,
+                },
+                Verdict::Good(_) => Answer {
+                    code: 0,
+                    first: 0,
+                    second: 0,
+                },
+            }
+        }
+    }
+}
 
 // The lesser of two heads: whether it stands in the second list, where its record begins and how many bytes that has; and where either
 // list goes on behind it.
@@ -53,6 +101,17 @@ pub fn pass_records(list: &[u8], count: usize) -> usize
         left -= 1;
     }
     at
+}
+
+// The head where there is none: an empty part of the first list.
+pub fn no_head() -> Head
+    ensures { λ r. ⌜ headed r ≡ (1, 0, 0) ⌝ }
+{
+    Head {
+        list: 1,
+        start: 0,
+        length: 0,
+    }
 }
 
 // Which of two names is the lesser.
@@ -147,4 +206,52 @@ pub fn merge_into(first: &[u8], second: &[u8], room: &mut [u8]) -> Tally
         bytes += size;
     }
     Tally { names, bytes }
+}
+
+// The union of two lists that read well, at the front of the room. It is counted before the first byte is written. Refusals: 7, 4.
+pub fn merge_judged(first: &[u8], second: &[u8], room: &mut [u8]) -> Answer
+    requires { ⌜ BothRead (now first) (now second) ⌝ }
+    ensures { λ r. ⌜ written r (now (room .exit)) ≡ mergeLists (now (first .entry)) (now (second .entry)) (now (room .entry)) ⌝ }
+{
+    let mut none = [0u8; 0];
+    let tally = merge_into(first, second, &mut none);
+    if 2000 < tally.names {
+        return shapes::refuse(7, 2000);
+    }
+    if room.len() < tally.bytes {
+        return shapes::refuse(4, 0);
+    }
+    let put = merge_into(first, second, room);
+    Answer {
+        code: 0,
+        first: put.bytes,
+        second: 0,
+    }
+}
+
+// The lesser head of two lists that read well, behind so many records of each.
+pub fn head_judged(first: &[u8], second: &[u8], passed_first: usize, passed_second: usize) -> Head
+    requires { ⌜ BothRead (now first) (now second) ⌝ }
+    ensures { λ r. ⌜ headed r ≡ headOf (now (first .entry)) (now (second .entry)) «passed_first» «passed_second» ⌝ }
+{
+    let i = pass_records(first, passed_first);
+    let j = pass_records(second, passed_second);
+    if i + j == first.len() + second.len() {
+        return no_head();
+    }
+    let next = next_head(first, i, second, j);
+    let start = next.from + 1;
+    let length = next.size - 1;
+    if next.second {
+        return Head {
+            list: 2,
+            start,
+            length,
+        };
+    }
+    Head {
+        list: 1,
+        start,
+        length,
+    }
 }

@@ -1,3 +1,4 @@
 -- Laws of a list that is read. No contract cites them.
 pub mod Reading
 pub mod Starts
+pub mod Verdicts

@@ -7,26 +7,22 @@
 -- Assumes nothing.
 use Prim.Native.Nat.{ℕ, suc, _+_, _≤_, _<_}
 use native.Mathlib.Omega.{arith}
-use mathlib.Core.Path.{_≡_, refl, sym, ap, _∙_}
+use mathlib.Core.Path.{_≡_, refl, sym, ap, _∙_, subst}
 use mathlib.Core.List.{List, [], _∷_, _++_, append-nil}
 use lib.ListN.{length, getD, take, drop, length-append, length-map, take-append-drop}
-use lib.Seq.{getD-drop, take-suc, drop-drop, drop-cons, drop-at, take-at, take-all}
+use lib.Seq.{getD-drop, take-suc, take-all}
 use Rattle.words.specs.Rising.{Rises, nth}
 use Rattle.words.specs.Words.{Bytes, plain, word}
 use Rattle.words.proofs.Lists.{all-at}
 use Rattle.words.proofs.Rising.{nth-word}
 use Rattle.words.proofs.Words.{plain-lawful}
 use Rattle.format.specs.Records.{encode, sound}
-use Rattle.format.proofs.Records.{encode-append, rising-sizes, sound-rises, sound-rising}
+use Rattle.format.proofs.Records.{encode-append, encode-fits, encode-from, encode-name, rising-sizes, sound-rises, sound-rising}
 use Rattle.records.specs.Lists.{Ready, names, startOf, words}
 
 encode-one : (x : Bytes) → encode (x ∷ []) ≡ length x ∷ x
 unfolding encode
 encode-one x = ap (λ (l : Bytes). length x ∷ l) (append-nil x)
-
-encode-cons : (x : Bytes) (xs : List Bytes) → encode (x ∷ xs) ≡ length x ∷ x ++ encode xs
-unfolding encode
-encode-cons x xs = refl
 
 pub words-length : (s : Bytes) → length (words s) ≡ length (names s)
 unfolding words
@@ -75,19 +71,13 @@ module _ {s : Bytes} {n : ℕ} {lens shares : List ℕ} (a : Ready s n lens shar
 
     -- the list from record i on
     from-here : drop (startOf s i) s ≡ length (getD (names s) i []) ∷ getD (names s) i [] ++ encode (drop (suc i) (names s))
-    from-here =
-        let whole : s ≡ encode (take i (names s)) ++ encode (drop i (names s)) =
-        sym (a .bytes) ∙ ap encode (sym (take-append-drop i (names s))) ∙ encode-append (take i (names s)) (drop i (names s)) in
-        ap (drop (startOf s i)) whole ∙ drop-at (encode (take i (names s))) (encode (drop i (names s))) (startOf s i) refl
-        ∙ ap encode (drop-cons (names s) i [] inside) ∙ encode-cons (getD (names s) i []) (drop (suc i) (names s))
+    from-here = subst (λ (l : Bytes). drop (startOf s i) l ≡ length (getD (names s) i []) ∷ getD (names s) i [] ++ encode (drop (suc i) (names s))) (a .bytes) (encode-from (names s) i inside)
 
     pub start-fits : startOf s i + 1 + length (getD (names s) i []) ≤ length s
-    start-fits = omega (arith, start-within (suc i), start-next)
+    start-fits = omega (arith, encode-fits (names s) i inside, ap length (a .bytes))
 
     pub start-name : take (length (getD (names s) i [])) (drop (startOf s i + 1) s) ≡ getD (names s) i []
-    start-name =
-        let y : Bytes = getD (names s) i [] in
-        ap (take (length y)) (sym (drop-drop 1 (startOf s i) s) ∙ ap (drop 1) from-here) ∙ take-at y (encode (drop (suc i) (names s))) (length y) refl
+    start-name = subst (λ (l : Bytes). take (length (getD (names s) i [])) (drop (startOf s i + 1) l) ≡ getD (names s) i []) (a .bytes) (encode-name (names s) i inside)
 
     pub start-byte : getD s (startOf s i) 0 ≡ length (getD (names s) i [])
     start-byte =

@@ -1,5 +1,6 @@
 -- A list that is read: its names, and what is noted of them on the way.
 --     verdictNumbers    document 01's numbers for each verdict
+--     verdictOf         the verdict of a reading
 --     readingOf         what the reading of a list gives: how many names, or 5, 6, 7 and the record's number
 --     names, words      the names of a list that reads well, and their words
 --     Noted             each name's length, and what it shares with the name before
@@ -20,6 +21,10 @@ use Rattle.records.specs.declared.Verdict.the-variants.{Good, Bad}
 abbrev pub verdictNumbers : Verdict → Answer
 verdictNumbers (Good n) = given n 0
 verdictNumbers (Bad code i) = numbered code i
+
+abbrev pub verdictOf : Reading → Verdict
+verdictOf (Names xs) = Good (length xs)
+verdictOf (Refused code i) = Bad code i
 
 -- the first bad record ends the reading
 unfoldable pub readingOf : Reading → Answer

@@ -1,4 +1,4 @@
-// What crosses the public calls: the answer that they give and the row of a batch that they take. A part above the book that has one of
+// What crosses the public calls: the answer that they give, the row of a batch that they take and the head of a list. A part above the book that has one of
 // them in its hands lists this crate beside `book`; so nothing here asks anything of its caller.
 ghost use mathlib.Core.Path.{_≡_};
 ghost use Rattle.format.specs.Outcomes.{numbered};
@@ -27,6 +27,14 @@ pub fn refuse(code: usize, first: usize) -> Answer
 #[repr(C)]
 pub struct Row {
     pub kind: usize,
+    pub start: usize,
+    pub length: usize,
+}
+
+// The lesser of the heads of two lists: its list, 1 or 2, where its name begins there, behind the length byte, and the name's length.
+#[repr(C)]
+pub struct Head {
+    pub list: usize,
     pub start: usize,
     pub length: usize,
 }

@@ -1,0 +1,13 @@
+-- `merge::judge_alone` meets its contract: what was judged is the verdict of the reading.
+-- Assumes nothing.
+use borrow.Author.Needs.{needs}
+use Rattle.records.proofs.Verdicts.{verdict-is}
+use Rattle.merge.proofs.judge_alone.Statement.{statement}
+use Rattle.merge.proofs.judge_alone.Tie as tie
+
+returns : tie.Need-returns
+returns c = search verdict-is
+
+pub judge-alone-spec : {M : Type 1} → statement M
+judge-alone-spec =
+    tie.close (tie.spec (λ c. search needs) (λ c. search needs) (λ c κs. search needs) returns)
