@@ -28,7 +28,13 @@ pub fn add_sums(sums: Sums) {
     add(sums.sums);
 }
 
-fn add_checksum(s: &[u8]) {
+pub fn add_head(head: book::Head) {
+    add(head.list);
+    add(head.start);
+    add(head.length);
+}
+
+pub fn add_checksum(s: &[u8]) {
     let sums = bytes::checksum(s);
     add_sums(sums);
 }
@@ -37,9 +43,9 @@ pub fn end() {
     io::write_all(STDOUT_FILENO, b"\n");
 }
 
-// Prints the line of a case that has a room: its number, the answer, the checksum of the bytes that the answer counts at the room's front, of
+// Begins the line of a case that has a room: its number, the answer, the checksum of the bytes that the answer counts at the room's front, of
 // none where the call refuses, and that of the whole room.
-pub fn print_room(number: usize, answer: book::Answer, room: &[u8])
+pub fn begin_room(number: usize, answer: book::Answer, room: &[u8])
     requires { ⌜ (answer .code ≡ 0 → answer .first ≤ length (now room)) ⌝ }
 {
     let mut counted: usize = 0;
@@ -50,5 +56,12 @@ pub fn print_room(number: usize, answer: book::Answer, room: &[u8])
     add_answer(answer);
     add_checksum(&room[..counted]);
     add_checksum(room);
+}
+
+// Prints the line of a case that has a room and nothing more.
+pub fn print_room(number: usize, answer: book::Answer, room: &[u8])
+    requires { ⌜ (answer .code ≡ 0 → answer .first ≤ length (now room)) ⌝ }
+{
+    begin_room(number, answer, room);
     end();
 }

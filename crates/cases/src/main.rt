@@ -6,6 +6,7 @@ mod building;
 mod bytes;
 mod checking;
 mod lines;
+mod merging;
 mod places;
 mod reading;
 mod walk;
@@ -21,4 +22,5 @@ fn main() {
     walk::run(Call::Ask, b"ask.cases", &mut file);
     walk::run(Call::Ask, b"dearest.cases", &mut file);
     walk::run(Call::Batch, b"batch.cases", &mut file);
+    walk::run(Call::Merge, b"merge.cases", &mut file);
 }

@@ -7,6 +7,7 @@ use crate::batching;
 use crate::building;
 use crate::bytes;
 use crate::checking;
+use crate::merging;
 use crate::places;
 use crate::places::Place;
 use crate::reading;
@@ -18,6 +19,7 @@ pub enum Call {
     Read,
     Ask,
     Batch,
+    Merge,
 }
 
 // Runs the case behind another.
@@ -37,6 +39,10 @@ fn run_one(call: Call, number: usize, file: &[u8], before: Place) -> Place
         Call::Read => reading::run_one(number, file, before),
         Call::Ask => asking::run_one(number, file, before),
         Call::Batch => batching::run_one(number, file, before),
+        Call::Merge => {
+            let next = merging::run_one(number, file, before.next);
+            places::without_book(before, next)
+        }
     }
 }
 

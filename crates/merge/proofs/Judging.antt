@@ -1,13 +1,13 @@
 -- Two lists that are judged, and merged where both read well.
 --     judging-first, judging-second, judging-sound     ways out of `judge_both`
 --     rest-of, read-ask     a list that reads well is the records of its names
---     merging-many, merging-short, merging-put     ways out of `merge_judged`
+--     untouched, merging-many, merging-short, merging-put     ways out of `merge_judged`
 -- Assumes nothing.
-use Prim.Native.Nat.{ℕ, _≤_, _<_, zero-le}
+use Prim.Native.Nat.{ℕ, _-_, _≤_, _<_, zero-le}
 use native.Mathlib.Omega.{arith}
 use mathlib.Core.Path.{_≡_, refl, sym, ap, ap₂, _∙_}
-use mathlib.Core.List.{List}
-use lib.ListN.{length}
+use mathlib.Core.List.{List, [], _∷_, _++_}
+use lib.ListN.{drop, length, take}
 use Rattle.words.specs.Words.{Bytes, plain}
 use Rattle.format.specs.Alone.{BothRead, Reads, readAlone}
 use Rattle.format.specs.Merging.{merged}
@@ -63,8 +63,8 @@ module _ {s t : Bytes} (b : BothRead s t) where
   pub read-ask : MergeAsk s t
   read-ask = record { xs = b .xs; ys = b .ys; ahead = rest-of (b .first); beside = rest-of (b .second) }
 
-  -- what was counted, and that nothing was written
-  module _ {none after : Bytes} (room : Bytes) {names bytes : ℕ} (m : MergedInto s t none after names bytes) where
+  -- what was counted in an empty part of the room, which is then as it was
+  module _ (room : Bytes) {after : Bytes} {names bytes : ℕ} (m : MergedInto s t (take (0 - 0) (drop 0 room)) after names bytes) where
     abbrev all : List Bytes
     all = merged plain (b .xs) (b .ys)
 
@@ -74,15 +74,29 @@ module _ {s t : Bytes} (b : BothRead s t) where
     sized : bytes ≡ length (encode all)
     sized = m .all (b .xs) (b .ys) (rest-of (b .first)) (rest-of (b .second)) .1
 
-    pub merging-many : 2000 < names → (r : Answer) → answered r ≡ numbered 7 2000 → written r room ≡ mergeLists s t room
-    merging-many h r e = ap (λ (a : Numbers). record { answer = a; room = room }) e ∙ sym (merge-read (b .first) (b .second) room ∙ too-many room all (omega (arith, counted)))
+    abbrev back : Bytes
+    back = take 0 room ++ (after ++ drop (0 - 0) (drop 0 room))
+
+    pub untouched : back ≡ room
+    untouched = go after (m .kept)
+      where
+        go : (l : Bytes) → length l ≡ length (take (0 - 0) (drop 0 room)) → take 0 room ++ (l ++ drop (0 - 0) (drop 0 room)) ≡ room
+        go [] e = refl
+        go (x ∷ l) e = absurd (omega arith)
+
+    -- an answer that leaves the room alone
+    alone : (r : Answer) {a : Numbers} → answered r ≡ a → record { answer = a; room = room } ≡ mergeLists s t room → written r back ≡ mergeLists s t room
+    alone r e f = ap₂ (λ (a : Numbers) (l : Bytes). record { answer = a; room = l }) e untouched ∙ f
+
+    pub merging-many : 2000 < names → (r : Answer) → answered r ≡ numbered 7 2000 → written r back ≡ mergeLists s t room
+    merging-many h r e = alone r e (sym (merge-read (b .first) (b .second) room ∙ too-many room all (omega (arith, counted))))
 
     module _ (few : names ≤ 2000) where
-      pub merging-short : length room < bytes → (r : Answer) → answered r ≡ numbered 4 0 → written r room ≡ mergeLists s t room
-      merging-short h r e = ap (λ (a : Numbers). record { answer = a; room = room }) e ∙ sym (merge-read (b .first) (b .second) room ∙ too-short room all (omega (arith, counted)) (omega (arith, sized)))
+      pub merging-short : length back < bytes → (r : Answer) → answered r ≡ numbered 4 0 → written r back ≡ mergeLists s t room
+      merging-short h r e = alone r e (sym (merge-read (b .first) (b .second) room ∙ too-short room all (omega (arith, counted)) (omega (arith, sized, ap length untouched))))
 
-      pub merging-put : bytes ≤ length room → {new : Bytes} {names₂ put : ℕ} → MergedInto s t room new names₂ put → record { answer = given put 0; room = new } ≡ mergeLists s t room
+      pub merging-put : bytes ≤ length back → {new : Bytes} {names₂ put : ℕ} → MergedInto s t back new names₂ put → record { answer = given put 0; room = new } ≡ mergeLists s t room
       merging-put h {new} {names₂} {put} w =
           let got = w .all (b .xs) (b .ys) (rest-of (b .first)) (rest-of (b .second)) in
-          ap₂ (λ (n : ℕ) (l : Bytes). record { answer = given n 0; room = l }) (got .1) (got .2 (omega (arith, got .1, sized)))
-          ∙ sym (merge-read (b .first) (b .second) room ∙ all-put room all (omega (arith, counted)) (omega (arith, sized)))
+          ap₂ (λ (n : ℕ) (l : Bytes). record { answer = given n 0; room = l }) (got .1) (got .2 (omega (arith, got .1, sized)) ∙ ap (over (encode all)) untouched)
+          ∙ sym (merge-read (b .first) (b .second) room ∙ all-put room all (omega (arith, counted)) (omega (arith, sized, ap length untouched)))

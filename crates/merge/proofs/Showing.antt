@@ -57,8 +57,8 @@ module _ {s t : Bytes} (b : BothRead s t) where
         step : Step s t i j (drop c (b .xs)) (drop d (b .ys)) r
         step = says (drop c (b .xs)) (drop d (b .ys)) ahead beside (some-left ahead beside (omega (arith, passed-within)))
 
-        pub head-some : 1 ≤ r .size
-        head-some = step .some
+        pub head-some : (k : ℕ) → k ≤ 1 → k ≤ r .size
+        head-some k h = omega (arith, step .some)
 
         head-low : r .from + r .size ≤ length s + length t
         head-low = go (r .second) (step .fits)
@@ -67,8 +67,8 @@ module _ {s t : Bytes} (b : BothRead s t) where
             go true h = omega arith
             go false h = omega arith
 
-        pub start-fits : length s + length t < 2 ^ 64 → Fits w64 (r .from + 1)
-        start-fits h = omega (arith, head-low, head-some)
+        pub start-fits : (k : ℕ) → k ≤ 1 → length s + length t < 2 ^ 64 → Fits w64 (r .from + k)
+        start-fits k l h = omega (arith, head-low, step .some)
 
         -- the head of a list behind c records, by its place
         own : (zs : List Bytes) (e : ℕ) → getD (drop e zs) 0 [] ≡ getD zs e []

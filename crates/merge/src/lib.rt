@@ -208,13 +208,14 @@ pub fn merge_into(first: &[u8], second: &[u8], room: &mut [u8]) -> Tally
     Tally { names, bytes }
 }
 
-// The union of two lists that read well, at the front of the room. It is counted before the first byte is written. Refusals: 7, 4.
+// The union of two lists that read well, at the front of the room. It is counted, in no byte of the room, before the first one is written.
+// Refusals: 7, 4.
 pub fn merge_judged(first: &[u8], second: &[u8], room: &mut [u8]) -> Answer
     requires { ⌜ BothRead (now first) (now second) ⌝ }
     ensures { λ r. ⌜ written r (now (room .exit)) ≡ mergeLists (now (first .entry)) (now (second .entry)) (now (room .entry)) ⌝ }
 {
-    let mut none = [0u8; 0];
-    let tally = merge_into(first, second, &mut none);
+    let none = 0;
+    let tally = merge_into(first, second, &mut room[0..none]);
     if 2000 < tally.names {
         return shapes::refuse(7, 2000);
     }

@@ -24,7 +24,7 @@ use Rattle.shapes.specs.Shapes.{answered}
 use Rattle.shapes.specs.declared.Answer.{Answer as Given}
 use Rattle.shapes.proofs.Shapes.{answered-injective, answers-injective}
 
-written-settles : (o a b : Written) → a ≡ o → b ≡ o → (a .answer ≡ b .answer) × (a .room ≡ b .room)
+pub written-settles : (o a b : Written) → a ≡ o → b ≡ o → (a .answer ≡ b .answer) × (a .room ≡ b .room)
 written-settles o a b e f =
     let g : a ≡ b = e ∙ sym f in
     (ap (λ (w : Written). w .answer) g, ap (λ (w : Written). w .room) g)

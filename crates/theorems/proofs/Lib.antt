@@ -8,4 +8,5 @@ pub mod Questions
 pub mod Widths
 pub mod Search
 pub mod Calls
+pub mod Merging
 pub mod Examples

@@ -31,13 +31,13 @@ add-start c =
     let got = c .before in
     let behind = got .before .before in
     start-fits (behind .before .before .before .before .pre) (behind .before .pass-records .ensures) (behind .pass-records2 .ensures) (got .before .if1 .left) (got .next-head .ensures)
-    (short behind)
+    _ (omega arith) (short behind)
 
 sub-length : tie.Need-sub-length
 sub-length c =
     let got = c .before .before in
     let behind = got .before .before in
-    head-some (behind .before .before .before .before .pre) (behind .before .pass-records .ensures) (behind .pass-records2 .ensures) (got .before .if1 .left) (got .next-head .ensures)
+    head-some (behind .before .before .before .before .pre) (behind .before .pass-records .ensures) (behind .pass-records2 .ensures) (got .before .if1 .left) (got .next-head .ensures) _ (omega arith)
 
 returns-2 : tie.Need-returns-2
 returns-2 c =

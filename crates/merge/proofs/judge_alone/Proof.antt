@@ -6,7 +6,7 @@ use Rattle.merge.proofs.judge_alone.Statement.{statement}
 use Rattle.merge.proofs.judge_alone.Tie as tie
 
 returns : tie.Need-returns
-returns c = search verdict-is
+returns c = verdict-is _ _ _ _ _ (c .before .before .judge .ensures)
 
 pub judge-alone-spec : {M : Type 1} → statement M
 judge-alone-spec =

@@ -6,17 +6,21 @@ use Rattle.merge.proofs.judge_both.Statement.{statement}
 use Rattle.merge.proofs.judge_both.Tie as tie
 
 returns : tie.Need-returns
-returns c = judging-first _ _ (c .before .before .before .judge-alone .ensures) (c .before .one .given .1)
+returns c =
+    let a = c .before .before .before .before .before .before .args in
+    judging-first (a .first .now) (a .second .now) (c .before .before .before .judge-alone .ensures) (c .before .one .given .1)
 
 returns-2 : tie.Need-returns-2
 returns-2 c =
     let one = c .before .before .before .before in
-    judging-second _ _ (one .before .before .judge-alone .ensures) (one .enum-told .given .1) (c .before .before .before .judge-alone2 .ensures) (c .before .other .given .1)
+    let a = one .before .before .before .before .before .args in
+    judging-second (a .first .now) (a .second .now) (one .before .before .judge-alone .ensures) (one .enum-told .given .1) (c .before .before .before .judge-alone2 .ensures) (c .before .other .given .1)
 
 returns-3 : tie.Need-returns-3
 returns-3 c =
     let one = c .before .before .before in
-    judging-sound _ _ (one .before .before .judge-alone .ensures) (one .enum-told .given .1) (c .before .before .judge-alone2 .ensures) (c .enum-told2 .given .1)
+    let a = one .before .before .before .before .before .args in
+    judging-sound (a .first .now) (a .second .now) (one .before .before .judge-alone .ensures) (one .enum-told .given .1) (c .before .before .judge-alone2 .ensures) (c .enum-told2 .given .1)
 
 pub judge-both-spec : {M : Type 1} → statement M
 judge-both-spec =

@@ -1,12 +1,12 @@
--- `cases::lines::print_room` is safe: what is counted stands in the room, by what it asks where the call accepts; else it is nothing.
+-- `cases::lines::begin_room` is safe: what is counted stands in the room, by what it asks where the call accepts; else it is nothing.
 -- Assumes nothing.
 use native.Mathlib.Omega.{arith}
 use mathlib.Core.Logic.{⊎-elim}
 use mathlib.Core.Path.{sym}
 use lib.Seq.{length-take-le}
 use borrow.Author.Needs.{needs}
-use Rattle.cases.proofs.lines.print_room.Statement.{statement}
-use Rattle.cases.proofs.lines.print_room.Tie as tie
+use Rattle.cases.proofs.lines.begin_room.Statement.{statement}
+use Rattle.cases.proofs.lines.begin_room.Tie as tie
 
 slice-aggregate-add-checksum : tie.Need-slice-aggregate-add-checksum
 slice-aggregate-add-checksum c =
@@ -17,8 +17,8 @@ slice-aggregate-add-checksum c =
     (λ refuses. omega arith)
     (c .before .before .before .if1 .came)))
 
-pub print-room-spec : {M : Type 1} → statement M
-print-room-spec =
+pub begin-room-spec : {M : Type 1} → statement M
+begin-room-spec =
     tie.close
     (tie.spec
     (λ c κs. search needs)
