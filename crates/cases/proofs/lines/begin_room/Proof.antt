@@ -26,5 +26,4 @@ begin-room-spec =
     slice-aggregate-add-checksum
     (λ c κs. search needs)
     (λ c κs. search needs)
-    (λ c κs. search needs)
     (λ c. search needs))
