@@ -1,7 +1,8 @@
 //! A list judged, then the four parts of its book.
 
-use crate::bytes::{byte, is_above, leading_equal, part, put, put_two};
+use crate::bytes::{byte, part, put, put_two};
 use crate::calls::{refused, Answer};
+use crate::records::judge_record;
 use crate::{LONGEST_NAME, MARK, MOST_NAMES, NODE, TRAILER};
 use core::mem::replace;
 
@@ -45,28 +46,19 @@ pub fn judge(list: &[u8], noted: &mut Noted) -> Result<(), Answer> {
     while at < list.len() {
         let count = noted.names;
         // SAFETY: there is a byte.
-        let length = unsafe { byte(list, at) };
-        if length == 0 || length > LONGEST_NAME || length >= list.len() - at {
-            return Err(refused(5, count));
-        }
-        // SAFETY: the record does not run past the list.
-        let name = unsafe { part(list, at + 1, length) };
-        let shared = leading_equal(before, name);
-        // SAFETY: they share so many.
-        if !unsafe { is_above(name, before, shared) } {
-            return Err(refused(6, count));
-        }
+        let judged = unsafe { judge_record(list, at, before) };
+        let (name, shared) = judged.map_err(|code| refused(code, count))?;
         if count == MOST_NAMES {
             return Err(refused(7, count));
         }
         // SAFETY: there are places for so many names.
         unsafe {
-            *noted.lengths.get_unchecked_mut(count) = length as u8;
+            *noted.lengths.get_unchecked_mut(count) = name.len() as u8;
             *noted.shares.get_unchecked_mut(count) = shared as u8;
         }
         noted.names += 1;
         before = name;
-        at += 1 + length;
+        at += 1 + name.len();
     }
     Ok(())
 }

@@ -3,7 +3,8 @@
 use crate::asking::Sound;
 use crate::building::{judge, Noted};
 use crate::checking::check;
-use crate::{LARGEST_BLOCK, LONGEST_BOOK, LONGEST_NAME};
+use crate::merging::{self, Pair};
+use crate::{LARGEST_BLOCK, LONGEST_BOOK, LONGEST_NAME, MOST_NAMES};
 
 /// What every call gives back, and what an answer row of a batch holds.
 #[derive(Clone, Copy, Debug, PartialEq, Eq, Default)]
@@ -27,6 +28,28 @@ pub struct Row {
     pub start: usize,
     /// How many bytes the question has.
     pub length: usize,
+}
+
+/// A head of two lists: in which it stands, 1 or 2, where its first byte is
+/// there, and how many bytes it has.
+#[derive(Clone, Copy, Debug, PartialEq, Eq)]
+#[repr(C)]
+pub struct Head {
+    /// The list's number.
+    pub list: usize,
+    /// The place of its first byte, behind the length byte.
+    pub start: usize,
+    /// How many bytes it has.
+    pub length: usize,
+}
+
+impl Head {
+    /// The empty part of the first list.
+    pub const EMPTY: Head = Head {
+        list: 1,
+        start: 0,
+        length: 0,
+    };
 }
 
 /// A batch has 0 to 64 rows.
@@ -173,4 +196,53 @@ pub fn book_batch(book: &[u8], questions: &[u8], rows: &[Row], answers: &mut [An
         };
     }
     accepted(rows.len(), 0)
+}
+
+/// Both lists, if they are lists. Refusals: 5 and 6 of the first, then of the
+/// second, with the record's number and the list's.
+fn judged<'lent>(first: &'lent [u8], second: &'lent [u8]) -> Result<Pair<'lent>, Answer> {
+    for (list, number) in [(first, 1), (second, 2)] {
+        merging::judge(list).map_err(|(code, record)| Answer {
+            code,
+            first: record,
+            second: number,
+        })?;
+    }
+    // SAFETY: both were judged.
+    Ok(unsafe { Pair::new(first, second) })
+}
+
+/// Merges two lists: how many bytes are written. Refusals: those of the lists;
+/// 7, with the number 2,000; 4.
+pub fn list_merge(first: &[u8], second: &[u8], room: &mut [u8]) -> Answer {
+    let pair = match judged(first, second) {
+        Err(answer) => return answer,
+        Ok(pair) => pair,
+    };
+    let Some(length) = pair.merged_length() else {
+        return refused(7, MOST_NAMES);
+    };
+    if room.len() < length {
+        return refused(4, 0);
+    }
+    // SAFETY: the room is long enough.
+    unsafe { pair.write(room) };
+    accepted(length, 0)
+}
+
+/// Judges two lists. Refusals: those of the lists.
+pub fn list_judge(first: &[u8], second: &[u8]) -> Answer {
+    match judged(first, second) {
+        Err(answer) => answer,
+        Ok(_) => accepted(0, 0),
+    }
+}
+
+/// The lesser of the two heads behind so many records of each list; the empty
+/// part where both have ended, or where a list is refused.
+pub fn list_head(first: &[u8], second: &[u8], passed_first: usize, passed_second: usize) -> Head {
+    match judged(first, second) {
+        Err(_) => Head::EMPTY,
+        Ok(pair) => pair.head(passed_first, passed_second),
+    }
 }

@@ -2,7 +2,7 @@
 //! that measures that one measures this one as well. reference.sh makes the
 //! archive.
 
-use crate::{Answer, Row};
+use crate::{Answer, Head, Row};
 use core::slice::{from_raw_parts, from_raw_parts_mut};
 
 #[no_mangle]
@@ -81,5 +81,43 @@ unsafe extern "C" fn book_batch(
         from_raw_parts(questions, space),
         from_raw_parts(rows, count),
         from_raw_parts_mut(answers, places),
+    )
+}
+
+#[no_mangle]
+unsafe extern "C" fn list_merge(
+    first: *const u8,
+    length: usize,
+    second: *const u8,
+    other: usize,
+    room: *mut u8,
+    space: usize,
+) -> Answer {
+    crate::list_merge(
+        from_raw_parts(first, length),
+        from_raw_parts(second, other),
+        from_raw_parts_mut(room, space),
+    )
+}
+
+#[no_mangle]
+unsafe extern "C" fn list_judge(a: *const u8, n: usize, b: *const u8, m: usize) -> Answer {
+    crate::list_judge(from_raw_parts(a, n), from_raw_parts(b, m))
+}
+
+#[no_mangle]
+unsafe extern "C" fn list_head(
+    first: *const u8,
+    length: usize,
+    second: *const u8,
+    other: usize,
+    passed_first: usize,
+    passed_second: usize,
+) -> Head {
+    crate::list_head(
+        from_raw_parts(first, length),
+        from_raw_parts(second, other),
+        passed_first,
+        passed_second,
     )
 }

@@ -12,9 +12,11 @@
 //! | Module | What it has |
 //! |---|---|
 //! | [`calls`] | the calls, each with its refusals in their order |
+//! | [`records`] | list records, judged one by one |
 //! | [`building`] | a list judged, then the four parts of its book |
 //! | [`checking`] | whether bytes are a book |
 //! | [`asking`] | a name read back and the five questions, of a book that passed |
+//! | [`merging`] | two lists judged, then gone through side by side |
 //! | [`bytes`] | bytes and numbers at an offset, without a test |
 
 #![no_std]
@@ -27,10 +29,12 @@ pub mod calls;
 pub mod checking;
 #[cfg(feature = "archive")]
 mod exported;
+pub mod merging;
+pub mod records;
 
 pub use calls::{
     book_batch, book_build, book_check, book_exact, book_nearest, book_place, book_range,
-    book_read, book_width, Answer, Row,
+    book_read, book_width, list_head, list_judge, list_merge, Answer, Head, Row,
 };
 
 /// A name has 1 to 200 bytes, a question up to 200.
