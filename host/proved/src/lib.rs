@@ -6,7 +6,7 @@
 //! library. Which archive is linked says the variable `MISTROGU_ARCHIVE` while
 //! this crate is compiled.
 //!
-//! Another call is one line in [`raw`] and one function below.
+//! Another call is one declaration in [`raw`] and one function below.
 
 #![no_std]
 #![warn(missing_docs)]
