@@ -50,11 +50,12 @@ RATTLE_HOME=$work/kit rt staticlib "$library" >&2
 [ -f "$work/module.bc" ] || { echo "archive.sh: the prover handed no module to its compiler" >&2; exit 1; }
 
 # The module as text, without the words on x86-64; the compiler puts in those of its target. The calls get other names there, and
-# native.c has them as this processor's C sees them.
+# native.c has them as this processor's C sees them. Inner functions have the name of their crate and :: in theirs, so none is called like
+# that; and a call that native.c does not have is then missed by whoever links it.
 clang=$tools/bin/clang
 target=${MISTROGU_TARGET:-$machine-unknown-linux-gnu}
 "$clang" --target=x86_64-unknown-linux-gnu -S -emit-llvm -Xclang -disable-llvm-passes -x ir "$work/module.bc" -o "$work/module.ll"
-sed -i -e '/^target datalayout = /d' -e '/^target triple = /d' -e 's/@book_/@written_book_/g' \
+sed -i -e '/^target datalayout = /d' -e '/^target triple = /d' -e 's/@\(book\|list\)_/@written_\1_/g' \
     -e 's/ *"\(target-cpu\|target-features\|tune-cpu\)"="[^"]*"//g' "$work/module.ll"
 native=(--target="$target" -O3 -fPIC -ffunction-sections -fdata-sections -c)
 "$clang" "${native[@]}" -Wno-override-module -x ir "$work/module.ll" -o "$work/$library.o"

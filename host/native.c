@@ -1,8 +1,8 @@
 /* The calls for a processor other than x86-64.
  *
- * The prover writes each call as C on x86-64 sees it: an answer is three numbers, and the caller says in a first argument where they go.
- * Other processors hand that place over in another way, so what the prover wrote gets other names (host/archive.sh), and the calls are
- * these functions, which the compiler knows as C. For tests and benchmarks only, as the archive that holds them.
+ * The prover writes each call as C on x86-64 sees it: an answer, or a head, is three numbers, and the caller says in a first argument
+ * where they go. Other processors hand that place over in another way, so what the prover wrote gets other names (host/archive.sh), and
+ * the calls are these functions, which the compiler knows as C. For tests and benchmarks only, as the archive that holds them.
  */
 typedef __UINT8_TYPE__ byte;
 typedef __SIZE_TYPE__ size;
@@ -15,10 +15,16 @@ struct row {
     size kind, start, length;
 };
 
+struct head {
+    size list, start, length;
+};
+
 struct answer *written_book_build(struct answer *, const byte *, size, size, byte *, size);
 struct answer *written_book_check(struct answer *, const byte *, size);
 struct answer *written_book_read(struct answer *, const byte *, size, size, byte *, size);
 struct answer *written_book_batch(struct answer *, const byte *, size, const byte *, size, const struct row *, size, struct answer *, size);
+struct answer *written_list_merge(struct answer *, const byte *, size, const byte *, size, byte *, size);
+struct head *written_list_head(struct head *, const byte *, size, const byte *, size, size, size);
 
 struct answer book_build(const byte *list, size list_length, size block, byte *room, size room_length) {
     struct answer given;
@@ -35,21 +41,34 @@ struct answer book_read(const byte *book, size book_length, size position, byte 
     return *written_book_read(&given, book, book_length, position, room, room_length);
 }
 
-#define QUESTION(name)                                                                                          \
+/* A call that reads two runs of bytes and takes nothing else: a question to a book, or two lists. */
+#define READS_TWO(name)                                                                                         \
     struct answer *written_##name(struct answer *, const byte *, size, const byte *, size);                     \
-    struct answer name(const byte *book, size book_length, const byte *question, size question_length) {        \
+    struct answer name(const byte *one, size one_length, const byte *other, size other_length) {                \
         struct answer given;                                                                                    \
-        return *written_##name(&given, book, book_length, question, question_length);                           \
+        return *written_##name(&given, one, one_length, other, other_length);                                   \
     }
 
-QUESTION(book_exact)
-QUESTION(book_place)
-QUESTION(book_range)
-QUESTION(book_nearest)
-QUESTION(book_width)
+READS_TWO(book_exact)
+READS_TWO(book_place)
+READS_TWO(book_range)
+READS_TWO(book_nearest)
+READS_TWO(book_width)
+READS_TWO(list_judge)
 
 struct answer book_batch(const byte *book, size book_length, const byte *questions, size questions_length, const struct row *rows,
                          size row_count, struct answer *answers, size answer_count) {
     struct answer given;
     return *written_book_batch(&given, book, book_length, questions, questions_length, rows, row_count, answers, answer_count);
+}
+
+struct answer list_merge(const byte *first, size first_length, const byte *second, size second_length, byte *room, size room_length) {
+    struct answer given;
+    return *written_list_merge(&given, first, first_length, second, second_length, room, room_length);
+}
+
+struct head list_head(const byte *first, size first_length, const byte *second, size second_length, size passed_first,
+                      size passed_second) {
+    struct head given;
+    return *written_list_head(&given, first, first_length, second, second_length, passed_first, passed_second);
 }

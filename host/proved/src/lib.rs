@@ -13,8 +13,8 @@
 
 pub mod raw;
 
-/// What every call gives back, and what an answer row of a batch holds, as the
-/// archive lays it out.
+/// What every call but [`list_head`] gives back, and what an answer row of a
+/// batch holds, as the archive lays it out.
 #[repr(C)]
 #[derive(Clone, Copy, Debug, PartialEq, Eq, Default)]
 pub struct Answer {
@@ -35,6 +35,19 @@ pub struct Row {
     /// Where the question begins in the buffer.
     pub start: usize,
     /// How many bytes the question has.
+    pub length: usize,
+}
+
+/// A head of two lists: a name without its length byte, as a part of the list
+/// that it stands in, as the archive lays it out.
+#[repr(C)]
+#[derive(Clone, Copy, Debug, PartialEq, Eq)]
+pub struct Head {
+    /// 1 for the first list, 2 for the second.
+    pub list: usize,
+    /// Where its first byte is in that list.
+    pub start: usize,
+    /// How many bytes it has; none where there is no head.
     pub length: usize,
 }
 
@@ -134,6 +147,51 @@ pub fn book_batch(book: &[u8], questions: &[u8], rows: &[Row], answers: &mut [An
             rows.len(),
             answers.as_mut_ptr(),
             answers.len(),
+        )
+    }
+}
+
+/// Merges two lists into the room, a name in both once: (0, how many bytes are
+/// written, 0); or refusal 5 or 6 with the record's number and the list's, 1 or 2;
+/// or (7, 2000, 0) or (4, 0, 0), and then the room is as it was.
+pub fn list_merge(first: &[u8], second: &[u8], room: &mut [u8]) -> Answer {
+    // SAFETY: each pointer comes with the length of its own slice. The room is
+    // borrowed for this call alone, so it does not overlap the lists.
+    unsafe {
+        raw::list_merge(
+            first.as_ptr(),
+            first.len(),
+            second.as_ptr(),
+            second.len(),
+            room.as_mut_ptr(),
+            room.len(),
+        )
+    }
+}
+
+/// Judges two lists: (0, 0, 0), or refusal 5 or 6 with the record's number and
+/// the list's, 1 or 2.
+pub fn list_judge(first: &[u8], second: &[u8]) -> Answer {
+    // SAFETY: each pointer comes with the length of its own slice, and nothing
+    // is written.
+    unsafe { raw::list_judge(first.as_ptr(), first.len(), second.as_ptr(), second.len()) }
+}
+
+/// Shows the lesser of the two heads behind so many passed records of each list;
+/// of equal heads the first list's, and of a list that has no more the other's.
+/// It is (1, 0, 0), the empty part, where both have no more, and where
+/// [`list_judge`] refuses a list. Linear in the bytes of both lists.
+pub fn list_head(first: &[u8], second: &[u8], passed_first: usize, passed_second: usize) -> Head {
+    // SAFETY: each pointer comes with the length of its own slice, and nothing
+    // is written.
+    unsafe {
+        raw::list_head(
+            first.as_ptr(),
+            first.len(),
+            second.as_ptr(),
+            second.len(),
+            passed_first,
+            passed_second,
         )
     }
 }

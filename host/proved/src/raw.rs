@@ -1,17 +1,17 @@
 //! The functions of the archive as C knows them: a slice is a pointer and then
 //! a length.
 //!
-//! An answer is a struct of three words, which C hands over in a way of its own
-//! on each processor, and Rust in the same. On x86-64 the library is compiled
-//! so; where it is compiled for another processor, for tests and benchmarks,
-//! `native.c` stands between.
+//! An answer and a head are structs of three words, which C hands over in a way
+//! of its own on each processor, and Rust in the same. On x86-64 the library is
+//! compiled so; where it is compiled for another processor, for tests and
+//! benchmarks, `native.c` stands between.
 //!
 //! # Safety
 //!
 //! Every pointer must be good for as many items as the length after it says, and
 //! what is written to may overlap nothing else.
 
-use crate::{Answer, Row};
+use crate::{Answer, Head, Row};
 
 extern "C" {
     /// Builds a book from list records.
@@ -78,4 +78,29 @@ extern "C" {
         answers: *mut Answer,
         answers_len: usize,
     ) -> Answer;
+    /// Merges two lists.
+    pub fn list_merge(
+        first: *const u8,
+        first_len: usize,
+        second: *const u8,
+        second_len: usize,
+        room: *mut u8,
+        room_len: usize,
+    ) -> Answer;
+    /// Judges two lists.
+    pub fn list_judge(
+        first: *const u8,
+        first_len: usize,
+        second: *const u8,
+        second_len: usize,
+    ) -> Answer;
+    /// Shows the lesser of the heads of two lists.
+    pub fn list_head(
+        first: *const u8,
+        first_len: usize,
+        second: *const u8,
+        second_len: usize,
+        passed_first: usize,
+        passed_second: usize,
+    ) -> Head;
 }
