@@ -3,9 +3,10 @@
  *
  * A book keeps a strictly rising list of names in at most 65,535 bytes. These
  * calls build a book, check it, read its names back and answer questions about
- * them. They are the functions of the archive that `rt staticlib book` writes
- * (target/staticlib/libbook.a), and each of them is proved to do what stands
- * over it here, for any bytes and any numbers: bad input gets a refusal.
+ * them, and merge two lists into one. They are the functions of the archive that
+ * `rt staticlib book` writes (target/staticlib/libbook.a), and each of them is
+ * proved to do what stands over it here, for any bytes and any numbers: bad
+ * input gets a refusal.
  *
  * NAMES, QUESTIONS AND LISTS
  *
@@ -16,10 +17,10 @@
  *
  * WHAT A CALL GIVES
  *
- * Every call gives three numbers. The code is 0 where the call was accepted,
- * else the number of a refusal. The two beside it are 0 where nothing else is
- * said. Where several refusals would fit, the first in the order that stands
- * over the call is given.
+ * Every call but list_head gives three numbers. The code is 0 where the call was
+ * accepted, else the number of a refusal. The two beside it are 0 where nothing
+ * else is said. Where several refusals would fit, the first in the order that
+ * stands over the call is given.
  *
  * A refused call changes nothing that was lent to it. An accepted one writes
  * its output at the front of the lent room and leaves the rest as it was.
@@ -33,8 +34,8 @@
  * - Each pointer is to that much live memory for the whole call. It is never
  *   null, not even where the length is 0: any other address will do then.
  * - Nobody else writes to that memory while the call runs: a call trusts what it
- *   has checked, and whoever can write to a book in the midst of a call gets the
- *   caller's stack. Copy a book that another guest can write to, or map it so
+ *   has checked, and whoever can write to a book or a list in the midst of a call
+ *   gets the caller's stack. Copy what another guest can write to, or map it so
  *   that it can't (docs/TRUST.md).
  * - What a call writes to (a room, answer rows) overlaps nothing else that is lent
  *   to it. What is only read may overlap.
@@ -128,6 +129,18 @@ struct mistrogu_answer {
 /* A question of a batch: its kind, and the span of the buffer that it is. */
 struct mistrogu_row {
     size_t kind;
+    size_t start;
+    size_t length;
+};
+
+/*
+ * A head of two lists: a name, as a part of the list that it stands in. The list
+ * is 1 for the first and 2 for the second, the start is where the name's first
+ * byte is in it, behind the length byte, and the length how many bytes the name
+ * has. (1, 0, 0) is the empty part: there is no head. A name is never empty.
+ */
+struct mistrogu_head {
+    size_t list;
     size_t start;
     size_t length;
 };
@@ -255,6 +268,57 @@ struct mistrogu_answer book_batch(const uint8_t *book, size_t book_length,
                                   const uint8_t *questions, size_t questions_length,
                                   const struct mistrogu_row *rows, size_t row_count,
                                   struct mistrogu_answer *answers, size_t answer_count)
+    MISTROGU_NEVER_NULL;
+
+/*
+ * Two lists. Each may have any number of names, also more than a book can have;
+ * both may be the same bytes. They are judged first, the whole of the first and
+ * then the whole of the second: 5 and 6, record by record, with first the number
+ * of the record, counted from 0, and second that of the list, 1 or 2, beside it.
+ */
+
+/*
+ * Merges two lists into one strictly rising list at the front of the room; a
+ * name in both is written once. A room as long as both lists together is always
+ * long enough, and what is written is a list for book_build.
+ *
+ * Accepted: (0, bytes written, 0).
+ * Refused: 5, 6 of the lists; then (7, 2000, 0) where the merged list would have
+ * over 2,000 names; then 4.
+ */
+struct mistrogu_answer list_merge(const uint8_t *first, size_t first_length,
+                                  const uint8_t *second, size_t second_length,
+                                  uint8_t *room, size_t room_length)
+    MISTROGU_NEVER_NULL;
+
+/*
+ * Tells whether two runs of bytes are lists, and if not, which record of which
+ * is bad: why list_head gives no head.
+ *
+ * Accepted: (0, 0, 0).
+ * Refused: 5, 6 of the lists.
+ */
+struct mistrogu_answer list_judge(const uint8_t *first, size_t first_length,
+                                  const uint8_t *second, size_t second_length)
+    MISTROGU_NEVER_NULL;
+
+/*
+ * Shows the lesser of the two heads behind so many passed records of each list;
+ * of equal heads the first list's. A list of which as many records as it has, or
+ * more, up to SIZE_MAX, are passed has no head, and the other's is shown.
+ *
+ * Gives the head, or (1, 0, 0) where neither list has one, and where one is
+ * refused; list_judge tells these apart.
+ *
+ * Nothing is kept between calls: whoever follows a merge counts the record that
+ * is shown as passed, and asks again. Of a name in both lists the second one's
+ * is then shown next; it is passed likewise. Each call judges both lists and goes
+ * over them from their start, so it takes time as their bytes together do, and
+ * to follow a merge to its end takes as many such calls as both have records.
+ */
+struct mistrogu_head list_head(const uint8_t *first, size_t first_length,
+                               const uint8_t *second, size_t second_length,
+                               size_t passed_first, size_t passed_second)
     MISTROGU_NEVER_NULL;
 
 #undef MISTROGU_NEVER_NULL

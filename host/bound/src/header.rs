@@ -72,12 +72,12 @@ fn number(header: &str, name: &str) -> Result<u64, String> {
     value.parse().map_err(|error| format!("{name}: {error}"))
 }
 
-/// The calls that the header declares.
+/// The calls that the header declares: each gives one of its structs.
 fn declared(header: &str) -> Vec<&str> {
     let lines = header.lines();
-    let calls = lines.filter_map(|line| line.strip_prefix("struct mistrogu_answer "));
-    calls
-        .filter_map(|rest| Some(rest.split_once('(')?.0))
+    let structs = lines.filter_map(|line| line.strip_prefix("struct mistrogu_"));
+    structs
+        .filter_map(|rest| Some(rest.split_once('(')?.0.split_once(' ')?.1))
         .collect()
 }
 
@@ -91,15 +91,16 @@ mod tests {
 struct mistrogu_answer {
 struct mistrogu_answer book_build(const uint8_t *list, size_t list_length,
 struct mistrogu_answer book_check(const uint8_t *book, size_t book_length)
-struct mistrogu_answer book_read(const uint8_t *book, size_t book_length,
+struct mistrogu_head list_head(const uint8_t *first, size_t first_length,
+                               const uint8_t *second, size_t second_length)
 ";
 
     /// What is said of bounds of the three calls.
-    fn held(build: u64, check: u64, read: u64) -> Result<(), String> {
+    fn held(build: u64, check: u64, head: u64) -> Result<(), String> {
         let bounds = [
             ("book_check", check),
             ("book_build", build),
-            ("book_read", read),
+            ("list_head", head),
         ];
         hold(HEADER, &bounds)
     }
@@ -117,7 +118,7 @@ struct mistrogu_answer book_read(const uint8_t *book, size_t book_length,
             "book_build can take 1,601 bytes of stack, and MISTROGU_BUILD_STACK is 1,600";
         assert_eq!(error, sentence);
         let error = held(1600, 8, 3208).unwrap_err();
-        let sentence = "book_read can take 3,208 bytes of stack, and MISTROGU_STACK is 3,200";
+        let sentence = "list_head can take 3,208 bytes of stack, and MISTROGU_STACK is 3,200";
         assert_eq!(error, sentence);
     }
 
@@ -130,9 +131,9 @@ struct mistrogu_answer book_read(const uint8_t *book, size_t book_length,
     #[test]
     fn the_header_has_to_have_the_calls_and_the_numbers() {
         let bounds = [("book_build", 1600), ("book_check", 3200)];
-        assert!(hold(HEADER, &bounds).unwrap_err().contains("book_read"));
+        assert!(hold(HEADER, &bounds).unwrap_err().contains("list_head"));
         let without = HEADER.replace("#define MISTROGU_STACK", "#define MISTROGU_HEAP");
-        let bounds = [bounds[0], bounds[1], ("book_read", 8)];
+        let bounds = [bounds[0], bounds[1], ("list_head", 8)];
         let error = hold(&without, &bounds).unwrap_err();
         assert_eq!(error, "the header has no MISTROGU_STACK");
     }

@@ -13,7 +13,7 @@ use std::process::ExitCode;
 use std::{env, fs};
 
 /// How the names of the calls begin.
-const CALLS: &str = "book_";
+const CALLS: [&str; 2] = ["book_", "list_"];
 
 fn main() -> ExitCode {
     let words: Vec<String> = env::args().skip(1).collect();
@@ -44,8 +44,8 @@ fn run(words: &[String]) -> Result<(), String> {
 /// The deepest way of each exported call, by name.
 fn calls<'a>(functions: &'a [Function], ways: &Ways) -> Vec<(&'a str, Way)> {
     let numbered = functions.iter().enumerate();
-    let calls =
-        numbered.filter(|(_, function)| function.is_exported && function.name.starts_with(CALLS));
+    let is_call = |name: &str| CALLS.iter().any(|begins| name.starts_with(begins));
+    let calls = numbered.filter(|(_, function)| function.is_exported && is_call(&function.name));
     let mut calls: Vec<(&str, Way)> = calls
         .map(|(number, function)| (&*function.name, ways.deepest(number)))
         .collect();

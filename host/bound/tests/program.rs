@@ -5,8 +5,8 @@ use std::fs;
 use std::path::{Path, PathBuf};
 use std::process::{Command, Output};
 
-/// Two calls with frames that are known: one with a frame of two pages, one into
-/// the cycle.
+/// Three calls with frames that are known: one with a frame of two pages, one
+/// into the cycle, and one of lists.
 const CODE: &str = r#"
         .text
         .globl  book_build
@@ -31,6 +31,14 @@ book_check:
         jmp     "inspect::check_node"
 1:      ret
         .size   book_check, . - book_check
+
+        .globl  list_head
+        .type   list_head, @function
+list_head:
+        pushq   %rbx
+        popq    %rbx
+        ret
+        .size   list_head, . - list_head
 
         .section ".text.inspect::check_node","ax",@progbits
         .type   "inspect::check_node", @function
@@ -57,7 +65,8 @@ book_check:
 fn header(build: u64, others: u64) -> String {
     format!(
         "#define MISTROGU_BUILD_STACK {build}\n#define MISTROGU_STACK {others}\n\
-         struct mistrogu_answer book_build(void);\nstruct mistrogu_answer book_check(void);\n"
+         struct mistrogu_answer book_build(void);\nstruct mistrogu_answer book_check(void);\n\
+         struct mistrogu_head list_head(void);\n"
     )
 }
 
@@ -101,6 +110,7 @@ fn known_frames_are_added_up() {
     for line in [
         "| `book_build` | 4,368 | `book_build` 4,360, `memset` 8 |",
         "| `book_check` | 12,800 | `book_check` 0, 200 times `inspect::check_node` 64 |",
+        "| `list_head` | 16 | `list_head` 16 |",
         "The cycle is `inspect::check_node`: 64 bytes a level, and at most 200 levels, as is proved.",
         "| `book_build` | 4,360 |\n| `book_check` | 8 |\n| `inspect::check_node` | 64 |\n",
     ] {

@@ -72,10 +72,26 @@ fn limits() {
 
 #[test]
 fn calls() {
-    for call in [
-        "build", "check", "read", "exact", "place", "range", "nearest", "width", "batch",
-    ] {
-        let declared = format!("struct mistrogu_answer book_{call}(const uint8_t *");
-        assert_eq!(HEADER.matches(&declared).count(), 1, "{call}");
+    let answers = [
+        "book_build",
+        "book_check",
+        "book_read",
+        "book_exact",
+        "book_place",
+        "book_range",
+        "book_nearest",
+        "book_width",
+        "book_batch",
+        "list_merge",
+        "list_judge",
+    ];
+    let heads = ["list_head"];
+    for (gives, calls) in [("answer", &answers[..]), ("head", &heads)] {
+        for call in calls {
+            let declared = format!("struct mistrogu_{gives} {call}(const uint8_t *");
+            assert_eq!(HEADER.matches(&declared).count(), 1, "{call}");
+        }
     }
+    let all = HEADER.matches("(const uint8_t *").count();
+    assert_eq!(all, answers.len() + heads.len());
 }
