@@ -2,13 +2,16 @@
 //!
 //! A **book** keeps a strictly rising list of names in at most 65,535 bytes. The
 //! calls that build a book, check it, read its names back and answer questions
-//! about them are proved: each does what its text says, for any bytes and any
-//! numbers. This crate gives them types. It needs no heap and no standard
-//! library, and has no unsafe line of its own.
+//! about them, and that merge two lists, are proved: each does what its text says,
+//! for any bytes and any numbers. This crate gives them types. It needs no heap
+//! and no standard library, and has no unsafe line of its own.
 //!
 //! | You want to | Call |
 //! |---|---|
 //! | make a book | [`build`], from a [`List`] |
+//! | make one list of two | [`merge`] |
+//! | show the names of two lists in their order | [`heads`] |
+//! | know whether two runs of bytes are lists | [`judge`] |
 //! | know whether bytes are a book | [`check`] |
 //! | have the name at a position | [`read`] |
 //! | know whether there is such a stop | [`exact`] |
@@ -50,8 +53,9 @@
 //!
 //! Every call that takes a book checks all of it before anything else, and
 //! nearly all of its time goes there. A [`batch`] does so once for all of its
-//! rows. [`STACK`] bytes of stack are enough for a call, [`BUILD_STACK`] for
-//! [`build`].
+//! rows. Every call that takes two lists judges both, and each name of [`heads`]
+//! is such a call. [`STACK`] bytes of stack are enough for a call,
+//! [`BUILD_STACK`] for [`build`].
 //!
 //! # Linking
 //!
@@ -66,6 +70,7 @@
 
 mod batch;
 mod list;
+mod merging;
 mod refusal;
 
 use core::ops::Range;
@@ -74,8 +79,9 @@ pub use batch::{batch, reply, row, Reply};
 #[doc(inline)]
 pub use format::{Kind, LARGEST_BLOCK, LONGEST_BOOK, LONGEST_NAME, MOST_NAMES, MOST_ROWS};
 pub use list::List;
+pub use merging::{heads, judge, merge, Head, Heads};
 pub use proved::{Answer, Row};
-pub use refusal::{Refusal, Refused};
+pub use refusal::{Refusal, Refused, Which};
 
 /// The bytes of stack that are enough for [`build`], whatever is lent to it.
 pub const BUILD_STACK: usize = 5760;
@@ -151,6 +157,7 @@ pub fn build(list: &[u8], block: usize, room: &mut [u8]) -> Result<usize, Refuse
     let (length, _) = accepted(answer).map_err(|refusal| Refused {
         refusal,
         record: answer.first,
+        list: Which::Only,
     })?;
     Ok(length)
 }

@@ -103,13 +103,31 @@ impl fmt::Display for Refusal {
 
 impl Error for Refusal {}
 
-/// What a build says no with.
+/// The list that a refusal tells of.
+#[derive(Clone, Copy, Debug, PartialEq, Eq, Hash)]
+pub enum Which {
+    /// The list that a book is built from.
+    Only,
+    /// The first of two lists.
+    First,
+    /// The second of two lists.
+    Second,
+    /// The list that two are merged to.
+    Merged,
+}
+
+/// What a build says no with, and what is said of two lists.
 ///
 /// ```
-/// use mistrogu::{build, Refusal, Refused};
+/// use mistrogu::{build, Refusal, Refused, Which};
 ///
 /// let refused = build(b"\x06Marina\x03Mar", 16, &mut [0; 100]).unwrap_err();
-/// assert_eq!(refused, Refused { refusal: Refusal::NotAbove, record: 1 });
+/// let expected = Refused {
+///     refusal: Refusal::NotAbove,
+///     record: 1,
+///     list: Which::Only,
+/// };
+/// assert_eq!(refused, expected);
 /// assert_eq!(refused.to_string(), "record 1: a name is not above the one before it");
 /// ```
 #[derive(Clone, Copy, Debug, PartialEq, Eq, Hash)]
@@ -120,15 +138,21 @@ pub struct Refused {
     /// [`Refusal::BadRecord`], [`Refusal::NotAbove`] and
     /// [`Refusal::TooManyNames`], and 0 for all others.
     pub record: usize,
+    /// The list that the record stands in, or would.
+    pub list: Which,
 }
 
 impl fmt::Display for Refused {
     fn fmt(&self, out: &mut fmt::Formatter<'_>) -> fmt::Result {
-        match self.refusal {
-            Refusal::BadRecord | Refusal::NotAbove | Refusal::TooManyNames => {
-                write!(out, "record {}: {}", self.record, self.refusal)
-            }
-            refusal => refusal.fmt(out),
+        let (refusal, record) = (self.refusal, self.record);
+        match refusal {
+            Refusal::BadRecord | Refusal::NotAbove | Refusal::TooManyNames => match self.list {
+                Which::Only => write!(out, "record {record}: {refusal}"),
+                Which::First => write!(out, "first list, record {record}: {refusal}"),
+                Which::Second => write!(out, "second list, record {record}: {refusal}"),
+                Which::Merged => out.write_str("the merged list would have over 2,000 names"),
+            },
+            _ => refusal.fmt(out),
         }
     }
 }

@@ -2,8 +2,8 @@
 //! changed.
 
 use mistrogu::{
-    batch, build, check, exact, nearest, place, range, read, reply, row, width, Answer, Kind,
-    Refusal, Refused, Row,
+    batch, build, check, exact, heads, judge, merge, nearest, place, range, read, reply, row,
+    width, Answer, Kind, Refusal, Refused, Row, Which,
 };
 
 const LIST: &[u8] = b"\x03Mar\x06Marina\x0DMarket Square";
@@ -24,11 +24,20 @@ fn numbered(names: usize) -> Vec<u8> {
         .collect()
 }
 
+/// A refusal of this record of this list.
+fn refused_of(refusal: Refusal, record: usize, list: Which) -> Refused {
+    Refused {
+        refusal,
+        record,
+        list,
+    }
+}
+
 /// Asserts that a build is refused so, and leaves the room as it was.
 fn build_refused(list: &[u8], block: usize, room: usize, refusal: Refusal, record: usize) {
     let mut room = vec![0xAA; room];
     let refused = build(list, block, &mut room).unwrap_err();
-    assert_eq!(refused, Refused { refusal, record });
+    assert_eq!(refused, refused_of(refusal, record, Which::Only));
     assert!(room.iter().all(|&byte| byte == 0xAA));
 }
 
@@ -200,6 +209,47 @@ fn a_row_is_refused_with_11_then_1_then_10_and_the_others_go_on() {
     }
 }
 
+/// Asserts that a merge is refused so, and leaves the room as it was.
+fn merge_refused(first: &[u8], second: &[u8], room: usize, refused: Refused) {
+    let mut room = vec![0xAA; room];
+    assert_eq!(merge(first, second, &mut room), Err(refused));
+    assert!(room.iter().all(|&byte| byte == 0xAA));
+}
+
+#[test]
+fn two_lists_are_refused_with_5_and_6_of_the_first_then_of_the_second() {
+    let (bad, falling) = (b"\x01a\0".as_slice(), b"\x01a\x01c\x01b".as_slice());
+    let cases = [
+        (bad, falling, Refusal::BadRecord, 1, Which::First),
+        (falling, bad, Refusal::NotAbove, 2, Which::First),
+        (LIST, bad, Refusal::BadRecord, 1, Which::Second),
+        (LIST, falling, Refusal::NotAbove, 2, Which::Second),
+        (&numbered(2001), bad, Refusal::BadRecord, 1, Which::Second),
+    ];
+    for (first, second, refusal, record, list) in cases {
+        let refused = refused_of(refusal, record, list);
+        merge_refused(first, second, 0, refused);
+        merge_refused(first, second, 300, refused);
+        assert_eq!(judge(first, second), Err(refused));
+        assert_eq!(heads(first, second).unwrap_err(), refused);
+    }
+}
+
+#[test]
+fn a_merge_is_then_refused_with_7_then_4() {
+    let many = numbered(2001);
+    let refused = refused_of(Refusal::TooManyNames, 2000, Which::Merged);
+    merge_refused(&many, &[], 0, refused);
+    merge_refused(&many, &many, 30_000, refused);
+    merge_refused(&numbered(2000), LIST, 30_000, refused);
+    assert_eq!(judge(&many, &many), Ok(()));
+
+    let refused = refused_of(Refusal::RoomTooShort, 0, Which::Merged);
+    merge_refused(LIST, LIST, LIST.len() - 1, refused);
+    merge_refused(&[], LIST, 0, refused);
+    assert_eq!(merge(LIST, LIST, &mut [0; 25]), Ok(25));
+}
+
 #[test]
 fn refusals_have_the_numbers_1_to_12() {
     for (refusal, number) in Refusal::ALL.into_iter().zip(1..) {
@@ -215,11 +265,26 @@ fn refusals_have_the_numbers_1_to_12() {
 #[test]
 fn a_record_is_told_just_where_it_is_known() {
     for refusal in Refusal::ALL {
-        let refused = Refused { refusal, record: 7 };
-        let told = refused.to_string();
         let known = (5..=7).contains(&refusal.number());
-        assert_eq!(told.starts_with("record 7: "), known);
-        assert!(told.ends_with(refusal.sentence()));
-        assert_eq!(Refusal::from(refused), refusal);
+        for (list, told) in [
+            (Which::Only, "record 7: "),
+            (Which::First, "first list, record 7: "),
+            (Which::Second, "second list, record 7: "),
+        ] {
+            let refused = refused_of(refusal, 7, list);
+            let told = if known { told } else { "" };
+            let sentence = format!("{told}{}", refusal.sentence());
+            assert_eq!(refused.to_string(), sentence);
+            assert_eq!(Refusal::from(refused), refusal);
+        }
     }
+}
+
+#[test]
+fn the_merged_list_is_told_of_where_it_is_refused() {
+    let refused = refused_of(Refusal::TooManyNames, 2000, Which::Merged);
+    let sentence = "the merged list would have over 2,000 names";
+    assert_eq!(refused.to_string(), sentence);
+    let refused = refused_of(Refusal::RoomTooShort, 0, Which::Merged);
+    assert_eq!(refused.to_string(), Refusal::RoomTooShort.sentence());
 }

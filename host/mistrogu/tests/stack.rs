@@ -1,6 +1,7 @@
 //! As much stack as the header says is enough, and no call touches a byte beside
 //! what is lent to it: every call on every hostile book, and on the deepest,
-//! widest and largest books there are, with fences around all of it.
+//! widest and largest books there are; and those of two lists on their lists, whole
+//! and cut. There are fences around all of it.
 
 use fenced::apart::{last_lines, run_test, word};
 use fenced::{on_stack, Fence, Fenced};
@@ -127,14 +128,66 @@ fn call_with_all(fence: Fence) {
     }
 }
 
-#[test]
-fn the_stack_of_the_header_is_enough_and_nothing_beside_the_lent_is_touched() {
-    let test = "the_stack_of_the_header_is_enough_and_nothing_beside_the_lent_is_touched";
+/// Makes every call that takes two lists, be they lists or not.
+fn call_with_two(about: &str, lists: [&[u8]; 2], fence: Fence) {
+    let [first, second] = lists.map(|list| Fenced::of(list, fence));
+    say("judge", about);
+    let judged = on_stack(STACK, || proved::list_judge(&first, &second));
+
+    for passed in [0, 1, 150, usize::MAX] {
+        say("head", about);
+        let head = on_stack(STACK, || proved::list_head(&first, &second, passed, passed));
+        assert!(head.length == 0 || judged.code == 0);
+    }
+    let merge = |space: usize| {
+        say("merge", about);
+        let mut room = Fenced::of(&vec![0; space], fence);
+        on_stack(STACK, || proved::list_merge(&first, &second, &mut room))
+    };
+    let merged = merge(first.len() + second.len());
+    assert_eq!(merged.code == 0, judged.code == 0);
+    if merged.code == 0 {
+        assert_eq!(merge(merged.first).code, 0);
+        assert_eq!(merge(merged.first - 1).code, 4);
+    }
+}
+
+/// Makes all calls of two lists, with a fence on this side: of each list with
+/// itself and with every second record of it, and with so much of it that its
+/// last record is not whole.
+fn call_with_lists(fence: Fence) {
+    for (about, names) in extreme_lists() {
+        let seconds: Names = names.iter().step_by(2).cloned().collect();
+        let [list, seconds] = [&names, &seconds].map(|names| write_list(names));
+        for second in [&list, &seconds, &Vec::new()] {
+            call_with_two(about, [&list, second], fence);
+            call_with_two(about, [second, &list], fence);
+        }
+        let cut = &list[..list.len() - 1];
+        call_with_two(about, [cut, &list], fence);
+        call_with_two(about, [&list, cut], fence);
+    }
+}
+
+/// Runs the test of this name in a process of its own: these calls, with fences
+/// on either side.
+fn run_apart(test: &str, calls: fn(Fence)) {
     if word().is_some() {
-        call_with_all(Fence::Behind);
-        return call_with_all(Fence::Before);
+        calls(Fence::Behind);
+        return calls(Fence::Before);
     }
     let output = run_test(test, "all calls");
     let said = last_lines(&output);
     assert!(output.status.success(), "{} after\n{said}", output.status);
+}
+
+#[test]
+fn the_stack_of_the_header_is_enough_and_nothing_beside_the_lent_is_touched() {
+    let test = "the_stack_of_the_header_is_enough_and_nothing_beside_the_lent_is_touched";
+    run_apart(test, call_with_all);
+}
+
+#[test]
+fn so_it_is_with_two_lists() {
+    run_apart("so_it_is_with_two_lists", call_with_lists);
 }
