@@ -37,6 +37,14 @@ impl Words {
         self.value(option).is_some()
     }
 
+    /// Where the output goes, by `-o` or by `--output`, where one is given.
+    pub fn output(&self) -> Result<Option<&OsStr>, String> {
+        match (self.value("-o"), self.value("--output")) {
+            (Some(_), Some(_)) => Err("-o and --output are the same; give one".to_string()),
+            (short, long) => Ok(short.or(long)),
+        }
+    }
+
     /// The number behind an option, where it is given.
     pub fn number(&self, option: &str) -> Result<Option<usize>, String> {
         let Some(value) = self.value(option) else {
@@ -114,7 +122,7 @@ mod tests {
     use super::*;
 
     const SHAPE: Shape = Shape {
-        valued: &["--limit", "-o"],
+        valued: &["--limit", "-o", "--output"],
         flags: &["--plain"],
     };
 
@@ -142,6 +150,17 @@ mod tests {
             splitted(&["--limit="]).unwrap().value("--limit"),
             Some(OsStr::new(""))
         );
+    }
+
+    #[test]
+    fn the_output_has_two_names_and_takes_one_of_them() {
+        assert_eq!(splitted(&["a"]).unwrap().output(), Ok(None));
+        for words in [&["-o", "x"][..], &["--output", "x"], &["--output=x"]] {
+            let words = splitted(words).unwrap();
+            assert_eq!(words.output(), Ok(Some(OsStr::new("x"))));
+        }
+        let both = splitted(&["-o", "x", "--output", "x"]).unwrap();
+        assert!(both.output().unwrap_err().ends_with("give one"));
     }
 
     #[test]

@@ -3,10 +3,11 @@
 use crate::args::{Shape, Words};
 use crate::book::Book;
 use crate::files;
-use crate::names::{self, Bad, Double, Names};
+use crate::names;
 use crate::outcome::{Failure, Outcome, Status, Streams};
+use crate::reading::{self, Text};
 use crate::size::{self, Size};
-use crate::text::{counted, grouped, named};
+use crate::text::grouped;
 use crate::{help, Command};
 use mistrogu::{Refusal, LARGEST_BLOCK, LONGEST_BOOK, MOST_NAMES};
 use std::ffi::{OsStr, OsString};
@@ -25,10 +26,6 @@ pub const COMMAND: Command = Command {
 
 /// The block size where none is given.
 const USUAL_BLOCK: usize = 16;
-/// So much of a names file is read, and no more.
-const LONGEST_FILE: u64 = 64 << 20;
-/// So many lines of a kind are told one by one.
-const MOST_TOLD: usize = 20;
 
 /// Builds a book.
 fn run(words: &Words, streams: &mut Streams) -> Outcome {
@@ -38,11 +35,14 @@ fn run(words: &Words, streams: &mut Streams) -> Outcome {
         [_, extra, ..] => return Err(extra_word(extra)),
     };
     let block = read_block(words)?;
-    let output = read_output(words, input)?;
+    let output = words.output().map_err(Failure::Usage)?;
+    let output = output.map_or_else(|| usual_output(input), OsStr::to_os_string);
     files::spare_terminal(&output)?;
     files::spare_input(input, &output)?;
-    let source = files::input_name(input);
-    let names = read_names(input, &source, streams)?;
+    let Text { source, names } = Text::read(input, streams)?;
+    if names.len() > MOST_NAMES {
+        return Err(reading::too_many(&format!("{source} has"), names.len()));
+    }
     let book = build(&names, block, &source)?;
     files::write(&output, book.bytes(), streams)?;
     let summary = summary(&names, &book, &files::output_name(&output));
@@ -73,15 +73,6 @@ fn read_block(words: &Words) -> Result<usize, Failure> {
     }
 }
 
-/// Where the book goes.
-fn read_output(words: &Words, input: &OsStr) -> Result<OsString, Failure> {
-    match (words.value("-o"), words.value("--output")) {
-        (Some(_), Some(_)) => Err(Failure::usage("-o and --output are the same; give one")),
-        (Some(output), None) | (None, Some(output)) => Ok(output.to_os_string()),
-        (None, None) => Ok(usual_output(input)),
-    }
-}
-
 /// Without a word on it: `stops.book` for `stops.txt`, and standard output for
 /// standard input.
 fn usual_output(input: &OsStr) -> OsString {
@@ -93,74 +84,6 @@ fn usual_output(input: &OsStr) -> OsString {
     let mut output = OsStr::from_bytes(stem).to_os_string();
     output.push(".book");
     output
-}
-
-/// Reads the names, tells of doubles, and refuses bad lines.
-fn read_names(input: &OsStr, source: &str, streams: &mut Streams) -> Result<Vec<Vec<u8>>, Failure> {
-    let bytes = files::read(input, LONGEST_FILE + 1)?;
-    if bytes.len() as u64 > LONGEST_FILE {
-        let text = format!("{source} has more than 64 MiB, too much for a list of names");
-        return Err(Failure::refused(text));
-    }
-    if names::is_utf16(&bytes) {
-        let text = format!("{source} is UTF-16; save it as UTF-8 and build again");
-        return Err(Failure::refused(text));
-    }
-    let names = names::parse(&bytes);
-    tell_bad(&names.bad, source, streams);
-    tell_doubles(&names.doubles, source, streams);
-    accept(names, source)
-}
-
-/// Names the bad lines.
-fn tell_bad(bad: &[Bad], source: &str, streams: &mut Streams) {
-    for line in bad.iter().take(MOST_TOLD) {
-        streams.note(&format!("{source}, line {}: {}", line.number, line.why));
-    }
-    tell_rest(bad.len(), "bad line", source, streams);
-}
-
-/// Names the doubles, and says how many there are.
-fn tell_doubles(doubles: &[Double], source: &str, streams: &mut Streams) {
-    for double in doubles.iter().take(MOST_TOLD) {
-        let (number, first) = (double.line.number, double.first);
-        let name = named(&double.line.name);
-        streams.note(&format!(
-            "{source}, line {number}: {name} again, as in line {first}; dropped"
-        ));
-    }
-    tell_rest(doubles.len(), "double", source, streams);
-    if !doubles.is_empty() {
-        let count = counted(doubles.len(), "double");
-        streams.note(&format!("{source}: {count} dropped"));
-    }
-}
-
-/// Says how many more there are than were told.
-fn tell_rest(count: usize, noun: &str, source: &str, streams: &mut Streams) {
-    if count > MOST_TOLD {
-        let more = counted(count - MOST_TOLD, &format!("more {noun}"));
-        streams.note(&format!("{source}: and {more}"));
-    }
-}
-
-/// The names, unless a line is bad or there are too many.
-fn accept(names: Names, source: &str) -> Result<Vec<Vec<u8>>, Failure> {
-    if !names.bad.is_empty() {
-        let count = counted(names.bad.len(), "bad line");
-        let text = format!("{source}: {count}, so no book is written; mend them and build again");
-        return Err(Failure::refused(text));
-    }
-    let count = names.rising.len();
-    if count > MOST_NAMES {
-        let [count, most, over] = [count, MOST_NAMES, count - MOST_NAMES].map(grouped);
-        let text = format!(
-            "{source} has {count} names, and {most} are the most: {over} too many; \
-             take some out or make two books"
-        );
-        return Err(Failure::refused(text));
-    }
-    Ok(names.rising)
 }
 
 /// Builds the book of these names, and checks it.

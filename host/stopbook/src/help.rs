@@ -1,13 +1,15 @@
 //! What `--help` prints.
 
 /// Where no command is given.
-pub const NO_COMMAND: &str = "give a command: build, list, ask, check, tree; see: stopbook --help";
+pub const NO_COMMAND: &str =
+    "give a command: build, merge, list, ask, check, tree; see: stopbook --help";
 
 /// The help of the tool.
 pub const TOOL: &str = "\
 stopbook: books of stop names, built, checked, listed and asked by the proved library
 
   stopbook build NAMES.txt [-o BOOK] [--block K]   make a book from a list of names
+  stopbook merge A.txt B.txt [-o TEXT]             make one list of names from two
   stopbook list BOOK [--from N] [--count N]        print its names with their numbers
   stopbook ask BOOK [KIND QUESTION]                ask it: exact, place, range, nearest, width
   stopbook check BOOK                              say whether it is a book
@@ -40,6 +42,24 @@ skipped. Names are sorted by their bytes; doubles are dropped, and told. Bad lin
 Example:
 
   stopbook build sample/stops.txt -o stops.book
+";
+
+/// The help of `merge`.
+pub const MERGE: &str = "\
+stopbook merge A.txt B.txt [-o TEXT]
+
+Makes one text of names from two, each with a name on each line, in any order: the names
+of both, sorted by their bytes, each once, as they are. `stopbook build` makes a book from
+it. Both texts are read as `build` reads one, with doubles told and dropped; where a line
+is bad, nothing is written. A text may have any number of names, and both together at most
+2,000. How many names each brought, and how many are in both, is said on standard error.
+
+  -o TEXT, --output TEXT   where the names go; without it standard output
+
+Examples:
+
+  stopbook merge north.txt south.txt -o both.txt
+  stopbook merge north.txt south.txt | stopbook build - -o both.book
 ";
 
 /// The help of `list`.

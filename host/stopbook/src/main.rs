@@ -15,9 +15,10 @@
 //! | [`layout`] | document 01's layout, read from an accepted book |
 //! | [`book`] | a book that was read and accepted |
 //! | [`names`] | a file with a name on each line |
+//! | [`reading`] | such a file read, and what is wrong with its lines told |
 //! | [`size`] | how long the book of some names will be |
 //! | [`progress`] | how far a long reading is |
-//! | [`build`], [`list`], [`ask`], [`check`], [`tree`] | the commands |
+//! | [`build`], [`merge`], [`list`], [`ask`], [`check`], [`tree`] | the commands |
 
 #![forbid(unsafe_code)]
 #![warn(missing_docs)]
@@ -31,9 +32,11 @@ mod files;
 mod help;
 mod layout;
 mod list;
+mod merge;
 mod names;
 mod outcome;
 mod progress;
+mod reading;
 mod size;
 mod text;
 mod tree;
@@ -58,8 +61,9 @@ pub struct Command {
 }
 
 /// Every command, in the order of the help.
-const COMMANDS: [Command; 5] = [
+const COMMANDS: [Command; 6] = [
     build::COMMAND,
+    merge::COMMAND,
     list::COMMAND,
     ask::COMMAND,
     check::COMMAND,

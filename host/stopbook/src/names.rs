@@ -123,6 +123,35 @@ pub fn records(names: &[Vec<u8>]) -> Vec<u8> {
     list
 }
 
+/// The names in a list that the library has written.
+pub fn in_records(mut list: &[u8]) -> Vec<&[u8]> {
+    let mut names = Vec::new();
+    while let Some((&length, behind)) = list.split_first() {
+        let (name, rest) = behind.split_at(behind.len().min(usize::from(length)));
+        names.push(name);
+        list = rest;
+    }
+    names
+}
+
+/// A text in which [`parse`] finds these names again: a line for each. What it
+/// would take for the end of a line, or for a byte order mark, stands there once
+/// more than in the name.
+pub fn text(names: &[&[u8]]) -> Vec<u8> {
+    let mut text = Vec::new();
+    if names.first().is_some_and(|name| name.starts_with(MARK)) {
+        text.extend_from_slice(MARK);
+    }
+    for name in names {
+        text.extend_from_slice(name);
+        if name.ends_with(b"\r") {
+            text.push(b'\r');
+        }
+        text.push(b'\n');
+    }
+    text
+}
+
 #[cfg(test)]
 mod tests {
     use super::*;
@@ -196,5 +225,29 @@ mod tests {
         let names = [b"Mar".to_vec(), b"Marina".to_vec()];
         assert_eq!(records(&names), b"\x03Mar\x06Marina");
         assert!(records(&[]).is_empty());
+    }
+
+    #[test]
+    fn names_are_found_in_their_records_again() {
+        let names = [b"Mar".to_vec(), vec![b'x'; 200]];
+        assert_eq!(in_records(&records(&names)), names);
+        assert!(in_records(b"").is_empty());
+    }
+
+    #[test]
+    fn a_text_of_names_is_read_as_these_names() {
+        let cases: [&[&[u8]]; 5] = [
+            &[],
+            &[b"Mar", b"Marina"],
+            &[b"Mar", b"Mar\r", b"Mar\r\r", b"\xC3\x89cole"],
+            &[b"\xEF\xBB\xBF"],
+            &[b"\xEF\xBB\xBF\r", b"\xEF\xBB\xBFMar"],
+        ];
+        for names in cases {
+            let text = text(names);
+            assert_eq!(parse(&text).rising, names);
+            assert_eq!((parse(&text).bad, parse(&text).doubles), (vec![], vec![]));
+        }
+        assert_eq!(text(&[b"Mar", b"Marina"]), b"Mar\nMarina\n");
     }
 }

@@ -6,7 +6,7 @@ use common::{Folder, EXAMPLE};
 use std::io::Read;
 use std::process::{Command, Stdio};
 
-const COMMANDS: [&str; 5] = ["build", "list", "ask", "check", "tree"];
+const COMMANDS: [&str; 6] = ["build", "merge", "list", "ask", "check", "tree"];
 
 #[test]
 fn the_help_names_every_command_and_every_exit_status() {
@@ -43,12 +43,16 @@ fn the_version_is_that_of_the_crate() {
 #[test]
 fn wrong_usage_has_exit_status_2_and_says_where_to_look() {
     let folder = Folder::with("mar.book", EXAMPLE);
-    let cases: [(&[&str], &str); 9] = [
+    let cases: [(&[&str], &str); 13] = [
         (&[], "give a command"),
         (&["bild", "x"], "bild is no command"),
         (&["help", "bild"], "bild is no command"),
         (&["build"], "give the file with the names"),
         (&["build", "a", "b"], "b is too many"),
+        (&["merge"], "give two files with names"),
+        (&["merge", "a"], "give two files with names"),
+        (&["merge", "a", "b", "c"], "c is too many"),
+        (&["merge", "-", "-"], "standard input can be read once"),
         (&["list"], "give one book"),
         (&["check", "a", "b"], "give one book"),
         (
