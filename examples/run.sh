@@ -26,7 +26,7 @@ fail() {
 
 with_the_system() {
     "${CC:-cc}" "${strict[@]}" -Iinclude examples/stops.c "$archive" -o "$work/stops" || fail "stops.c could not be compiled"
-    "$work/stops" || fail "the library does not answer stops.c as document 01 says"
+    "$work/stops" || fail "the library does not answer stops.c as documents 01 and 02 say"
 }
 
 # Both compilers have to read the same headers: GNU C 4 is what the kit's says it is.
@@ -44,7 +44,7 @@ with_the_kit() {
         "$tools/lib/crtbeginS.o" "$work/stops.o" "$archive" "$tools/lib/libc.so.6" "$tools/lib/libc_nonshared.a" \
         "$tools/lib/libgcc.a" "$tools/lib/crtendS.o" "$tools/lib/crtn.o" -o "$work/stops" || fail "stops.c could not be linked"
     ${emulator:+"$emulator"} "$tools/lib/ld-linux-x86-64.so.2" --library-path "$tools/lib" "$work/stops" ||
-        fail "the library does not answer stops.c as document 01 says"
+        fail "the library does not answer stops.c as documents 01 and 02 say"
 }
 
 if [ "$machine" = x86_64 ] && [ "${MISTROGU_KIT:-0}" != 1 ]; then with_the_system; else with_the_kit; fi

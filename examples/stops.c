@@ -1,10 +1,11 @@
 /*
- * Three stops in a book, and what can be asked of it.
+ * Two operators' lists made one, its three stops in a book, and what can be asked
+ * of it.
  *
- * The list, the book and the first twelve questions are those of document 01, the
- * project's scope document; the widths are document 02's. Every answer is held to
- * the figures there: where one differs, the program says so and its exit status
- * is 1.
+ * The merged list, the book and the first twelve questions are those of document
+ * 01, the project's scope document; the widths and the merging are document 02's.
+ * Every answer is held to the figures there: where one differs, the program says
+ * so and its exit status is 1.
  *
  * run.sh compiles it, links it with the proved library and runs it.
  */
@@ -15,7 +16,16 @@
 
 #define COUNT(array) (sizeof (array) / sizeof *(array))
 
+/* The stops of either operator, and those of both. */
+static const char *const FIRST[] = {"Mar", "Market Square"};
+static const char *const SECOND[] = {"Mar", "Marina"};
 static const char *const STOPS[] = {"Mar", "Marina", "Market Square"};
+
+/* Where each of them is shown: Mar, which is in both lists, in the first. */
+static const struct mistrogu_head HEADS[] = {{1, 1, 3}, {2, 5, 6}, {1, 5, 13}};
+
+/* A list whose second name is not above its first. */
+static const uint8_t FALLING[] = "\003Mar\001M";
 
 struct asked {
     size_t kind;
@@ -57,13 +67,100 @@ static struct mistrogu_answer hold(const char *what, struct mistrogu_answer got,
     return got;
 }
 
-/* Appends a record to a list that is so long, and gives the list's new length. */
-static size_t append(uint8_t *list, size_t length, const char *name)
+/* Holds a head to the expected one. */
+static void hold_head(const char *what, struct mistrogu_head got,
+                      struct mistrogu_head expected)
 {
-    size_t bytes = strlen(name);
-    list[length] = (uint8_t)bytes;
-    memcpy(list + length + 1, name, bytes);
-    return length + 1 + bytes;
+    if (got.list != expected.list || got.start != expected.start ||
+        got.length != expected.length) {
+        printf("WRONG: %s gave (%zu, %zu, %zu), expected (%zu, %zu, %zu)\n", what,
+               got.list, got.start, got.length, expected.list, expected.start,
+               expected.length);
+        differences++;
+    }
+}
+
+/* Holds bytes to a stop's name. */
+static void hold_name(const uint8_t *bytes, size_t length, const char *stop)
+{
+    if (length != strlen(stop) || memcmp(bytes, stop, length) != 0) {
+        printf("WRONG: that is not %s\n", stop);
+        differences++;
+    }
+}
+
+/* Writes the records of so many stops, and gives the list's length. */
+static size_t write_list(uint8_t *list, const char *const *stops, size_t count)
+{
+    size_t length = 0;
+    size_t i;
+    for (i = 0; i < count; i++) {
+        size_t bytes = strlen(stops[i]);
+        list[length] = (uint8_t)bytes;
+        memcpy(list + length + 1, stops[i], bytes);
+        length += 1 + bytes;
+    }
+    return length;
+}
+
+/* Shows the names of two lists in their order, as a screen does that follows a
+   merge. A name in both is the first list's head, and right behind that the
+   second's: there it is passed and not shown again. */
+static void show_heads(const uint8_t *first, size_t first_length, const uint8_t *second,
+                       size_t second_length)
+{
+    size_t passed_first = 0;
+    size_t passed_second = 0;
+    const uint8_t *before = first;
+    size_t before_length = 0;
+    size_t shown = 0;
+
+    for (;;) {
+        struct mistrogu_head head = list_head(first, first_length, second, second_length,
+                                              passed_first, passed_second);
+        const uint8_t *name = (head.list == 1 ? first : second) + head.start;
+        if (head.length == 0)
+            break; /* Both lists are passed. */
+        if (head.list == 1)
+            passed_first++;
+        else
+            passed_second++;
+        if (head.length == before_length && memcmp(name, before, before_length) == 0)
+            continue;
+        before = name;
+        before_length = head.length;
+        printf("  %.*s, of list %zu\n", (int)head.length, (const char *)name, head.list);
+        if (shown < COUNT(HEADS)) {
+            hold_head("list_head", head, HEADS[shown]);
+            hold_name(name, head.length, STOPS[shown]);
+        }
+        shown++;
+    }
+    if (shown != COUNT(HEADS)) {
+        printf("WRONG: %zu names were shown\n", shown);
+        differences++;
+    }
+}
+
+/* Merges the two operators' lists into the room, and gives the bytes written; 0
+   where that is refused. */
+static size_t merge_lists(uint8_t *room, size_t room_length)
+{
+    uint8_t first[50];
+    uint8_t second[50];
+    size_t first_length = write_list(first, FIRST, COUNT(FIRST));
+    size_t second_length = write_list(second, SECOND, COUNT(SECOND));
+    struct mistrogu_answer merged =
+        hold("list_merge",
+             list_merge(first, first_length, second, second_length, room, room_length), 0,
+             25, 0);
+
+    if (merged.code != 0)
+        return 0;
+    printf("two lists merged to %zu bytes\n", merged.first);
+    show_heads(first, first_length, second, second_length);
+    hold("list_judge", list_judge(first, first_length, second, second_length), 0, 0, 0);
+    return merged.first;
 }
 
 /* Asks a question by the call of its kind. */
@@ -171,21 +268,31 @@ static void ask_in_a_batch(const uint8_t *book, size_t length)
          MISTROGU_BAD_BATCH, 0, 0);
 }
 
-/* Calls that have to be refused, and leave the room as it was. */
+/* Holds a room to what it was filled with. */
+static void hold_untouched(const uint8_t *room, size_t length)
+{
+    size_t i;
+    for (i = 0; i < length; i++) {
+        if (room[i] != 0xAA) {
+            printf("WRONG: a refused call has changed byte %zu of its room\n", i);
+            differences++;
+        }
+    }
+}
+
+/* Calls of a book that have to be refused, and leave the room as it was. */
 static void be_refused(const uint8_t *list, size_t list_length, const uint8_t *book,
                        size_t length)
 {
-    static const uint8_t falling[] = "\003Mar\001M";
     static const uint8_t long_question[MISTROGU_LONGEST_NAME + 1] = {0};
     uint8_t room[92];
     uint8_t old[93];
     int before = differences;
-    size_t i;
 
     memset(room, 0xAA, sizeof room);
     hold("blocks of 65", book_build(list, list_length, 65, room, sizeof room),
          MISTROGU_BAD_BLOCK_SIZE, 0, 0);
-    hold("names that fall", book_build(falling, sizeof falling - 1, 2, room, sizeof room),
+    hold("names that fall", book_build(FALLING, sizeof FALLING - 1, 2, room, sizeof room),
          MISTROGU_NOT_ABOVE, 1, 0);
     hold("a room of 92 bytes", book_build(list, list_length, 2, room, sizeof room),
          MISTROGU_ROOM_TOO_SHORT, 0, 0);
@@ -201,53 +308,80 @@ static void be_refused(const uint8_t *list, size_t list_length, const uint8_t *b
     hold("a question of 201 bytes",
          book_exact(book, length, long_question, sizeof long_question),
          MISTROGU_QUESTION_TOO_LONG, 0, 0);
-    for (i = 0; i < sizeof room; i++) {
-        if (room[i] != 0xAA) {
-            printf("WRONG: a refused call has changed byte %zu of its room\n", i);
-            differences++;
-        }
-    }
+    hold_untouched(room, sizeof room);
     if (differences == before)
         printf("eight calls were refused as they had to be\n");
+}
+
+/* The same with two lists. A refused head is the empty part of the first. */
+static void be_refused_lists(const uint8_t *list, size_t list_length)
+{
+    static const struct mistrogu_head empty = {1, 0, 0};
+    uint8_t room[24];
+    int before = differences;
+
+    memset(room, 0xAA, sizeof room);
+    hold("a second list that falls",
+         list_merge(list, list_length, FALLING, sizeof FALLING - 1, room, sizeof room),
+         MISTROGU_NOT_ABOVE, 1, 2);
+    hold("a first list without its last byte",
+         list_judge(list, list_length - 1, FALLING, sizeof FALLING - 1),
+         MISTROGU_BAD_RECORD, 2, 1);
+    hold("a room of 24 bytes",
+         list_merge(list, list_length, list, list_length, room, sizeof room),
+         MISTROGU_ROOM_TOO_SHORT, 0, 0);
+    hold_head("a head beside a list that falls",
+              list_head(list, list_length, FALLING, sizeof FALLING - 1, 0, 0), empty);
+    hold_untouched(room, sizeof room);
+    if (differences == before)
+        printf("and four calls with two lists\n");
+}
+
+/* Builds the book of three stops, and gives its length; 0 where it is refused. */
+static size_t build(const uint8_t *list, size_t list_length, uint8_t *book, size_t space)
+{
+    struct mistrogu_answer built;
+    struct mistrogu_answer checked;
+
+    hold("book_build, blocks of 4", book_build(list, list_length, 4, book, space), 0, 88,
+         0);
+    built = hold("book_build, blocks of 2", book_build(list, list_length, 2, book, space),
+                 0, 93, 0);
+    if (built.code != 0)
+        return 0;
+    printf("a book of %zu bytes\n", built.first);
+    checked = hold("book_check", book_check(book, built.first), 0, 3, 2);
+    printf("%zu stops in blocks of %zu\n", checked.first, checked.second);
+    return built.first;
+}
+
+/* Reads every name back. */
+static void read_names(const uint8_t *book, size_t length)
+{
+    uint8_t name[MISTROGU_LONGEST_NAME];
+    size_t i;
+    for (i = 0; i < COUNT(STOPS); i++) {
+        struct mistrogu_answer read =
+            hold("book_read", book_read(book, length, i, name, sizeof name), 0,
+                 strlen(STOPS[i]), 0);
+        printf("  %zu %.*s\n", i, (int)read.first, (const char *)name);
+        hold_name(name, read.first, STOPS[i]);
+    }
 }
 
 int main(void)
 {
     static uint8_t book[MISTROGU_LONGEST_BOOK];
     uint8_t list[100];
-    uint8_t name[MISTROGU_LONGEST_NAME];
-    size_t list_length = 0;
-    struct mistrogu_answer built;
-    struct mistrogu_answer checked;
-    size_t i;
+    size_t list_length = merge_lists(list, sizeof list);
+    size_t length = list_length == 0 ? 0 : build(list, list_length, book, sizeof book);
 
-    for (i = 0; i < COUNT(STOPS); i++)
-        list_length = append(list, list_length, STOPS[i]);
-
-    hold("book_build, blocks of 4", book_build(list, list_length, 4, book, sizeof book),
-         0, 88, 0);
-    built = hold("book_build, blocks of 2",
-                 book_build(list, list_length, 2, book, sizeof book), 0, 93, 0);
-    if (built.code != 0)
+    if (length == 0)
         return 1;
-    printf("a book of %zu bytes\n", built.first);
-
-    checked = hold("book_check", book_check(book, built.first), 0, 3, 2);
-    printf("%zu stops in blocks of %zu\n", checked.first, checked.second);
-
-    for (i = 0; i < checked.first && i < COUNT(STOPS); i++) {
-        struct mistrogu_answer read =
-            hold("book_read", book_read(book, built.first, i, name, sizeof name), 0,
-                 strlen(STOPS[i]), 0);
-        printf("  %zu %.*s\n", i, (int)read.first, (const char *)name);
-        if (memcmp(name, STOPS[i], strlen(STOPS[i])) != 0) {
-            printf("WRONG: that is not %s\n", STOPS[i]);
-            differences++;
-        }
-    }
-
-    ask_one_by_one(book, built.first);
-    ask_in_a_batch(book, built.first);
-    be_refused(list, list_length, book, built.first);
+    read_names(book, length);
+    ask_one_by_one(book, length);
+    ask_in_a_batch(book, length);
+    be_refused(list, list_length, book, length);
+    be_refused_lists(list, list_length);
     return differences == 0 ? 0 : 1;
 }
