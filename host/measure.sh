@@ -6,14 +6,19 @@
 #   host/measure.sh read BOOKFILE POSITION        of book_read at that position of that book
 #   host/measure.sh exact BOOKFILE QUESTION       of book_exact with that question to that book
 #   host/measure.sh place|range|nearest|width ..  of book_place, book_range, book_nearest, book_width, as for exact
+#   host/measure.sh merge FIRST SECOND            of list_merge on these two lists, into a room as long as both
+#   host/measure.sh judge FIRST SECOND            of list_judge on them
+#   host/measure.sh step FIRST SECOND COUNT COUNT of list_head behind so many records of the first and of the second
 #   host/measure.sh questions BOOKFILE            of mixed questions to that book, less those of its check
 #   host/measure.sh batch BOOKFILE                of book_batch with 64 mixed questions to that book, and of each of them alone
 #   host/measure.sh growth                        of build, check and place, on lists of which one parameter doubles
 #   host/measure.sh worst [SEED]                  of check and place, on shapes that may cost most: the ten dearest of each
+#   host/measure.sh split LISTFILE ODD EVEN       counts nothing, but parts a list into two files, to be merged again
 #
 # A question is a text, or `hex:` and two digits for each byte. `vectors lists FOLDER` and `vectors books FOLDER K` write files to measure
-# with. The words go to the program `bench`. The archive is the one that MISTROGU_ARCHIVE names, or a new one from archive.sh;
-# reference.sh and small.sh make others, to measure in the same way.
+# with, and `split` two more: the records of that list that have odd numbers, counted from 0, and those that have even ones. The words go
+# to the program `bench`. The archive is the one that MISTROGU_ARCHIVE names, or a new one from archive.sh; reference.sh and small.sh make
+# others, to measure in the same way.
 #
 # `questions` makes 100 questions from the book's names, the same ones each time: 20 names, 20 beginnings, 20 extensions, 20 that miss a
 # name by one byte, and 20 strangers. Each is asked in all five kinds, and every call is counted by itself. Since a call checks the book
@@ -27,7 +32,11 @@
 # `growth` prints a table. Beside each number stands how many times the one before it is; of place the check is taken off.
 set -eu
 [ $# -ge 1 ] || { sed -n '2,/^set /s/^# \{0,1\}//p' "$0" >&2; exit 2; }
-call=book_$1
+case $1 in
+merge | judge) call=list_$1 ;;
+step) call=list_head ;;
+*) call=book_$1 ;;
+esac
 
 host=$(cd "$(dirname "$0")" && pwd -P)
 archive=${MISTROGU_ARCHIVE:-$("$host/archive.sh")}
@@ -36,14 +45,14 @@ MISTROGU_ARCHIVE=$archive cargo build --quiet --release --offline --manifest-pat
 work=$(mktemp -d)
 trap 'rm -rf "$work"' EXIT
 profile=$work/profile
+bench=${CARGO_TARGET_DIR:-$host/target}/release/bench
 
 # Runs `bench` with the words after a `--`, callgrind with those before it.
 profiled() {
     local options=()
     while [ "$1" != -- ]; do options+=("$1"); shift; done
     shift
-    valgrind --quiet --tool=callgrind --callgrind-out-file="$profile" ${options[@]+"${options[@]}"} \
-        "${CARGO_TARGET_DIR:-$host/target}/release/bench" "$@"
+    valgrind --quiet --tool=callgrind --callgrind-out-file="$profile" ${options[@]+"${options[@]}"} "$bench" "$@"
 }
 
 # Of one call. A line of the report: 12,345 (67.8%)  file:function [object]
@@ -148,5 +157,6 @@ questions) mixed_questions "$@" ;;
 batch) shift && one_batch "$@" ;;
 growth) growth ;;
 worst) shift && worst "$@" ;;
+split) "$bench" "$@" ;;
 *) one_call "$@" ;;
 esac

@@ -7,7 +7,8 @@
 //! `bench together BOOKFILE` asks some of them as one batch, and then each of
 //! them alone. In each case the answer is printed, and it has to be the second
 //! program's: a wrong answer is not worth measuring. `bench growth` and `bench
-//! worst` build, check and ask lists of many shapes.
+//! worst` build, check and ask lists of many shapes. `bench split` parts a list
+//! into two, to merge them again.
 //!
 //! Another call is a module with one function, and one more line in [`CALLS`].
 
@@ -15,7 +16,9 @@ mod asking;
 mod batching;
 mod building;
 mod checking;
+mod merging;
 mod mixed;
+mod plain;
 mod reading;
 mod shaped;
 mod stack;
@@ -42,7 +45,7 @@ pub struct Ready {
 }
 
 /// Every call that can be measured.
-const CALLS: [Call; 9] = [
+const CALLS: [Call; 12] = [
     Call {
         name: "build",
         words: "LISTFILE K",
@@ -88,6 +91,21 @@ const CALLS: [Call; 9] = [
         words: "BOOKFILE",
         ready: batching::ready,
     },
+    Call {
+        name: "merge",
+        words: "LISTFILE LISTFILE",
+        ready: merging::merge,
+    },
+    Call {
+        name: "judge",
+        words: "LISTFILE LISTFILE",
+        ready: merging::judge,
+    },
+    Call {
+        name: "step",
+        words: "LISTFILE LISTFILE COUNT COUNT",
+        ready: merging::step,
+    },
 ];
 
 fn main() -> ExitCode {
@@ -106,28 +124,26 @@ fn main() -> ExitCode {
 
 /// Does what the words say and gives the line to print.
 fn run(words: &[String]) -> Result<String, String> {
-    if words.first().is_some_and(|word| word == "stack") {
-        let Ready { measured, expected } = ready(&words[1..])?;
-        let (answer, depth) = stack::deepest(measured)?;
-        return Ok(format!("{}, stack {depth}", shown(answer, expected)?));
+    let (word, rest) = words.split_first().ok_or_else(usage)?;
+    match word.as_str() {
+        "stack" => {
+            let Ready { measured, expected } = ready(rest)?;
+            let (answer, depth) = stack::deepest(measured)?;
+            Ok(format!("{}, stack {depth}", shown(answer, expected)?))
+        }
+        "questions" => mixed::run(rest),
+        "together" => batching::together(rest),
+        "growth" => shaped::growth(),
+        "worst" => shaped::worst(rest),
+        "split" => merging::split(rest),
+        _ => {
+            let Ready {
+                mut measured,
+                expected,
+            } = ready(words)?;
+            shown(measured(), expected)
+        }
     }
-    if words.first().is_some_and(|word| word == "questions") {
-        return mixed::run(&words[1..]);
-    }
-    if words.first().is_some_and(|word| word == "together") {
-        return batching::together(&words[1..]);
-    }
-    if words.first().is_some_and(|word| word == "growth") {
-        return shaped::growth();
-    }
-    if words.first().is_some_and(|word| word == "worst") {
-        return shaped::worst(&words[1..]);
-    }
-    let Ready {
-        mut measured,
-        expected,
-    } = ready(words)?;
-    shown(measured(), expected)
 }
 
 /// The call that the words name.
@@ -167,5 +183,6 @@ fn usage() -> String {
     lines.push("bench together BOOKFILE".to_string());
     lines.push("bench growth".to_string());
     lines.push("bench worst [SEED]".to_string());
+    lines.push("bench split LISTFILE ODD EVEN".to_string());
     lines.join("\n")
 }

@@ -1,112 +1,46 @@
 //! Merging held to plain sets of names, on sound and on damaged lists.
 
+// As `bench` expects it.
+#[path = "../../bench/src/plain.rs"]
+mod plain;
+
 use model::write_list;
-use reference::{list_head, list_judge, list_merge, Answer, Head};
-use std::collections::BTreeSet;
+use reference::{list_head, list_judge, list_merge, Answer};
 use vectors::damage::{spoil_bytes, spoil_names};
 use vectors::lists::{self, Names};
 use vectors::random::Random;
 use vectors::rooms::filled_room;
 
-/// The names of a list; or the refusal of the first bad record, and its number.
-fn names_of(list: &[u8]) -> Result<Vec<&[u8]>, (usize, usize)> {
-    let mut names: Vec<&[u8]> = Vec::new();
-    let mut rest = list;
-    while let Some((&length, behind)) = rest.split_first() {
-        let record = names.len();
-        let name = behind.get(..usize::from(length));
-        let name = name.filter(|name| (1..=200).contains(&name.len()));
-        let name = name.ok_or((5, record))?;
-        if names.last().is_some_and(|before| *before >= name) {
-            return Err((6, record));
-        }
-        names.push(name);
-        rest = &behind[name.len()..];
-    }
-    Ok(names)
+type Numbers = (usize, usize, usize);
+
+fn ours(answer: Answer) -> Numbers {
+    (answer.code, answer.first, answer.second)
 }
 
-/// The names of both lists, or what refuses them.
-fn names_of_both<'lent>(
-    first: &'lent [u8],
-    second: &'lent [u8],
-) -> Result<[Vec<&'lent [u8]>; 2], Answer> {
-    let refused = |list| {
-        move |(code, record)| Answer {
-            code,
-            first: record,
-            second: list,
-        }
-    };
-    let first = names_of(first).map_err(refused(1))?;
-    Ok([first, names_of(second).map_err(refused(2))?])
-}
-
-/// An answer without a list.
-fn answer(code: usize, first: usize) -> Answer {
-    Answer {
-        code,
-        first,
-        second: 0,
-    }
-}
-
-/// What merging gives, and the room after it.
-fn merged(first: &[u8], second: &[u8], room: &[u8]) -> (Answer, Vec<u8>) {
-    let mut room = room.to_vec();
-    let both = match names_of_both(first, second) {
-        Err(refused) => return (refused, room),
-        Ok(both) => both,
-    };
-    let names: BTreeSet<&[u8]> = both.into_iter().flatten().collect();
-    if names.len() > 2000 {
-        return (answer(7, 2000), room);
-    }
-    let names: Names = names.into_iter().map(<[u8]>::to_vec).collect();
-    let list = write_list(&names);
-    let Some(front) = room.get_mut(..list.len()) else {
-        return (answer(4, 0), room);
-    };
-    front.copy_from_slice(&list);
-    (answer(0, list.len()), room)
-}
-
-/// The lesser head behind so many records of each list.
-fn head(first: &[u8], second: &[u8], passed: [usize; 2]) -> Head {
-    let Ok([one, other]) = names_of_both(first, second) else {
-        return Head::EMPTY;
-    };
-    let heads = [(1, &one, passed[0]), (2, &other, passed[1])];
-    let heads = heads.into_iter().filter_map(|(list, names, passed)| {
-        let before: usize = names.iter().take(passed).map(|name| 1 + name.len()).sum();
-        Some((names.get(passed)?, list, before + 1))
-    });
-    // Of equal names the first list's is the least.
-    heads.min().map_or(Head::EMPTY, |(name, list, start)| Head {
-        list,
-        start,
-        length: name.len(),
-    })
+fn theirs(answer: model::Answer) -> Numbers {
+    (answer.code, answer.first, answer.second)
 }
 
 /// Makes all three calls with these lists and holds them to the sets.
 fn hold(random: &mut Random, first: &[u8], second: &[u8]) {
     let most = first.len() + second.len();
-    let length = merged(first, second, &vec![0; most]).0.first;
+    let length = plain::list_merge(first, second, &mut vec![0; most]).first;
     let shortest = length.saturating_sub(2).min(most);
     for space in [0, most, random.between(shortest, most + 2)] {
-        let mut room = filled_room(space);
-        let expected = merged(first, second, &room);
-        let answer = list_merge(first, second, &mut room);
-        assert_eq!((answer, room), expected, "{first:?} {second:?}");
+        let (mut one, mut other) = (filled_room(space), filled_room(space));
+        let merged = list_merge(first, second, &mut one);
+        let expected = plain::list_merge(first, second, &mut other);
+        assert_eq!(ours(merged), theirs(expected), "{first:?} {second:?}");
+        assert_eq!(one, other, "the room of a merge");
     }
-    let judged = names_of_both(first, second).map_or_else(|refused| refused, |_| answer(0, 0));
-    assert_eq!(list_judge(first, second), judged);
+    let judged = list_judge(first, second);
+    assert_eq!(ours(judged), theirs(plain::list_judge(first, second)));
     let counts = [0, 1, usize::MAX, random.below(40), random.below(40)];
     for passed_first in counts {
         for passed_second in counts {
-            let shown = list_head(first, second, passed_first, passed_second);
-            assert_eq!(shown, head(first, second, [passed_first, passed_second]));
+            let head = list_head(first, second, passed_first, passed_second);
+            let expected = plain::list_head(first, second, [passed_first, passed_second]);
+            assert_eq!((head.list, head.start, head.length), theirs(expected));
         }
     }
 }
