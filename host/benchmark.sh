@@ -13,7 +13,8 @@
 #
 # The others are the second program, a plain sorted array and, where Debian's packages libmarisa-dev and librust-fst-dev are installed,
 # marisa and fst. These two are compiled here, from compare/peers and from the packages, and loaded while the program runs; nothing
-# else in the repository knows of them. Where one is not there, the page says so.
+# else in the repository knows of them. Where one is not there, the page says so. Merging stands beside `sort -mu`, on lines of the same
+# names.
 #
 # The archive is the one that MISTROGU_ARCHIVE names, or a new one from archive.sh.
 set -eu

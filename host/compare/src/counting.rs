@@ -11,7 +11,7 @@ use std::env;
 use std::fs;
 use std::hint::black_box;
 use std::path::Path;
-use std::process::Command;
+use std::process::{Command, Stdio};
 
 /// The word that makes the program run every call once.
 pub const INNER: &str = "--calls";
@@ -53,19 +53,14 @@ pub fn count(
 ) -> Result<BTreeMap<(usize, Step), Vec<u64>>, String> {
     let profile = work.join("profile");
     let program = env::current_exe().map_err(|error| error.to_string())?;
-    let status = Command::new("valgrind")
-        .args(["--quiet", "--tool=callgrind"])
-        .arg(format!("--callgrind-out-file={}", profile.display()))
+    let mut valgrind = callgrind(&profile);
+    valgrind
         .arg(format!("--toggle-collect={PATTERN}"))
         .arg(format!("--dump-after={PATTERN}"))
         .arg(program)
         .arg(INNER)
-        .args(peers)
-        .status()
-        .map_err(|error| format!("valgrind: {error}"))?;
-    if !status.success() {
-        return Err("the calls failed under valgrind".to_string());
-    }
+        .args(peers);
+    run(valgrind)?;
     let mut number = 0;
     let mut counts = BTreeMap::new();
     for item in items {
@@ -77,6 +72,40 @@ pub fn count(
         counts.insert((item.subject, item.step), of_item);
     }
     Ok(counts)
+}
+
+/// The instructions of another program with its words, from its start to its
+/// end; what it prints is dropped.
+pub fn count_program(command: &Command, profile: &Path) -> Result<u64, String> {
+    let mut valgrind = callgrind(profile);
+    valgrind
+        .arg(command.get_program())
+        .args(command.get_args())
+        .stdout(Stdio::null());
+    for (name, value) in command.get_envs() {
+        valgrind.env(name, value.unwrap_or_default());
+    }
+    run(valgrind)?;
+    total(profile)
+}
+
+/// Callgrind, which writes to this profile; what it runs is put behind.
+fn callgrind(profile: &Path) -> Command {
+    let mut valgrind = Command::new("valgrind");
+    valgrind
+        .args(["--quiet", "--tool=callgrind"])
+        .arg(format!("--callgrind-out-file={}", profile.display()));
+    valgrind
+}
+
+/// Runs callgrind.
+fn run(mut valgrind: Command) -> Result<(), String> {
+    let status = valgrind.status();
+    let status = status.map_err(|error| format!("valgrind: {error}"))?;
+    if !status.success() {
+        return Err("the calls failed under valgrind".to_string());
+    }
+    Ok(())
 }
 
 /// The total of a profile.

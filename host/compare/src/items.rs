@@ -1,8 +1,9 @@
 //! Every call that is measured, with all that goes into it.
 
 use crate::loaded::Loaded;
+use crate::merging;
 use crate::Numbers;
-use compare::mix::{positions, questions, EACH};
+use compare::mix::{positions, questions, two_lists, EACH};
 use compare::sorted::Sorted;
 use compare::stations::{stations, BLOCK};
 use compare::steps::{Step, Subject, LIBRARY, MODEL, REFERENCE, ROWS, SORTED};
@@ -21,6 +22,10 @@ pub struct Data {
     pub names: Names,
     /// Their list.
     pub list: Vec<u8>,
+    /// Two parts of the names, with some in common, which are merged to all.
+    pub parts: [Names; 2],
+    /// The lists of these.
+    pub lists: [Vec<u8>; 2],
     /// Their book.
     pub book: Vec<u8>,
     /// The questions.
@@ -59,10 +64,14 @@ impl Data {
             rows.push((number, buffer.len()));
             buffer.extend_from_slice(&questions[number]);
         }
+        let parts = two_lists(&names);
+        let [first, second] = &parts;
         Box::leak(Box::new(Data {
             list: model::write_list(&names),
+            lists: [model::write_list(first), model::write_list(second)],
             book: model::book_of(BLOCK, &names),
             positions: positions(&names, READS),
+            parts,
             names,
             questions,
             answers,
@@ -86,12 +95,12 @@ fn accepted((first, second): (usize, usize)) -> Numbers {
 }
 
 /// The numbers of the library's answer.
-fn of_library(answer: proved::Answer) -> Numbers {
+pub fn of_library(answer: proved::Answer) -> Numbers {
     [answer.code, answer.first, answer.second]
 }
 
 /// The numbers of the reference's answer.
-fn of_reference(answer: reference::Answer) -> Numbers {
+pub fn of_reference(answer: reference::Answer) -> Numbers {
     [answer.code, answer.first, answer.second]
 }
 
@@ -252,6 +261,7 @@ pub fn items(data: &'static Data, peers: &[(String, Loaded)]) -> (Vec<Subject>, 
     let mut items = checked_items(data, library());
     items.extend(checked_items(data, reference()));
     items.extend(model_items(data));
+    items.extend(merging::items(data));
 
     let starts = Box::leak(Box::new([0; MOST_NAMES]));
     let sorted = Sorted::build(&data.list, starts).expect("the list is sound");
@@ -275,7 +285,7 @@ fn subject(name: &str, size: usize) -> Subject {
 }
 
 /// An item of this subject.
-fn item(subject: usize, step: Step, call: impl Call + 'static) -> Item {
+pub fn item(subject: usize, step: Step, call: impl Call + 'static) -> Item {
     Item {
         subject,
         step,

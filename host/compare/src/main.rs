@@ -8,6 +8,7 @@
 mod counting;
 mod items;
 mod loaded;
+mod merging;
 // As `bench` measures it.
 #[path = "../../bench/src/stack.rs"]
 mod stack;
@@ -87,6 +88,7 @@ fn measure(folder: &Path, words: &[String]) -> Result<(), String> {
 
     eprintln!("instructions");
     let instructions = counting::count(&items, words, &work)?;
+    let sort = merging::count_sort(data, &work)?;
     fs::remove_dir_all(&work).map_err(|error| format!("{}: {error}", work.display()))?;
     eprintln!("stack");
     let mut stacks = BTreeMap::new();
@@ -100,12 +102,14 @@ fn measure(folder: &Path, words: &[String]) -> Result<(), String> {
         instructions,
         times,
         stacks,
+        sort,
     };
     let about = About {
         names: data.names.len(),
         list: data.list.len(),
         nodes: node_count(&data.names),
         questions: data.questions.len(),
+        merged: data.parts.each_ref().map(Vec::len),
         rounds: timing::ROUNDS,
         left_out,
     };

@@ -1,4 +1,4 @@
-//! The questions and positions of the comparison, the same ones each time.
+//! The questions, positions and lists of the comparison, the same ones each time.
 
 use vectors::lists::Names;
 use vectors::questions::{of_shape, SHAPES};
@@ -21,4 +21,14 @@ pub fn questions(names: &Names) -> Names {
 pub fn positions(names: &Names, count: usize) -> Vec<usize> {
     let last = names.len() - 1;
     (0..count).map(|turn| turn * last / (count - 1)).collect()
+}
+
+/// Two lists to merge: of each three names the first list has one, the second
+/// another, and both have the third.
+pub fn two_lists(names: &Names) -> [Names; 2] {
+    [1, 0].map(|others| {
+        let numbered = names.iter().enumerate();
+        let own = numbered.filter(|(number, _)| number % 3 != others);
+        own.map(|(_, name)| name.clone()).collect()
+    })
 }

@@ -24,6 +24,8 @@ pub enum Step {
     HeldRead,
     /// A question of this kind, to names that are already at hand.
     HeldAsk(Kind),
+    /// Merging two lists.
+    Merge,
 }
 
 /// How many rows a batch has here: as many as it can have.
@@ -66,6 +68,8 @@ pub struct Figures {
     pub times: BTreeMap<(usize, Step), Vec<f64>>,
     /// The deepest stack in bytes.
     pub stacks: BTreeMap<(usize, Step), usize>,
+    /// Instructions of `sort -mu`, merging the lines of the same names.
+    pub sort: u64,
 }
 
 impl Figures {

@@ -15,6 +15,8 @@ pub struct About {
     pub nodes: usize,
     /// How many questions are asked in each kind.
     pub questions: usize,
+    /// How many names either of the two lists has that are merged to all.
+    pub merged: [usize; 2],
     /// How many times everything was timed.
     pub rounds: usize,
     /// What was left out, a sentence each.
@@ -55,6 +57,7 @@ pub fn page(about: &About, subjects: &[Subject], figures: &Figures) -> String {
         held_instructions(subjects, figures),
         times(about, subjects, figures),
         stacks(subjects, figures),
+        merging(about, subjects, figures),
     ];
     sections.join("\n")
 }
@@ -203,6 +206,37 @@ fn stacks(subjects: &[Subject], figures: &Figures) -> String {
         "## Stack in bytes\n\nThe deepest of all inputs, with the measuring's own frames, under 100 bytes. What is on the heap is not counted: \
          Mistrogu, the reference and the sorted array use none.\n\n{}",
         table("Call", subjects, &rows)
+    )
+}
+
+/// Two lists merged: a row for each subject that can.
+fn merging(about: &About, subjects: &[Subject], figures: &Figures) -> String {
+    let shown = |cell: Option<String>| cell.unwrap_or(NONE.to_string());
+    let times = |subject| figures.whole_times(subject, Step::Merge);
+    let row = |subject: usize| {
+        let spread = figures.whole(subject, Step::Merge)?;
+        let base = times(LIBRARY);
+        let time = times(subject).zip(base);
+        let depth = figures.stacks.get(&(subject, Step::Merge));
+        Some(format!(
+            "| {} | {} | {} | {} |\n",
+            subjects[subject].name,
+            grouped(spread.mean),
+            shown(time.map(|(times, base)| ratio(median_ratio(&times, &base)))),
+            shown(depth.map(|&depth| grouped(depth as f64))),
+        ))
+    };
+    let rows: String = (0..subjects.len()).filter_map(row).collect();
+    let [first, second] = about.merged;
+    format!(
+        "## Two lists merged\n\nLists of {} and {} names, {} of them in both, are merged to the list of all. Mistrogu and the reference judge both \
+         lists, then go over them to count and once more to write. `sort -mu` merges lines of the same names by their bytes (LC_ALL=C), and judges \
+         nothing; what it takes for two empty files is taken off. In the column of times Mistrogu's is 1.\n\n\
+         | | Instructions | Time | Stack in bytes |\n|---|---:|---:|---:|\n{rows}| `sort -mu` of the lines | {} | {NONE} | {NONE} |\n",
+        grouped(first as f64),
+        grouped(second as f64),
+        grouped((first + second - about.names) as f64),
+        grouped(figures.sort as f64),
     )
 }
 

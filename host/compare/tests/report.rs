@@ -28,6 +28,8 @@ fn made_up() -> (Vec<Subject>, Figures) {
     note(LIBRARY, Step::Check, &[100_010], 6400.0);
     note(LIBRARY, Step::Batch, &[164_010], 7040.0);
     note(REFERENCE, Step::Check, &[90_010], 3200.0);
+    note(LIBRARY, Step::Merge, &[300_010], 5000.0);
+    note(REFERENCE, Step::Merge, &[200_010], 4000.0);
     for kind in Kind::ALL {
         note(LIBRARY, Step::Ask(kind), &[100_410, 100_810], 6401.0);
         note(LIBRARY, Step::BatchOf(kind), &[164_010], 6400.0);
@@ -37,6 +39,7 @@ fn made_up() -> (Vec<Subject>, Figures) {
         note(MODEL, Step::HeldAsk(kind), &[7_010], 50.0);
         note(SORTED, Step::Ask(kind), &[710], 20.0);
     }
+    figures.sort = 400_000;
     (subjects.to_vec(), figures)
 }
 
@@ -69,6 +72,7 @@ fn the_page_has_a_row_for_each_call_and_says_what_is_left_out() {
         list: 37_257,
         nodes: 2451,
         questions: 100,
+        merged: [1200, 1150],
         rounds: 2,
         left_out: vec!["fst is left out.".to_string()],
     };
@@ -81,10 +85,16 @@ fn the_page_has_a_row_for_each_call_and_says_what_is_left_out() {
         "| row of a batch, without | 1,000 | - | - | - |",
         "| build | - | - | - | - |",
         "| check | 64 | 64 | - | - |",
+        "| Mistrogu | 300,000 | 1.00 | 64 |",
+        "| reference | 200,000 | 0.80 | 64 |",
+        "| `sort -mu` of the lines | 400,000 | - | - |",
         "fst is left out.",
     ] {
         assert!(page.lines().any(|other| other == line), "{line}\n{page}");
     }
+    let lists = "Lists of 1,200 and 1,150 names, 550 of them in both,";
+    assert!(page.contains(lists), "{page}");
+    assert!(!page.contains("| sorted array | 0"), "it merges nothing");
 }
 
 #[test]
