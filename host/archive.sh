@@ -50,8 +50,8 @@ RATTLE_HOME=$work/kit rt staticlib "$library" >&2
 [ -f "$work/module.bc" ] || { echo "archive.sh: the prover handed no module to its compiler" >&2; exit 1; }
 
 # The module as text, without the words on x86-64; the compiler puts in those of its target. The calls get other names there, and
-# native.c has them as this processor's C sees them. Inner functions have the name of their crate and :: in theirs, so none is called like
-# that; and a call that native.c does not have is then missed by whoever links it.
+# native.c has them as this processor's C sees them. Inner functions have the name of their crate and :: in theirs, and keep it; a call that
+# native.c does not have is missed when it is linked.
 clang=$tools/bin/clang
 target=${MISTROGU_TARGET:-$machine-unknown-linux-gnu}
 "$clang" --target=x86_64-unknown-linux-gnu -S -emit-llvm -Xclang -disable-llvm-passes -x ir "$work/module.bc" -o "$work/module.ll"
