@@ -29,9 +29,7 @@ fn run(words: &Words, streams: &mut Streams) -> Outcome {
     for input in inputs {
         files::spare_input(input, output)?;
     }
-    // Both are read before one is refused, so that all bad lines are told.
-    let [first, second] = inputs.map(|input| Text::read(input, streams));
-    let texts = [first?, second?];
+    let texts = read_texts(inputs, streams)?;
     let shared = count_shared(&texts);
     let list = merge(&texts, shared)?;
     let merged = names::in_records(&list);
@@ -53,6 +51,18 @@ fn read_inputs(words: &Words) -> Result<[&OsString; 2], Failure> {
         ))),
         _ => Err(Failure::usage("give two files with names; one may be -")),
     }
+}
+
+/// Reads both texts. The second is read also where the first is refused, so that
+/// the bad lines of both are told.
+fn read_texts(inputs: [&OsString; 2], streams: &mut Streams) -> Result<[Text; 2], Failure> {
+    let [first, second] = inputs;
+    let first = match Text::read(first, streams) {
+        Err(failure @ Failure::File(_)) => return Err(failure),
+        first => first,
+    };
+    let second = Text::read(second, streams);
+    Ok([first?, second?])
 }
 
 /// How many names are in both texts.
