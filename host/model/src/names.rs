@@ -7,7 +7,7 @@ use crate::refusals::{BAD_RECORD, NOT_RISING, TOO_MANY_NAMES};
 
 /// A name has 1 to 200 bytes.
 pub const LONGEST_NAME: usize = 200;
-/// A list has 0 to 2,000 names.
+/// The list of a book has 0 to 2,000 names, and so has a merged list.
 pub const MOST_NAMES: usize = 2000;
 /// The symbol after the last byte. It is below the symbol of every byte.
 pub const END_SYMBOL: usize = 0;
@@ -51,12 +51,17 @@ pub fn leading_equal<T: PartialEq>(one: &[T], other: &[T]) -> usize {
     pairs.take_while(|(left, right)| left == right).count()
 }
 
-/// Reads the records of a list: all names, or the refusal of the first bad
-/// record together with that record's number, counted from 0.
+/// Reads the records of the list of a book: all names, or the refusal of the
+/// first bad record together with that record's number, counted from 0.
+pub fn read_list(list: &[u8]) -> Result<Vec<Vec<u8>>, (usize, usize)> {
+    read_names(list, MOST_NAMES)
+}
+
+/// The same of a list that may have so many names and no more.
 ///
 /// Each record is asked 5, then 6, then 7, before the next one is looked at
 /// ("The first bad record ends the reading").
-pub fn read_list(list: &[u8]) -> Result<Vec<Vec<u8>>, (usize, usize)> {
+pub fn read_names(list: &[u8], most: usize) -> Result<Vec<Vec<u8>>, (usize, usize)> {
     let mut names: Vec<Vec<u8>> = Vec::new();
     let mut unread = list;
     while !unread.is_empty() {
@@ -69,7 +74,7 @@ pub fn read_list(list: &[u8]) -> Result<Vec<Vec<u8>>, (usize, usize)> {
                 return Err((NOT_RISING, record));
             }
         }
-        if record == MOST_NAMES {
+        if record == most {
             return Err((TOO_MANY_NAMES, record));
         }
         names.push(name.to_vec());

@@ -3,7 +3,9 @@
 mod common;
 
 use common::{mar_names, names, MAR_LIST};
-use model::names::{is_less, is_sound_list, is_strictly_rising, leading_equal, symbols};
+use model::names::{
+    is_less, is_sound_list, is_strictly_rising, leading_equal, read_names, symbols,
+};
 use model::{read_list, write_list};
 
 // Symbols
@@ -224,6 +226,14 @@ fn refusal_7_for_a_2001st_name() {
 fn the_2000th_name_is_read() {
     let names = common::many_names(2000);
     assert_eq!(read_list(&write_list(&names)), Ok(names));
+}
+
+#[test]
+fn refusal_7_for_a_name_more_than_a_list_may_have() {
+    assert_eq!(read_names(MAR_LIST, 3), Ok(mar_names()));
+    assert_eq!(read_names(MAR_LIST, 2), Err((7, 2)));
+    assert_eq!(read_names(MAR_LIST, 0), Err((7, 0)));
+    assert_eq!(read_names(b"", 0), Ok(vec![]));
 }
 
 // Order of 5, 6 and 7
