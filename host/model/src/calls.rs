@@ -1,4 +1,5 @@
-//! The public calls.
+//! The public calls that have to do with a book; those of two lists stand in
+//! `merging`.
 //!
 //! Renders what document 01 says below the table of refusals: in which order
 //! each call looks for a refusal, what stands beside the code, and what is
@@ -41,7 +42,7 @@ pub struct Row {
 }
 
 /// Code 0 and the two numbers of the answer.
-fn accepted(first: usize, second: usize) -> Answer {
+pub(crate) fn accepted(first: usize, second: usize) -> Answer {
     Answer {
         code: 0,
         first,
@@ -56,16 +57,22 @@ fn refused(code: usize) -> Answer {
 
 /// A refusal of one list record, which brings the record's number.
 fn refused_record(code: usize, record: usize) -> Answer {
+    refused_in_list(code, record, 0)
+}
+
+/// A refusal where there are two lists, which brings a record's number and the
+/// list's: 1 or 2, and 0 where it is neither.
+pub(crate) fn refused_in_list(code: usize, record: usize, list: usize) -> Answer {
     Answer {
         code,
         first: record,
-        second: 0,
+        second: list,
     }
 }
 
 /// Writes the output to the front of the room and gives its length, or
 /// refuses with 4 and writes nothing.
-fn write_out(output: &[u8], room: &mut [u8]) -> Answer {
+pub(crate) fn write_out(output: &[u8], room: &mut [u8]) -> Answer {
     match room.get_mut(..output.len()) {
         None => refused(ROOM_TOO_SHORT),
         Some(front) => {

@@ -1,11 +1,11 @@
 //! The second program of Mistrogu.
 //!
-//! Everything that document 01 asks for, with what document 02's change request
-//! 1 (width) adds to it, done over a plain sorted list of byte strings. Nothing
-//! here is fast and nothing is meant to be. A reader with the documents in the
-//! other hand should be able to believe each function at sight, because test
-//! vectors for the proved library come from this crate. It shares no line with
-//! that library.
+//! Everything that document 01 asks for, with what document 02's change requests
+//! 1 (width) and 2 (merging) add to it, done over a plain sorted list of byte
+//! strings. Nothing here is fast and nothing is meant to be. A reader with the
+//! documents in the other hand should be able to believe each function at sight,
+//! because test vectors for the proved library come from this crate. It shares no
+//! line with that library.
 //!
 //! Where to look:
 //!
@@ -18,6 +18,7 @@
 //! | [`questions`] | exact, place, range, nearest; width (document 02) |
 //! | [`refusals`] | the numbers given back when a call says no |
 //! | [`calls`] | the public calls, each with its refusals in their order |
+//! | [`merging`] | the calls of two lists: merge, judge and step (document 02) |
 //! | [`programs`] | what the building and the listing program write |
 //!
 //! The running example is the list Mar, Marina, Market Square.
@@ -27,6 +28,7 @@
 
 pub mod calls;
 pub mod layout;
+pub mod merging;
 pub mod names;
 pub mod open;
 pub mod programs;
@@ -39,6 +41,7 @@ pub use calls::{
     book_read, book_width, Answer, Row,
 };
 pub use layout::book_of;
+pub use merging::{list_head, list_judge, list_merge, list_step, Head};
 pub use names::{read_list, write_list};
 pub use open::open;
 pub use programs::{listing, make_book};

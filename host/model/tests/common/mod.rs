@@ -4,7 +4,7 @@
 // Each test file is a program of its own and uses only some of these.
 #![allow(dead_code)]
 
-use model::{book_build, write_list, Answer};
+use model::{book_build, write_list, Answer, Head};
 
 /// The book of Mar, Marina, Market Square with k = 2. Not produced by any
 /// code: each byte is copied from document 01, "A book in full", but for each
@@ -62,6 +62,9 @@ pub const UNSET: Answer = Answer {
     second: 903,
 };
 
+/// The empty part of the first list.
+pub const EMPTY_PART: Head = head(1, 0, 0);
+
 /// Names given as texts.
 pub fn names(texts: &[&str]) -> Vec<Vec<u8>> {
     texts.iter().map(|text| text.as_bytes().to_vec()).collect()
@@ -93,6 +96,15 @@ pub fn answer(code: usize, first: usize, second: usize) -> Answer {
         code,
         first,
         second,
+    }
+}
+
+/// Any head.
+pub const fn head(list: usize, start: usize, length: usize) -> Head {
+    Head {
+        list,
+        start,
+        length,
     }
 }
 
