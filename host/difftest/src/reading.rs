@@ -5,13 +5,13 @@ use crate::lent::{any_room, any_room_length, hex};
 use crate::same_answer;
 use fenced::on_stack;
 use mistrogu::STACK;
-use vectors::lists::Names;
 use vectors::random::Random;
+use vectors::sets::word;
 
 /// Makes one call of both programs: the code they agree on, or the whole case.
 pub fn run(random: &mut Random) -> Result<usize, String> {
     let (book, names) = any_book(random);
-    let position = any_position(random, &names);
+    let position = word(random.around(names.len()));
     let length = names.get(position).map_or(20, Vec::len);
     let room_length = any_room_length(random, length);
     let lent = any_room(random, room_length);
@@ -34,18 +34,4 @@ pub fn run(random: &mut Random) -> Result<usize, String> {
         format!("room found    {}", found.shown(hex)),
     ]
     .join("\n"))
-}
-
-/// A position: mostly that of a name, now and then past the last.
-fn any_position(random: &mut Random, names: &Names) -> usize {
-    let past = [0, 1, 255, 65_535, 65_536, u64::from(u32::MAX)];
-    match random.below(24) {
-        0 => random.any() as usize,
-        1 => usize::MAX,
-        2 => names.len() + *random.one_of(&past) as usize,
-        3 => names.len(),
-        4 => names.len().saturating_sub(1),
-        _ if names.is_empty() => 0,
-        _ => random.below(names.len()),
-    }
 }

@@ -69,7 +69,7 @@ fn deep(random: &mut Random) -> Names {
     if !random.once_in(3) {
         names.extend(lists::mirror(byte, above, mirror));
     }
-    some_of(random, lists::sorted(names))
+    lists::some_of(random, &lists::sorted(names))
 }
 
 /// Some children of a node that has as many as there can be, and some of one
@@ -78,7 +78,7 @@ fn wide(random: &mut Random) -> Names {
     let stem = random.string(&lists::all_bytes(), 1, 6);
     let below = [stem.clone(), random.string(&lists::all_bytes(), 1, 2)].concat();
     let names = [lists::fan(&stem), lists::fan(&below)].concat();
-    some_of(random, lists::sorted(names))
+    lists::some_of(random, &lists::sorted(names))
 }
 
 /// Shapes that cost most, not as large as they can be.
@@ -140,11 +140,4 @@ fn as_large_as_can_be(random: &mut Random, block: usize) -> Names {
         return names;
     }
     lists::with_book_length(&names, block, wanted)
-}
-
-/// The list with some names left out, more or fewer.
-fn some_of(random: &mut Random, names: Names) -> Names {
-    let kept = random.between(1, 8);
-    let names = names.into_iter();
-    names.filter(|_| random.below(8) < kept).collect()
 }

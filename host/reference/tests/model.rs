@@ -156,7 +156,7 @@ fn refuses_every_change_that_the_second_program_refuses() {
         let pieces = Pieces::of(block, &names);
         let book = pieces.bytes();
         let mut spoilt = damage::changed_bytes(&book);
-        spoilt.extend(damage::cut_books(&book));
+        spoilt.extend(damage::cut_bytes(&book));
         for change in [
             damage::other_counts,
             damage::large_counts,

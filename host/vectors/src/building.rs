@@ -22,7 +22,7 @@
 //!   touched past the book, or in a refused call, shows.
 
 use crate::damage::{spoil_bytes, spoil_names};
-use crate::lists::{self, Names};
+use crate::lists::{self, followed, Names};
 use crate::random::Random;
 use crate::rooms::{filled_room, printed_outcome};
 use crate::sets::{length_bytes, word, Call, Case, Set};
@@ -99,11 +99,6 @@ fn of_names(why: &str, names: &Names, block: u64, room: usize) -> Case<Build> {
 fn fitting(why: &str, names: &Names, block: u64, spare: usize) -> Case<Build> {
     let room = book_of(block as usize, names).len() + spare;
     of_names(why, names, block, room)
-}
-
-/// The records of these names, then these bytes.
-fn followed(names: &Names, bytes: &[u8]) -> Vec<u8> {
-    [&write_list(names), bytes].concat()
 }
 
 /// The book of 93 bytes and the one of 88, with room on both sides of that.

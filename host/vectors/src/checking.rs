@@ -13,7 +13,7 @@
 //! the answer.
 
 use crate::damage::{
-    changed_bytes, cut_books, other_blocks, other_pieces, other_widths, spoil_book, Spoilt,
+    changed_bytes, cut_bytes, other_blocks, other_pieces, other_widths, spoil_book, Spoilt,
 };
 use crate::hostile;
 use crate::lists::{self, Names};
@@ -201,7 +201,7 @@ fn lists_that_are_none() -> Cases {
 /// Books cut short, and with bytes before or behind them.
 fn bytes_around_a_book() -> Cases {
     let book = book_of(2, &lists::example());
-    let mut cases = of_spoilt("cut", cut_books(&book));
+    let mut cases = of_spoilt("cut", cut_bytes(&book));
     cases.push(of_bytes("a byte behind", [&book[..], &[0]].concat()));
     cases.push(of_bytes("a 1 behind", [&book[..], b"1"].concat()));
     cases.push(of_bytes("a byte before", [&[0], &book[..]].concat()));

@@ -46,15 +46,15 @@ pub fn spoil_bytes(random: &mut Random, list: &mut Vec<u8>) {
     }
 }
 
-/// Spoilt books, each with a word on how.
+/// Spoilt lists or books, each with a word on how.
 pub type Spoilt = Vec<(String, Vec<u8>)>;
 
-/// Each byte of the book one more, then each one less.
-pub fn changed_bytes(book: &[u8]) -> Spoilt {
+/// Each byte of a list or a book one more, then each one less.
+pub fn changed_bytes(sound: &[u8]) -> Spoilt {
     let mut spoilt = Spoilt::new();
     for (step, how) in [(1, "more"), (255, "less")] {
-        for at in 0..book.len() {
-            let mut bytes = book.to_vec();
+        for at in 0..sound.len() {
+            let mut bytes = sound.to_vec();
             bytes[at] = bytes[at].wrapping_add(step);
             spoilt.push((format!("byte {at} one {how}"), bytes));
         }
@@ -62,16 +62,16 @@ pub fn changed_bytes(book: &[u8]) -> Spoilt {
     spoilt
 }
 
-/// Books that are cut short, from behind and from the front, down to one byte.
-pub fn cut_books(book: &[u8]) -> Spoilt {
-    let lengths = 1..book.len();
+/// A list or a book cut short, from behind and from the front, down to one byte.
+pub fn cut_bytes(sound: &[u8]) -> Spoilt {
+    let lengths = 1..sound.len();
     let fronts = lengths.clone().map(|length| {
         let how = format!("the first {length} bytes");
-        (how, book[..length].to_vec())
+        (how, sound[..length].to_vec())
     });
     let ends = lengths.map(|length| {
         let how = format!("the last {length} bytes");
-        (how, book[book.len() - length..].to_vec())
+        (how, sound[sound.len() - length..].to_vec())
     });
     fronts.chain(ends).collect()
 }

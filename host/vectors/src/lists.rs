@@ -6,7 +6,7 @@
 
 use crate::random::Random;
 use format::LONGEST_NAME;
-use model::book_of;
+use model::{book_of, write_list};
 
 /// Names in the order of the list.
 pub type Names = Vec<Vec<u8>>;
@@ -19,6 +19,11 @@ pub fn example() -> Names {
 /// Names given as texts, in the order given, whatever it is.
 pub fn texts(texts: &[&str]) -> Names {
     texts.iter().map(|text| text.as_bytes().to_vec()).collect()
+}
+
+/// The records of these names, then these bytes, whatever they are.
+pub fn followed(names: &Names, bytes: &[u8]) -> Vec<u8> {
+    [&write_list(names), bytes].concat()
 }
 
 /// Sorts the names and drops those that are there twice.
@@ -176,6 +181,26 @@ pub fn grown(random: &mut Random, bytes: &[u8], count: usize, longest_tail: usiz
         names.push(name);
     }
     sorted(names)
+}
+
+/// The list with some names left out, more or fewer.
+pub fn some_of(random: &mut Random, names: &Names) -> Names {
+    let kept = random.between(1, 8);
+    let names = names.iter();
+    names.filter(|_| random.below(8) < kept).cloned().collect()
+}
+
+/// The names shared out to so many lists: each name goes to one of them, or
+/// each list has some of all.
+pub fn shared_out<const LISTS: usize>(random: &mut Random, names: &Names) -> [Names; LISTS] {
+    let mut lists = [(); LISTS].map(|()| Names::new());
+    if random.once_in(3) {
+        for name in names {
+            lists[random.below(LISTS)].push(name.clone());
+        }
+        return lists;
+    }
+    lists.map(|_| some_of(random, names))
 }
 
 /// All 256 bytes, from 0 up: the alphabet of names without any limit.

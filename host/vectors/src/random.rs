@@ -35,6 +35,21 @@ impl Random {
         least + self.below(most - least + 1)
     }
 
+    /// A number that is mostly below `limit`; now and then it is the limit, or
+    /// any number past it.
+    pub fn around(&mut self, limit: usize) -> u64 {
+        let past = [0, 1, 255, 65_535, 65_536, u64::from(u32::MAX)];
+        match self.below(24) {
+            0 => self.any(),
+            1 => u64::MAX,
+            2 => limit as u64 + *self.one_of(&past),
+            3 => limit as u64,
+            4 => limit.saturating_sub(1) as u64,
+            _ if limit == 0 => 0,
+            _ => self.below(limit) as u64,
+        }
+    }
+
     /// True once in so many times.
     pub fn once_in(&mut self, times: usize) -> bool {
         self.below(times) == 0

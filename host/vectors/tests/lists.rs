@@ -44,6 +44,24 @@ fn the_random_lists_are_sound_and_the_same_each_time() {
 }
 
 #[test]
+fn names_are_shared_out_to_sound_lists_with_and_without_names_in_both() {
+    let names = lists::stops();
+    let (mut apart, mut together) = (0, 0);
+    for seed in 0..100 {
+        let [one, other] = lists::shared_out(&mut Random::from_seed(seed), &names);
+        assert!(is_sound_list(&one) && is_sound_list(&other), "seed {seed}");
+        assert!([&one[..], &other]
+            .concat()
+            .iter()
+            .all(|name| names.contains(name)));
+        let in_both = one.iter().filter(|name| other.contains(name)).count();
+        apart += usize::from(in_both == 0 && one.len() + other.len() == names.len());
+        together += usize::from(in_both > 0);
+    }
+    assert!(apart > 20 && together > 40, "{apart} {together}");
+}
+
+#[test]
 fn a_fan_has_the_widest_node_and_a_binary_list_the_most_nodes() {
     assert_eq!(tree(&lists::fan(b"x")).unwrap().children.len(), 257);
     let most = lists::MOST_BINARY;
