@@ -16,6 +16,7 @@
 //! | [`reading`] | the set of `book_read`, likewise |
 //! | [`asking`] | the sets of the five questions, likewise |
 //! | [`batching`] | the set of `book_batch`, likewise |
+//! | [`merging`] | the set of the calls of two lists, likewise |
 //! | [`checksum`] | two small numbers that stand for many |
 //! | [`lists`] | lists of names by their shape |
 //! | [`questions`] | questions by how they stand to a list's names |
@@ -44,6 +45,7 @@ pub mod damage;
 pub mod growth;
 pub mod hostile;
 pub mod lists;
+pub mod merging;
 pub mod pieces;
 pub mod questions;
 pub mod random;
@@ -55,13 +57,14 @@ pub mod worst;
 use sets::Files;
 
 /// Every set, in the order in which a program runs them.
-pub const SETS: [&dyn Files; 6] = [
+pub const SETS: [&dyn Files; 7] = [
     &building::SET,
     &checking::SET,
     &reading::SET,
     &asking::SET,
     &asking::DEAREST,
     &batching::SET,
+    &merging::SET,
 ];
 
 /// What a program that runs every set must print: the sets' texts, one after

@@ -5,7 +5,8 @@
 //! The cases stand one after the other, without gaps, and the file ends behind
 //! the last one. It has fewer than [`LONGEST_FILE`] bytes. Numbers are low byte
 //! first. A case begins with L, the length of the list or book that the call
-//! takes, in four bytes; the module of the call says what follows.
+//! takes, of two lists that of the first, in four bytes; the module of the call
+//! says what follows.
 //!
 //! Many cases in a row may be about the same book. Where the module says so, an L
 //! of 0 stands for the book of the case before; before the first case the book is
