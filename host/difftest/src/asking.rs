@@ -1,8 +1,8 @@
 //! Random calls of the five questions.
 
+use crate::agreeing;
 use crate::books::any_book;
 use crate::lent::{hex, lend};
-use crate::same_answer;
 use fenced::on_stack;
 use mistrogu::STACK;
 use vectors::questions::any_question;
@@ -52,14 +52,8 @@ fn run(
     let question = lend(random, &question);
     let expected = model(&book, &question);
     let found = on_stack(STACK, || proved(&book, &question));
-    if same_answer(expected, found) {
-        return Ok(expected.code);
-    }
-    Err([
-        format!("question {}", hex(&question)),
-        format!("book {}", hex(&book)),
-        format!("expected {expected:?}"),
-        format!("found    {found:?}"),
-    ]
-    .join("\n"))
+    agreeing::on_answer(expected, found).map_err(|answers| {
+        let (question, book) = (hex(&question), hex(&book));
+        format!("question {question}\nbook {book}\n{answers}")
+    })
 }

@@ -1,8 +1,8 @@
 //! Random calls of `book_batch`.
 
+use crate::agreeing::same_answer;
 use crate::books::any_book;
 use crate::lent::{hex, lend, Lent};
-use crate::same_answer;
 use fenced::on_stack;
 use mistrogu::STACK;
 use vectors::batches::{any_batch, any_places};

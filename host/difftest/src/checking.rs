@@ -1,8 +1,8 @@
 //! Random calls of `book_check`.
 
+use crate::agreeing;
 use crate::books::any_book;
 use crate::lent::hex;
-use crate::same_answer;
 use fenced::on_stack;
 use mistrogu::STACK;
 use vectors::random::Random;
@@ -12,13 +12,6 @@ pub fn run(random: &mut Random) -> Result<usize, String> {
     let (book, _) = any_book(random);
     let expected = model::book_check(&book);
     let found = on_stack(STACK, || proved::book_check(&book));
-    if same_answer(expected, found) {
-        return Ok(expected.code);
-    }
-    Err([
-        format!("book {}", hex(&book)),
-        format!("expected {expected:?}"),
-        format!("found    {found:?}"),
-    ]
-    .join("\n"))
+    agreeing::on_answer(expected, found)
+        .map_err(|answers| format!("book {}\n{answers}", hex(&book)))
 }

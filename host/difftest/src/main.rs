@@ -14,6 +14,7 @@
 //!
 //! Another call is a module with one function, and one more line in [`KINDS`].
 
+mod agreeing;
 mod asking;
 mod batching;
 mod books;
@@ -21,6 +22,7 @@ mod building;
 mod checking;
 mod lent;
 mod reading;
+mod records;
 mod shapes;
 mod tally;
 
@@ -80,11 +82,6 @@ const KINDS: [Kind; 9] = [
         run: batching::run,
     },
 ];
-
-/// Whether both programs answered the same.
-pub fn same_answer(expected: model::Answer, found: proved::Answer) -> bool {
-    (expected.code, expected.first, expected.second) == (found.code, found.first, found.second)
-}
 
 /// When to stop.
 enum Until {
