@@ -21,6 +21,7 @@ mod books;
 mod building;
 mod checking;
 mod lent;
+mod merging;
 mod reading;
 mod records;
 mod shapes;
@@ -44,7 +45,7 @@ pub struct Kind {
 }
 
 /// Every kind of call, as often as the others.
-const KINDS: [Kind; 9] = [
+const KINDS: [Kind; 12] = [
     Kind {
         name: "build",
         run: building::run,
@@ -80,6 +81,18 @@ const KINDS: [Kind; 9] = [
     Kind {
         name: "batch",
         run: batching::run,
+    },
+    Kind {
+        name: "merge",
+        run: merging::merge,
+    },
+    Kind {
+        name: "judge",
+        run: merging::judge,
+    },
+    Kind {
+        name: "head",
+        run: merging::head,
     },
 ];
 

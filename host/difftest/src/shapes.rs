@@ -6,6 +6,9 @@ use vectors::lists::{self, Names};
 use vectors::random::Random;
 use vectors::worst::{self, Comb};
 
+/// The block size to name where no book is made of a list.
+pub const ANY_BLOCK: usize = 16;
+
 /// A rising list of one of the shapes below. The large ones are rare, since the
 /// second program takes its time over them.
 pub fn any_names(random: &mut Random, block: usize) -> Names {
@@ -115,7 +118,7 @@ fn shortest_and_longest(random: &mut Random) -> Names {
 }
 
 /// About 2,000 names, sometimes more.
-fn as_many_as_can_be(random: &mut Random) -> Names {
+pub fn as_many_as_can_be(random: &mut Random) -> Names {
     let count = random.between(MOST_NAMES - 2, MOST_NAMES + 2);
     match random.below(3) {
         0 => lists::pairs(count),
