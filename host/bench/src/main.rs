@@ -18,7 +18,6 @@ mod building;
 mod checking;
 mod merging;
 mod mixed;
-mod plain;
 mod reading;
 mod shaped;
 mod stack;

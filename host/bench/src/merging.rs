@@ -1,14 +1,17 @@
 //! `list_merge`, `list_judge` and `list_head`, of the lists in two files; and a
 //! list parted into two, to merge them again.
 
-use crate::{plain, read_file, read_number, Ready};
+use crate::{read_file, read_number, Ready};
+use model::names::read_names;
+use model::{list_head, list_judge, list_merge, write_list};
 use std::fs;
+use vectors::lists::Names;
 
 /// Makes `list_merge` ready from two files' names, with a room for both lists.
 pub fn merge(words: &[String]) -> Result<Ready, String> {
     let [first, second] = read_lists(words)?;
     let mut room = vec![0; first.len() + second.len()];
-    let expected = plain::list_merge(&first, &second, &mut room);
+    let expected = list_merge(&first, &second, &mut room);
     Ok(Ready {
         measured: Box::new(move || measured_merge(&first, &second, &mut room)),
         expected,
@@ -18,7 +21,7 @@ pub fn merge(words: &[String]) -> Result<Ready, String> {
 /// Makes `list_judge` ready from two files' names.
 pub fn judge(words: &[String]) -> Result<Ready, String> {
     let [first, second] = read_lists(words)?;
-    let expected = plain::list_judge(&first, &second);
+    let expected = list_judge(&first, &second);
     Ok(Ready {
         measured: Box::new(move || measured_judge(&first, &second)),
         expected,
@@ -33,18 +36,22 @@ pub fn step(words: &[String]) -> Result<Ready, String> {
         return Err("step needs the names of two list files and two numbers".to_string());
     };
     let [first, second] = read_lists(files)?;
-    let passed = [read_number(passed_first)?, read_number(passed_second)?];
-    let expected = plain::list_head(&first, &second, passed);
+    let (passed_first, passed_second) = (read_number(passed_first)?, read_number(passed_second)?);
+    let expected = list_head(&first, &second, passed_first, passed_second);
     Ok(Ready {
         measured: Box::new(move || {
-            let head = measured_step(&first, &second, passed);
+            let head = measured_step(&first, &second, passed_first, passed_second);
             proved::Answer {
                 code: head.list,
                 first: head.start,
                 second: head.length,
             }
         }),
-        expected,
+        expected: model::Answer {
+            code: expected.list,
+            first: expected.start,
+            second: expected.length,
+        },
     })
 }
 
@@ -63,22 +70,21 @@ pub fn split(words: &[String]) -> Result<String, String> {
         return Err("split needs the names of a list file and of two new ones".to_string());
     };
     let list = read_file(file)?;
-    let names = plain::names_of(&list);
+    let names = read_names(&list, usize::MAX);
     let names =
         names.map_err(|(code, record)| format!("{file}: record {record}: refusal {code}"))?;
     let mut lines = Vec::new();
     for (path, first) in [(odd, 1), (even, 0)] {
-        let part: Vec<Vec<u8>> = every_second(&names, first);
-        fs::write(path, model::write_list(&part)).map_err(|error| format!("{path}: {error}"))?;
+        let part = every_second(&names, first);
+        fs::write(path, write_list(&part)).map_err(|error| format!("{path}: {error}"))?;
         lines.push(format!("{path}: {} names", part.len()));
     }
     Ok(lines.join("\n"))
 }
 
 /// Every second name, from this one on.
-fn every_second(names: &[&[u8]], first: usize) -> Vec<Vec<u8>> {
-    let names = names.iter().skip(first).step_by(2);
-    names.map(|name| name.to_vec()).collect()
+fn every_second(names: &Names, first: usize) -> Names {
+    names.iter().skip(first).step_by(2).cloned().collect()
 }
 
 /// The call that is measured, and nothing else.
@@ -95,25 +101,29 @@ fn measured_judge(first: &[u8], second: &[u8]) -> proved::Answer {
 
 /// The same for `list_head`.
 #[inline(never)]
-fn measured_step(first: &[u8], second: &[u8], passed: [usize; 2]) -> proved::Head {
-    proved::list_head(first, second, passed[0], passed[1])
+fn measured_step(
+    first: &[u8],
+    second: &[u8],
+    passed_first: usize,
+    passed_second: usize,
+) -> proved::Head {
+    proved::list_head(first, second, passed_first, passed_second)
 }
 
 #[cfg(test)]
 mod tests {
     use super::every_second;
-    use crate::plain::{list_merge, names_of};
-    use model::write_list;
+    use model::{list_merge, write_list};
+    use vectors::lists;
 
     #[test]
     fn a_parted_list_is_merged_again() {
-        let list = b"\x03Mar\x06Marina\x0DMarket Square";
-        let names = names_of(list).unwrap();
+        let names = lists::example();
         let [odd, even] = [1, 0].map(|first| write_list(&every_second(&names, first)));
         assert_eq!(odd, b"\x06Marina");
         assert_eq!(even, b"\x03Mar\x0DMarket Square");
-        let mut room = vec![0; list.len()];
+        let mut room = [0; 25];
         assert_eq!(list_merge(&odd, &even, &mut room).code, 0);
-        assert_eq!(room, list);
+        assert_eq!(room[..], write_list(&names));
     }
 }

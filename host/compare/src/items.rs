@@ -105,7 +105,7 @@ pub fn of_reference(answer: reference::Answer) -> Numbers {
 }
 
 /// The numbers of the second program's answer.
-fn of_model(answer: model::Answer) -> Numbers {
+pub fn of_model(answer: model::Answer) -> Numbers {
     [answer.code, answer.first, answer.second]
 }
 

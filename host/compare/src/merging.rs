@@ -1,9 +1,9 @@
 //! Two lists merged, by every subject that can, and by `sort -mu`.
 
 use crate::counting::count_program;
-use crate::items::{item, of_library, of_reference, Call, Data, Item};
+use crate::items::{item, of_library, of_model, of_reference, Call, Data, Item};
 use crate::Numbers;
-use compare::steps::{Step, LIBRARY, REFERENCE};
+use compare::steps::{Step, LIBRARY, MODEL, REFERENCE};
 use std::fs;
 use std::path::Path;
 use std::process::Command;
@@ -45,8 +45,9 @@ pub fn items(data: &'static Data) -> Vec<Item> {
         of(REFERENCE, |first, second, room| {
             of_reference(reference::list_merge(first, second, room))
         }),
-        // Here goes the second program's, which has no such call yet: `MODEL`,
-        // with `of_model` of what `model::list_merge` gives.
+        of(MODEL, |first, second, room| {
+            of_model(model::list_merge(first, second, room))
+        }),
     ]
 }
 

@@ -1,8 +1,4 @@
-//! Merging held to plain sets of names, on sound and on damaged lists.
-
-// As `bench` expects it.
-#[path = "../../bench/src/plain.rs"]
-mod plain;
+//! Merging held to the second program, on sound and on damaged lists.
 
 use model::write_list;
 use reference::{list_head, list_judge, list_merge, Answer};
@@ -21,26 +17,29 @@ fn theirs(answer: model::Answer) -> Numbers {
     (answer.code, answer.first, answer.second)
 }
 
-/// Makes all three calls with these lists and holds them to the sets.
+/// Makes all three calls with these lists.
 fn hold(random: &mut Random, first: &[u8], second: &[u8]) {
     let most = first.len() + second.len();
-    let length = plain::list_merge(first, second, &mut vec![0; most]).first;
+    let length = model::list_merge(first, second, &mut vec![0; most]).first;
     let shortest = length.saturating_sub(2).min(most);
     for space in [0, most, random.between(shortest, most + 2)] {
         let (mut one, mut other) = (filled_room(space), filled_room(space));
         let merged = list_merge(first, second, &mut one);
-        let expected = plain::list_merge(first, second, &mut other);
+        let expected = model::list_merge(first, second, &mut other);
         assert_eq!(ours(merged), theirs(expected), "{first:?} {second:?}");
         assert_eq!(one, other, "the room of a merge");
     }
     let judged = list_judge(first, second);
-    assert_eq!(ours(judged), theirs(plain::list_judge(first, second)));
+    assert_eq!(ours(judged), theirs(model::list_judge(first, second)));
     let counts = [0, 1, usize::MAX, random.below(40), random.below(40)];
     for passed_first in counts {
         for passed_second in counts {
             let head = list_head(first, second, passed_first, passed_second);
-            let expected = plain::list_head(first, second, [passed_first, passed_second]);
-            assert_eq!((head.list, head.start, head.length), theirs(expected));
+            let expected = model::list_head(first, second, passed_first, passed_second);
+            assert_eq!(
+                (head.list, head.start, head.length),
+                (expected.list, expected.start, expected.length)
+            );
         }
     }
 }
@@ -68,7 +67,7 @@ fn any_lists(random: &mut Random) -> [Names; 2] {
 }
 
 #[test]
-fn sound_lists_are_merged_as_sets_are() {
+fn merges_sound_lists_alike() {
     let mut random = Random::from_seed(1);
     hold(&mut random, &[], &[]);
     for _ in 0..600 {
@@ -80,7 +79,7 @@ fn sound_lists_are_merged_as_sets_are() {
 }
 
 #[test]
-fn damaged_lists_are_refused_record_by_record() {
+fn refuses_damaged_lists_alike() {
     let mut random = Random::from_seed(2);
     for _ in 0..1500 {
         let mut names = any_lists(&mut random);
