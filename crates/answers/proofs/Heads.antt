@@ -5,20 +5,20 @@
 --     screen-shows      turn by turn the names of the union, and then nothing
 -- Assumes nothing.
 use Prim.Native.Nat.{ℕ, zero, suc, _+_, _≤_, _<_, zero-le}
-use native.Mathlib.Nat.{le-of-suc-le-suc, lt-irrefl, not-suc-le-zero}
+use native.Mathlib.Nat.{le-of-suc-le-suc, not-suc-le-zero}
 use native.Mathlib.Decide.{ℕ-discrete}
 use native.Mathlib.Omega.{arith}
 use mathlib.Core.Path.{_≡_, refl, sym, ap, ap₂, _∙_, subst}
 use mathlib.Core.Bool.{Bool, true, false}
 use mathlib.Core.List.{List, [], _∷_}
 use lib.Dec.{eqb}
-use lib.ListN.{drop, drop-of-length-le, getD, length, length-drop, take}
+use lib.ListN.{drop, drop-of-length-le, getD, length, length-drop}
 use lib.Seq.{drop-drop, getD-drop}
 use Rattle.words.specs.Words.{Bytes, less, pick, plain, same, word}
 use Rattle.words.proofs.Words.{Ordered, equal, false≠true, greater, less-asym, less-irrefl, lesser, ordered, plain-injective, plain-lawful, same-refl, same-true, word-injective, word-positive}
-use Rattle.format.specs.Alone.{BothRead, Reads}
+use Rattle.format.specs.Alone.{Reads}
 use Rattle.format.specs.Merging.{merged}
-use Rattle.format.specs.Records.{encode, rising}
+use Rattle.format.specs.Records.{rising}
 use Rattle.format.proofs.Merging.{merged-both, merged-first, merged-none, merged-second, rising-drop}
 use Rattle.format.proofs.Records.{ReadNames, encode-fits, encode-name, read-names, rising-first}
 use Rattle.answers.specs.Heads.{Head, bytesOf, headAt, headOf, lesserHead, screen}

@@ -13,7 +13,7 @@ use mathlib.Core.Bool.{Bool, true, false}
 use mathlib.Core.List.{List, [], _∷_, _++_, append-nil}
 use lib.ListN.{drop, getD, length, length-append, length-drop, take}
 use lib.Seq.{drop-append-seam, drop-drop, getD-drop, take-append-seam}
-use Rattle.words.specs.Words.{Bytes, less, pick, plain, word}
+use Rattle.words.specs.Words.{Bytes, less, plain, word}
 use Rattle.words.proofs.Words.{apart, equal, false≠true, greater, less-asym, less-irrefl, lesser, ordered, plain-lawful, word-positive}
 use Rattle.format.specs.Merging.{merged}
 use Rattle.format.specs.Records.{encode}
@@ -172,9 +172,6 @@ module _ {first second : Bytes} {i j : ℕ} {xs ys : List Bytes} (a : RestOf fir
     module _ (there : j ≡ length second → ⊥) (other : ℕ) (w : other ≡ 1 + getD second j 0) where
       q : Headed second j other ys
       q = headed second j other ys b there w
-
-      pub other-fits : j + other ≤ length second
-      other-fits = q .fits
 
       heads : merged plain xs ys ≡ merged plain (p .x ∷ p .others) (q .x ∷ q .others)
       heads = ap₂ (merged plain) (p .all) (q .all)

@@ -7,7 +7,6 @@ use Prim.Native.Nat.{ℕ, _+_, _-_, _≤_, _<_, zero-le}
 use native.Mathlib.Nat.{lt-irrefl}
 use native.Mathlib.Omega.{arith}
 use mathlib.Core.Path.{_≡_, refl, sym, ap, ap₂, _∙_}
-use mathlib.Core.Logic.{inl, inr}
 use mathlib.Core.Bool.{Bool, true, false}
 use mathlib.Core.List.{List, [], _∷_, _++_, append-assoc, append-nil}
 use lib.ListN.{drop, length, length-append, length-drop, take}
@@ -18,7 +17,6 @@ use Rattle.format.specs.Merging.{merged}
 use Rattle.format.specs.Outcomes.{over}
 use Rattle.format.proofs.Records.{encode-append}
 use Rattle.numbers.proofs.Parts.{Copied, copied, lent-front, over-length, part-length}
-use Rattle.words.proofs.Words.{apart}
 use Rattle.merge.specs.Heads.{HeadAsk, HeadSays, RestOf, Step}
 use Rattle.merge.specs.Joining.{Joined, MergeAsk, MergedInto, RecordPut}
 use Rattle.merge.specs.declared.Next.{Next}

@@ -3,9 +3,8 @@
 -- Assumes nothing.
 use Prim.Native.Nat.{ℕ}
 use native.Mathlib.Omega.{arith}
-use mathlib.Core.Path.{_≡_, refl, sym, ap, ap₂, _∙_}
+use mathlib.Core.Path.{_≡_, refl, ap, ap₂}
 use mathlib.Core.List.{List}
-use lib.ListN.{length}
 use Rattle.words.specs.Words.{Bytes, plain}
 use Rattle.format.specs.Outcomes.{Answer as Numbers}
 use Rattle.format.specs.Records.{Names, Reading, Refused, readList}

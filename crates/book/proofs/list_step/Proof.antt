@@ -10,19 +10,19 @@ add-end : tie.Need-add-end
 add-end c =
     let shown = c .before in
     let a = shown .before .before .before .args in
-    end-fits (a .first) (a .second) _ _ (shown .list-head .ensures) (omega arith) (omega arith)
+    omega (arith, end-fits (a .first) (a .second) _ _ (shown .list-head .ensures) (omega arith) (omega arith))
 
 part-result-end : tie.Need-part-result-end
 part-result-end c =
     let shown = c .before .before .before in
     let a = shown .before .before .before .args in
-    in-second (a .first) (a .second) _ _ (shown .list-head .ensures) (c .if1 .taken)
+    omega (arith, in-second (a .first) (a .second) _ _ (shown .list-head .ensures) (c .if1 .taken))
 
 part-result-end-2 : tie.Need-part-result-end-2
 part-result-end-2 c =
     let shown = c .before .before .before in
     let a = shown .before .before .before .args in
-    in-first (a .first) (a .second) _ _ (shown .list-head .ensures) (c .if1 .left)
+    omega (arith, in-first (a .first) (a .second) _ _ (shown .list-head .ensures) (c .if1 .left))
 
 returns : tie.Need-returns
 returns c =
