@@ -1,6 +1,9 @@
 -- Laws of the list records and of the layout. No contract cites them.
+pub mod Computed
 pub mod Records
 pub mod Merging
+pub mod Unions
+pub mod Distinct
 pub mod Entries
 pub mod Groups
 pub mod Widths

@@ -2,7 +2,7 @@
 --     kept-none, kept-all, among-kept, kept-among     the names that pass a test
 --     merged-none, merged-first, merged-second, merged-both     name by name: the other list has ended; the lesser head is the first list's, the second's, both
 --     rising-only, rising-drop, merged-rises      names that rise from one on rise by themselves; so do the last of them; the union of rising lists rises
---     among-left, among-right, among-either     a name is in the union just where it is in one of the two
+--     among-left, among-word, among-right, among-either     a name is in the union just where it is in one of the two
 -- Assumes nothing.
 use Prim.Native.Nat.{ℕ, zero, suc, _+_, _≤_}
 use native.Mathlib.Nat.{lt-irrefl}
@@ -10,12 +10,13 @@ use native.Mathlib.Omega.{arith}
 use mathlib.Core.Path.{_≡_, refl, sym, ap, _∙_, subst}
 use mathlib.Core.Logic.{_⊎_, inl, inr}
 use mathlib.Core.Bool.{Bool, true, false}
-use mathlib.Core.List.{List, List·Memᴰ as Among, List·Memᴰ·append-cases, List·Memᴰ·head as here, List·Memᴰ·tail as there, Memᴰ·append-left, Memᴰ·append-right, [], _∷_, _++_}
+use mathlib.Core.List.{List, List·Memᴰ as Among, List·Memᴰ·append-cases, List·Memᴰ·head as here, List·Memᴰ·tail as there, Memᴰ·append-left, Memᴰ·append-right, Memᴰ·cast, [], _∷_, _++_}
 use lib.ListN.{drop, length}
 use borrow.Author.Tests.{lt-ltb}
 use Rattle.words.specs.Rising.{All, cons, nil}
 use Rattle.words.specs.Words.{Bytes, Lawful, Rule, less, pick, word}
 use Rattle.words.proofs.Lists.{all-map}
+use Rattle.words.proofs.Members.{From}
 use Rattle.words.proofs.Words.{Ordered, equal, greater, less-asym, less-irrefl, less-start, less-trans, lesser, ordered, word-positive}
 use Rattle.format.specs.Records.{goodLength, rising}
 use Rattle.format.specs.Merging.{kept, merged}
@@ -44,7 +45,7 @@ module _ (f : Bytes → Bool) where
       go more true (there k) = there (more k)
       go more false k = there (more k)
 
-  kept-among : {z : Bytes} (ys : List Bytes) → f z ≡ true → Among z ys → Among z (kept f ys)
+  pub kept-among : {z : Bytes} (ys : List Bytes) → f z ≡ true → Among z ys → Among z (kept f ys)
   unfolding kept
   kept-among [] h m = m
   kept-among {z} (y ∷ ys) h (here e) = let k : f y ≡ true = ap f (sym e) ∙ h in rw k (here e)
@@ -54,10 +55,10 @@ module _ (f : Bytes → Bool) where
       go true k = there k
       go false k = k
 
-abbrev below : Rule → Bytes → List Bytes → List Bytes
+abbrev pub below : Rule → Bytes → List Bytes → List Bytes
 below ρ x ys = kept (λ y. less (word ρ y) (word ρ x)) ys
 
-abbrev above : Rule → Bytes → List Bytes → List Bytes
+abbrev pub above : Rule → Bytes → List Bytes → List Bytes
 above ρ x ys = kept (λ y. less (word ρ x) (word ρ y)) ys
 
 -- ---- names that rise from one on are all above it
@@ -173,14 +174,18 @@ module _ (ρ : Rule) where
   among-left (x ∷ xs) ys (here e) = Memᴰ·append-right (below ρ x ys) (here e)
   among-left (x ∷ xs) ys (there m) = Memᴰ·append-right (below ρ x ys) (there (among-left xs (above ρ x ys) m))
 
-  -- names with equal words are one name, as under document 01's rule
-  module _ (ok : Lawful ρ) (one : (a b : Bytes) → word ρ a ≡ word ρ b → a ≡ b) where
-    pub among-right : {z : Bytes} (xs ys : List Bytes) → Among z ys → Among z (merged ρ xs ys)
+  module _ (ok : Lawful ρ) where
+    -- of a name of the second list the union has one with its word
+    pub among-word : {z : Bytes} (xs ys : List Bytes) → Among z ys → From (word ρ) (word ρ z) (merged ρ xs ys)
     unfolding merged
-    among-right [] ys m = m
-    among-right {z} (x ∷ xs) ys m = go (λ k. among-right xs (above ρ x ys) k) (ordered (word ρ z) (word ρ x) (word-positive ρ ok z) (word-positive ρ ok x))
+    among-word {z} [] ys m = record { source = z; member = m; is = refl }
+    among-word {z} (x ∷ xs) ys m = go (λ k. among-word xs (above ρ x ys) k) (ordered (word ρ z) (word ρ x) (word-positive ρ ok z) (word-positive ρ ok x))
       where
-        go : (Among z (above ρ x ys) → Among z (merged ρ xs (above ρ x ys))) → Ordered (word ρ z) (word ρ x) → Among z (below ρ x ys ++ (x ∷ merged ρ xs (above ρ x ys)))
-        go more (lesser h) = Memᴰ·append-left (x ∷ merged ρ xs (above ρ x ys)) (kept-among _ ys h m)
-        go more (equal e) = Memᴰ·append-right (below ρ x ys) (here (one z x e))
-        go more (greater h) = Memᴰ·append-right (below ρ x ys) (there (more (kept-among _ ys h m)))
+        go : (Among z (above ρ x ys) → From (word ρ) (word ρ z) (merged ρ xs (above ρ x ys))) → Ordered (word ρ z) (word ρ x) → From (word ρ) (word ρ z) (below ρ x ys ++ (x ∷ merged ρ xs (above ρ x ys)))
+        go more (lesser h) = record { source = z; member = Memᴰ·append-left (x ∷ merged ρ xs (above ρ x ys)) (kept-among _ ys h m); is = refl }
+        go more (equal e) = record { source = x; member = Memᴰ·append-right (below ρ x ys) (here refl); is = e }
+        go more (greater h) = let s = more (kept-among _ ys h m) in record { source = s .source; member = Memᴰ·append-right (below ρ x ys) (there (s .member)); is = s .is }
+
+    -- names with equal words are one name, as under document 01's rule
+    pub among-right : ((a b : Bytes) → word ρ a ≡ word ρ b → a ≡ b) → {z : Bytes} (xs ys : List Bytes) → Among z ys → Among z (merged ρ xs ys)
+    among-right one {z} xs ys m = let s = among-word xs ys m in Memᴰ·cast (one z (s .source) (s .is)) (s .member)

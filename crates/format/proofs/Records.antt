@@ -1,5 +1,6 @@
 -- A list's bytes and its names: each sound list of names is read from one run of bytes, and no other is read.
 --     encode-append             the records of two lists of names are the records of both
+--     encode-long               a list of names has no more of them than their records have bytes
 --     encode-from, encode-name, encode-fits     the records from number i on, its name, and that both are there
 --     read-skip                 what was skipped does not count
 --     read-encode, read-names, read-sound   the round trip, both ways; for any number of names, and for as many as a book has
@@ -29,6 +30,12 @@ pub encode-append : (xs ys : List Bytes) → encode (xs ++ ys) ≡ encode xs ++ 
 unfolding encode
 encode-append [] ys = refl
 encode-append (x ∷ xs) ys = ap (λ (l : Bytes). length x ∷ x ++ l) (encode-append xs ys) ∙ ap (λ (l : Bytes). length x ∷ l) (sym (append-assoc x (encode xs) (encode ys)))
+
+-- a record has at least its length byte
+pub encode-long : (xs : List Bytes) → length xs ≤ length (encode xs)
+unfolding encode
+encode-long [] = zero-le
+encode-long (x ∷ xs) = omega (arith, length-append x (encode xs), encode-long xs)
 
 -- ---- record number i of the records of some names
 

@@ -1,6 +1,7 @@
 pub mod Records
 pub mod Alone
 pub mod Merging
+pub mod Distinct
 pub mod Entries
 pub mod Widths
 pub mod Nodes

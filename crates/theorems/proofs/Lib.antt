@@ -9,4 +9,5 @@ pub mod Widths
 pub mod Search
 pub mod Calls
 pub mod Merging
+pub mod Unions
 pub mod Examples
