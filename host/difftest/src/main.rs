@@ -1,9 +1,10 @@
 //! The proved library against the second program, on random calls.
 //!
 //! Every case makes one call of both with the same bytes and numbers, and
-//! compares the answer and all lent bytes and rows. The seed is printed first; the same
-//! seed gives the same cases. A difference is printed with the whole case, and
-//! the exit status is then 1.
+//! compares the answer and all lent bytes and rows; those of the laws of merging
+//! compare what the proved library gives in one order with what it gives in
+//! another. The seed is printed first; the same seed gives the same cases. A
+//! difference is printed with the whole case, and the exit status is then 1.
 //!
 //! The proved library is called on exactly as much stack as its header says is
 //! enough, and all that is lent to it has a fence before or behind it. Where it
@@ -20,6 +21,7 @@ mod batching;
 mod books;
 mod building;
 mod checking;
+mod laws;
 mod lent;
 mod merging;
 mod reading;
@@ -45,7 +47,7 @@ pub struct Kind {
 }
 
 /// Every kind of call, as often as the others.
-const KINDS: [Kind; 12] = [
+const KINDS: [Kind; 13] = [
     Kind {
         name: "build",
         run: building::run,
@@ -93,6 +95,10 @@ const KINDS: [Kind; 12] = [
     Kind {
         name: "head",
         run: merging::head,
+    },
+    Kind {
+        name: "merge laws",
+        run: laws::run,
     },
 ];
 
