@@ -2,6 +2,7 @@
 pub mod Places
 pub mod Nearest
 pub mod Widths
+pub mod Lit
 pub mod Calls
 pub mod Merging
 pub mod Heads

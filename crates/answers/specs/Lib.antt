@@ -1,4 +1,5 @@
 pub mod Widths
+pub mod Lit
 pub mod Questions
 pub mod Calls
 pub mod Heads

@@ -9,6 +9,7 @@ use lib.Dec.{ltb, eqb}
 use lib.ListN.{getD, length}
 use Rattle.words.specs.Words.{Bytes, Words, Rule, pick, word, at, shared, less, begins, same}
 use Rattle.format.specs.Nodes.{first, depth, groups}
+use Rattle.answers.specs.Lit.{lit}
 use Rattle.answers.specs.Widths.{width}
 
 abbrev pub Pair : Type 0
@@ -66,5 +67,6 @@ ask (suc (suc (suc (suc zero)))) q ws = nearest q ws
 ask (suc (suc (suc (suc (suc zero))))) q ws = (width q ws, 0)
 ask (suc (suc (suc (suc (suc (suc none)))))) q ws = (0, 0)
 
+-- of nearest's number, by CR 3, what can be lit of the question
 unfoldable pub answer : Rule → ℕ → Bytes → List Bytes → Pair
-answer ρ kind q xs = ask kind (word ρ q) (map (word ρ) xs)
+answer ρ kind q xs = let a = ask kind (word ρ q) (map (word ρ) xs) in pick (eqb kind 4) (a .0, lit q (a .1)) a

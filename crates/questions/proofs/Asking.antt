@@ -2,12 +2,12 @@
 --     ask-unsound       no book
 --     ask-long          the question is too long
 --     ask-none, nearest-none    the book has no names: nothing is found, and nearest is refused
---     askable, ask-some an accepted book with names can be searched; what the search answers
+--     askable, ask-some, ask-lit     an accepted book with names can be searched; what the search answers, and of nearest's number what can be lit
 -- Assumes nothing.
 use Prim.Native.Nat.{ℕ, zero, suc, _<_, _≤_}
 use native.Mathlib.Nat.{lt-irrefl}
 use native.Mathlib.Omega.{arith}
-use mathlib.Core.Path.{_≡_, _∙_, ap, refl, sym}
+use mathlib.Core.Path.{_≡_, _∙_, ap, ap₂, refl, sym}
 use mathlib.Core.List.{List, [], _∷_}
 use lib.ListN.{length}
 use Rattle.words.specs.Words.{Bytes, InBytes, plain, word}
@@ -17,6 +17,8 @@ use Rattle.format.specs.Book.{Book, namesOf, opened, told}
 use Rattle.format.specs.Records.{longest}
 use Rattle.format.specs.Outcomes.{given, refused}
 use Rattle.answers.specs.Calls.{question, questionOf}
+use Rattle.answers.specs.Lit.{lit}
+use Rattle.answers.proofs.Lit.{answer-asked, answer-lit}
 use Rattle.answers.proofs.Calls.{question-given, question-long, question-none}
 use Rattle.answers.specs.Questions.{Pair, answer, ask, count, exact, exactFrom, place, range}
 use Rattle.answers.specs.Widths.{width}
@@ -82,10 +84,9 @@ module _ (b q : Bytes) (t : Trailer) (kind : ℕ) (held : Held b) (s : Asking b 
     gives f a e = question-given plain kind q k (namesOf b) h (λ g z. f g (names ∙ z)) a e ∙ sym asks
 
     pub ask-none : (r : Answer) → answered r ≡ given 0 0 → n ≡ 0 → (kind ≡ 4 → ⊥) → answered r ≡ question plain kind b q
-    unfolding answer
     ask-none r e z f =
         let empty : namesOf b ≡ [] = none (namesOf b) (omega (arith, names)) in
-        e ∙ gives (λ g _. f g) (0, 0) (none-found kind (s .number) f (word plain q) ∙ ap (λ (xs : List Bytes). answer plain kind q xs) (sym empty))
+        e ∙ gives (λ g _. f g) (0, 0) (none-found kind (s .number) f (word plain q) ∙ sym (answer-asked plain kind q [] f) ∙ ap (λ (xs : List Bytes). answer plain kind q xs) (sym empty))
       where
         none : (xs : List Bytes) → length xs ≡ 0 → xs ≡ []
         none [] l = refl
@@ -107,6 +108,12 @@ module _ (b q : Bytes) (t : Trailer) (kind : ℕ) (held : Held b) (s : Asking b 
             high = s .number .high;
           }
 
-      pub ask-some : (x y : ℕ) → (x, y) ≡ ask kind (asked plain q) (wordsOf plain b) → given x y ≡ question plain kind b q
-      unfolding answer asked wordsOf
-      ask-some x y e = gives (λ _ z. some z) (x, y) e
+      module _ {x y : ℕ} (e : (x, y) ≡ ask kind (asked plain q) (wordsOf plain b)) where
+        pub ask-some : (kind ≡ 4 → ⊥) → given x y ≡ question plain kind b q
+        unfolding asked wordsOf
+        ask-some f = gives (λ _ z. some z) (x, y) (e ∙ sym (answer-asked plain kind q (namesOf b) f))
+
+        -- of nearest's number what can be lit
+        pub ask-lit : kind ≡ 4 → {z : ℕ} → z ≡ lit q y → given x z ≡ question plain kind b q
+        unfolding asked wordsOf
+        ask-lit f {z} h = gives (λ _ l. some l) (x, z) (ap₂ (λ (a : Pair) (n : ℕ). (a .0, n)) e (h ∙ ap (λ (a : Pair). lit q (a .1)) e) ∙ sym (answer-lit plain kind q (namesOf b) f))

@@ -10,7 +10,7 @@ ghost use Rattle.shapes.specs.Shapes.{answered, rowOf};
 ghost use Rattle.questions.specs.Asking.{Accepted, Asking, KindNumber, closedBy, openingOf, takesRows};
 
 // A question of a kind from 1 to 5 to a book that the check has accepted, by what its trailer tells: whoever has many questions checks
-// once. Refusals: 1, 10.
+// once. Of what nearest's name shares, what can be lit of the question is given. Refusals: 1, 10.
 pub fn ask(book: &[u8], t: trailer::Trailer, kind: usize, question: &[u8]) -> Answer
     requires { ⌜ Asking (now book) t kind ⌝ }
     ensures { λ r. ⌜ answered r ≡ askedOf plain kind (now (book .entry)) (now (question .entry)) ⌝ }
@@ -25,6 +25,13 @@ pub fn ask(book: &[u8], t: trailer::Trailer, kind: usize, question: &[u8]) -> An
         return shapes::refuse(0, 0);
     }
     let pair = search::answer(book, t, kind, question);
+    if kind == 4 {
+        return Answer {
+            code: 0,
+            first: pair.first,
+            second: letters::lit_part(question, pair.second),
+        };
+    }
     Answer {
         code: 0,
         first: pair.first,

@@ -17,6 +17,7 @@ use Rattle.format.specs.Example.{example, exampleBy2, exampleBy4, text, marked}
 use Rattle.format.proofs.Example.{book-lengths, books}
 use Rattle.format.specs.Outcomes.{Answer, given}
 use Rattle.answers.specs.Calls.{question, questionOf}
+use Rattle.answers.specs.Lit.{lit, mayEnd}
 use Rattle.answers.specs.Widths.{width}
 use Rattle.theorems.specs.Widths.{exampleWidths}
 use Rattle.answers.specs.Questions.{answer, ask, childOf, count, exact, exactFrom, nearest, place, range, reachWithin, reached}
@@ -35,9 +36,9 @@ abbrev listed : ℕ × String × (ℕ × ℕ) → Answer
 listed a = given (a .2 .0) (a .2 .1)
 
 pub example-rows : map asked marked ≡ map listed marked
-unfolding shared less begins same depth glue groups widest rowBy tableWithin nodeTable table numbers joined entry blocksFrom front blocks offsets entryPart blockPart allFields nodePart trailer book decodeFrom decode number rising sound fits namesOf opened childOf reachWithin reached count exactFrom exact place range nearest ask answer questionOf question
+unfolding shared less begins same depth glue groups widest rowBy tableWithin nodeTable table numbers joined entry blocksFrom front blocks offsets entryPart blockPart allFields nodePart trailer book decodeFrom decode number rising sound fits namesOf opened childOf reachWithin reached count exactFrom exact place range nearest ask mayEnd lit answer questionOf question
 example-rows = refl
 
 pub example-widths : map (λ (a : String × ℕ). question plain 5 exampleBy2 (text (a .0))) exampleWidths ≡ map (λ (a : String × ℕ). given (a .1) 0) exampleWidths
-unfolding shared less begins same depth glue groups widest rowBy tableWithin nodeTable table numbers joined entry blocksFrom front blocks offsets entryPart blockPart allFields nodePart trailer book decodeFrom decode number rising sound fits namesOf opened width ask answer questionOf question
+unfolding shared less begins same depth glue groups widest rowBy tableWithin nodeTable table numbers joined entry blocksFrom front blocks offsets entryPart blockPart allFields nodePart trailer book decodeFrom decode number rising sound fits namesOf opened width ask mayEnd lit answer questionOf question
 example-widths = refl

@@ -6,6 +6,7 @@ pub mod Tower
 pub mod Orders
 pub mod Questions
 pub mod Widths
+pub mod Letters
 pub mod Search
 pub mod Calls
 pub mod Merging

@@ -3,7 +3,7 @@
 --     range-is          the names that begin with the question are those from its place on, as many as the range says
 --     exact-is          a name that equals the question stands at its place
 --     exact-finds       every name is found at its position, also where it is a beginning of others
---     nearest-greatest  nearest's number is what its name shares with the question, and no name shares more
+--     nearest-greatest  on the plain list: nearest's number is what its name shares with the question, and no name shares more
 --     before-bytes      document 01's order of names is that of their bytes
 --     place-bytes, range-bytes, exact-bytes, nearest-bytes     the same in bytes, under document 01's rule
 -- Assumes nothing.
@@ -23,6 +23,7 @@ use Rattle.words.proofs.Rising.{nth-word}
 use Rattle.words.proofs.Words.{apart, both-true, less-nil, less-other, less-same, less-start, plain-injective, plain-lawful, same-true, shared-word, word-injective, word-positive}
 use Rattle.format.specs.Records.{sound}
 use Rattle.format.proofs.Records.{sound-rises}
+use Rattle.answers.specs.Lit.{lit}
 use Rattle.answers.specs.Questions.{Pair, answer, ask, nearest, place, range, reached}
 use Rattle.theorems.specs.Demands.{Greatest, comesBefore}
 use Rattle.answers.proofs.Nearest.{reached-most, reached-within}
@@ -68,8 +69,8 @@ module _ (ρ : Rule) (ok : Lawful ρ) (xs : List Bytes) (is : sound ρ xs ≡ tr
   unfolding answer ask
   exact-finds i h e = exact-here (map (word ρ) xs) (word ρ q) rises (word-positive ρ ok q) i (inside h) (nth-word ρ xs i ∙ e)
 
-  pub nearest-greatest : 0 < length xs → Greatest ρ q xs (answer ρ 4 q xs)
-  unfolding answer ask nearest
+  pub nearest-greatest : 0 < length xs → Greatest ρ q xs (nearest (word ρ q) (map (word ρ) xs))
+  unfolding nearest
   nearest-greatest h =
       let r : ℕ = reached (word ρ q) (map (word ρ) xs) in
       record {
@@ -127,9 +128,11 @@ module _ (xs : List Bytes) (is : sound plain xs ≡ true) (q : Bytes) where
               let b = both-true (ltb p (length xs)) (same (word plain (getD xs p [])) (word plain q)) e in
               absurd (n p (ltb-true p (length xs) (b .0)) (word-injective plain plain-injective (getD xs p []) q (same-true (word plain (getD xs p [])) (word plain q) (b .1))))
 
--- shared symbols are shared bytes
+-- shared symbols are shared bytes; of those that nearest's name shares what can be lit is given
 pub nearest-bytes : (xs : List Bytes) → sound plain xs ≡ true → (q : Bytes) → 0 < length xs
-    → (answer plain 4 q xs .1 ≡ shared q (getD xs (answer plain 4 q xs .0) [])) × ((i : ℕ) → i < length xs → shared q (getD xs i []) ≤ answer plain 4 q xs .1)
+    → let p = answer plain 4 q xs .0 in (answer plain 4 q xs .1 ≡ lit q (shared q (getD xs p []))) × ((i : ℕ) → i < length xs → shared q (getD xs i []) ≤ shared q (getD xs p []))
+unfolding answer ask
 nearest-bytes xs is q h =
     let g = nearest-greatest plain plain-lawful xs is q h in
-    (g .shares ∙ shared-word plain plain-injective q _, λ i l. omega (arith, g .most i l, shared-word plain plain-injective q (getD xs i [])))
+    let same : nearest (word plain q) (map (word plain) xs) .1 ≡ shared q (getD xs (nearest (word plain q) (map (word plain) xs) .0) []) = g .shares ∙ shared-word plain plain-injective q _ in
+    (ap (lit q) same, λ i l. omega (arith, same, g .most i l, shared-word plain plain-injective q (getD xs i [])))

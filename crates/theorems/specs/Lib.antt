@@ -1,3 +1,4 @@
 pub mod Demands
 pub mod Widths
 pub mod Unions
+pub mod Letters

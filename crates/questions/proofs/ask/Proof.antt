@@ -4,7 +4,7 @@ use Prim.Native.Nat.{_≤_}
 use native.Mathlib.Omega.{arith}
 use lib.ListN.{length}
 use borrow.Author.Needs.{needs}
-use Rattle.questions.proofs.Asking.{ask-long, ask-none, ask-some, askable, nearest-none}
+use Rattle.questions.proofs.Asking.{ask-lit, ask-long, ask-none, ask-some, askable, nearest-none}
 use Rattle.questions.proofs.ask.Statement.{statement}
 use Rattle.questions.proofs.ask.Tie as tie
 
@@ -23,4 +23,6 @@ ask-spec =
     (λ c κs. search needs)
     (λ c. search ask-none)
     (λ c κs. search askable)
-    (λ c. search (ask-some, short (c .before .before .before))))
+    (λ c κs. search needs)
+    (λ c. search (ask-lit, short (c .before .before .before .before .before)))
+    (λ c. search (ask-some, short (c .before .before .before .before))))
