@@ -1,4 +1,5 @@
 -- Laws of the questions and of the calls. No contract cites them.
+pub mod Accents
 pub mod Places
 pub mod Nearest
 pub mod Widths

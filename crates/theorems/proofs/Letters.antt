@@ -23,12 +23,13 @@ use Rattle.format.specs.Outcomes.{Answer, given}
 use Rattle.format.specs.Records.{longest, sound}
 use Rattle.format.proofs.Book.{book-opened, fits-parts}
 use Rattle.answers.specs.Calls.{question, questionOf}
-use Rattle.answers.specs.Lit.{inCharacter, lit, mayEnd}
+use Rattle.answers.specs.Lit.{accents, inCharacter, lit, mayEnd}
 use Rattle.answers.specs.Questions.{answer, ask, nearest, reached}
+use Rattle.answers.proofs.Accents.{accents-lit}
 use Rattle.answers.proofs.Calls.{question-given}
 use Rattle.answers.proofs.Lit.{answer-lit, lit-low, lit-may, lit-most, lit-rises}
 use Rattle.theorems.specs.Demands.{Greatest}
-use Rattle.theorems.specs.Letters.{accents, characters, following, wellFormed}
+use Rattle.theorems.specs.Letters.{characters, following, wellFormed}
 use Rattle.theorems.proofs.Questions.{nearest-greatest}
 
 -- ---- no character is cut
@@ -120,5 +121,4 @@ module _ (ρ : Rule) (ok : Lawful ρ) (s : Bytes) (k : ℕ) (xs : List Bytes) (o
 -- ---- computed
 
 pub lit-accents : map (λ (a : Bytes × ℕ × ℕ). lit (a .0) (a .1)) accents ≡ map (λ (a : Bytes × ℕ × ℕ). a .2) accents
-unfolding mayEnd lit
-lit-accents = refl
+lit-accents = accents-lit
