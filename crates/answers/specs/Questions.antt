@@ -1,6 +1,6 @@
 -- Document 01, 'Questions': the four kinds, over the plain list of words; nearest's position by the descent over groups of words.
 --     exact, place, range, nearest, reached    the four; the position of the first word of the node where the descent stops
---     ask, answer       a kind by its number, 1 to 4 in this order, 5 is CR 1's; for names and a question in bytes, under a rule
+--     ask, answer       a kind by its number, 1 to 4 in this order, 5 is CR 1's; for names and a question in bytes, under a rule: of nearest's number what can be lit (CR 3)
 -- The laws are in proofs/Places.antt and proofs/Nearest.antt. Assumes nothing: these are definitions.
 use Prim.Native.Nat.{ℕ, zero, suc, _+_}
 use mathlib.Core.Bool.{Bool}
@@ -67,6 +67,5 @@ ask (suc (suc (suc (suc zero)))) q ws = nearest q ws
 ask (suc (suc (suc (suc (suc zero))))) q ws = (width q ws, 0)
 ask (suc (suc (suc (suc (suc (suc none)))))) q ws = (0, 0)
 
--- of nearest's number, by CR 3, what can be lit of the question
 unfoldable pub answer : Rule → ℕ → Bytes → List Bytes → Pair
 answer ρ kind q xs = let a = ask kind (word ρ q) (map (word ρ) xs) in pick (eqb kind 4) (a .0, lit q (a .1)) a

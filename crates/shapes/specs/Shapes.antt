@@ -1,6 +1,5 @@
 -- What a call of the code leaves, as document 01's numbers.
---     answered, rowOf, written, batched     an answer; a row of a batch; an answer with the room, or the answer rows, that were left
--- Their laws are in proofs/Shapes.antt. Assumes nothing: these are definitions.
+--     answered, rowOf, written, batched     an answer; a row of a batch; an answer with the room, or the answer rows, that were left. Assumes nothing: these are definitions.
 use mathlib.Core.List.{List, map}
 use Rattle.words.specs.Words.{Bytes}
 use Rattle.format.specs.Outcomes.{Answer as Numbers, Written}
