@@ -7,7 +7,7 @@
 
 mod common;
 
-use common::{built, yes, Random, FILLING, UNSET};
+use common::{all_strings, built, shared, yes, Random, FILLING, UNSET};
 use model::{
     book_batch, book_check, book_exact, book_nearest, book_place, book_range, book_read,
     book_width, open, read_list, write_list, Answer, Row,
@@ -24,23 +24,6 @@ fn random_list(random: &mut Random, most: usize, bytes: &[u8], longest: usize) -
         .map(|_| random.string(bytes, 1, longest))
         .collect();
     names.into_iter().collect()
-}
-
-/// Every question over the alphabet with at most so many bytes.
-fn all_questions(longest: usize) -> Vec<Vec<u8>> {
-    let mut questions: Vec<Vec<u8>> = vec![vec![]];
-    let mut last = questions.clone();
-    for _ in 0..longest {
-        let mut longer = Vec::new();
-        for question in &last {
-            for byte in ALPHABET {
-                longer.push([question.as_slice(), &[byte]].concat());
-            }
-        }
-        questions.extend(longer.clone());
-        last = longer;
-    }
-    questions
 }
 
 fn direct_exact(names: &[Vec<u8>], question: &[u8]) -> Answer {
@@ -66,15 +49,6 @@ fn direct_width(names: &[Vec<u8>], question: &[u8]) -> Answer {
     let range = direct_range(names, question);
     let lengths = names[range.first..][..range.second].iter().map(Vec::len);
     yes(lengths.max().unwrap_or(0), 0)
-}
-
-/// How many leading bytes the two share.
-fn shared(name: &[u8], question: &[u8]) -> usize {
-    let mut count = 0;
-    while count < name.len() && count < question.len() && name[count] == question[count] {
-        count += 1;
-    }
-    count
 }
 
 /// The symbol with this number; only asked for numbers up to the length.
@@ -208,7 +182,7 @@ fn the_direct_look_gives_the_twelve_checked_rows() {
 
 #[test]
 fn short_names_and_every_short_question() {
-    let questions = all_questions(3);
+    let questions = all_strings(&ALPHABET, 3);
     assert_eq!(questions.len(), 1 + 4 + 16 + 64);
     for seed in 0..1500 {
         let mut random = Random::from_seed(seed);
@@ -220,7 +194,7 @@ fn short_names_and_every_short_question() {
 
 #[test]
 fn two_bytes_only_so_that_trees_are_deep() {
-    let questions = all_questions(2);
+    let questions = all_strings(&ALPHABET, 2);
     for seed in 10_000..11_500 {
         let mut random = Random::from_seed(seed);
         let two = [random.one_of(&ALPHABET), random.one_of(&ALPHABET)];
@@ -238,7 +212,7 @@ fn two_bytes_only_so_that_trees_are_deep() {
 fn every_set_of_names_of_at_most_two_bytes_over_two_letters() {
     // a, aa, ab, b, ba, bb: 64 sets, each with every question up to 3 bytes.
     let candidates = common::names(&["a", "aa", "ab", "b", "ba", "bb"]);
-    let questions = all_questions(3);
+    let questions = all_strings(&ALPHABET, 3);
     for set in 0..64u64 {
         let chosen = (0..6).filter(|at| set >> at & 1 == 1);
         let names: Vec<Vec<u8>> = chosen.map(|at: usize| candidates[at].clone()).collect();
@@ -268,7 +242,7 @@ fn longer_lists_of_longer_names_and_questions_near_them() {
 
 #[test]
 fn each_single_call_gives_what_its_batch_row_gives() {
-    let questions = all_questions(2);
+    let questions = all_strings(&ALPHABET, 2);
     for seed in 30_000..30_060 {
         let mut random = Random::from_seed(seed);
         let names = random_list(&mut random, 9, &ALPHABET, 4);

@@ -6,7 +6,7 @@
 
 mod common;
 
-use common::{answer, head, no, yes, Random, EMPTY_PART, FILLING};
+use common::{all_strings, answer, head, no, yes, Random, EMPTY_PART, FILLING};
 use model::{list_head, list_judge, list_merge, list_step, write_list, Answer, Head};
 use std::ops::Range;
 
@@ -122,21 +122,6 @@ fn try_steps(first: &[u8], second: &[u8], counts: &[usize]) {
             assert!(std::ptr::eq(list_step(first, second, one, other), part));
         }
     }
-}
-
-/// Every string over these bytes with at most so many of them.
-fn all_strings(bytes: &[u8], longest: usize) -> Vec<Vec<u8>> {
-    let mut strings = vec![vec![]];
-    let mut last = strings.clone();
-    for _ in 0..longest {
-        let longer = last.iter().flat_map(|string: &Vec<u8>| {
-            let bytes = bytes.iter();
-            bytes.map(|&byte| [&string[..], &[byte]].concat())
-        });
-        last = longer.collect();
-        strings.extend(last.iter().cloned());
-    }
-    strings
 }
 
 #[test]

@@ -171,6 +171,30 @@ pub fn names_for_book_length(wanted: usize, block: usize) -> Vec<Vec<u8>> {
     names
 }
 
+/// Every string over these bytes with at most so many of them.
+pub fn all_strings(bytes: &[u8], longest: usize) -> Vec<Vec<u8>> {
+    let mut strings = vec![vec![]];
+    let mut last = strings.clone();
+    for _ in 0..longest {
+        let longer = last.iter().flat_map(|string: &Vec<u8>| {
+            let bytes = bytes.iter();
+            bytes.map(|&byte| [&string[..], &[byte]].concat())
+        });
+        last = longer.collect();
+        strings.extend(last.iter().cloned());
+    }
+    strings
+}
+
+/// How many leading bytes the two share.
+pub fn shared(name: &[u8], question: &[u8]) -> usize {
+    let mut count = 0;
+    while count < name.len() && count < question.len() && name[count] == question[count] {
+        count += 1;
+    }
+    count
+}
+
 /// A tiny generator of numbers that look random: xorshift, 64 bits.
 pub struct Random {
     state: u64,
