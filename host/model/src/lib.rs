@@ -1,11 +1,11 @@
 //! The second program of Mistrogu.
 //!
 //! Everything that document 01 asks for, with what document 02's change requests
-//! 1 (width) and 2 (merging) add to it, done over a plain sorted list of byte
-//! strings. Nothing here is fast and nothing is meant to be. A reader with the
-//! documents in the other hand should be able to believe each function at sight,
-//! because test vectors for the proved library come from this crate. It shares no
-//! line with that library.
+//! 1 (width), 2 (merging) and 3 (nearest's number) add to it or change of it, done
+//! over a plain sorted list of byte strings. Nothing here is fast and nothing is
+//! meant to be. A reader with the documents in the other hand should be able to
+//! believe each function at sight, because test vectors for the proved library
+//! come from this crate. It shares no line with that library.
 //!
 //! Where to look:
 //!
@@ -15,7 +15,7 @@
 //! | [`tree`] | which nodes a list of names has |
 //! | [`layout`] | the bytes of a book |
 //! | [`open`](mod@open) | which runs of bytes are a book |
-//! | [`questions`] | exact, place, range, nearest; width (document 02) |
+//! | [`questions`] | exact, place, range, nearest; width and nearest's number (document 02) |
 //! | [`refusals`] | the numbers given back when a call says no |
 //! | [`calls`] | the public calls, each with its refusals in their order |
 //! | [`merging`] | the calls of two lists: merge, judge and step (document 02) |

@@ -1,8 +1,9 @@
 //! The five questions, asked of a plain sorted list.
 //!
-//! Renders document 01, "Questions", and width of document 02. Exact, place,
-//! range and width go through all names. Only nearest needs the tree, because
-//! document 01 says by the tree which of several equally near names it gives.
+//! Renders document 01, "Questions", and of document 02 width and nearest's
+//! number, change requests 1 and 3. Exact, place, range and width go through all
+//! names. Only nearest needs the tree, because document 01 says by the tree which
+//! of several equally near names it gives.
 
 use crate::names::{is_less, leading_equal, symbols};
 use crate::tree::{tree, Node};
@@ -75,11 +76,40 @@ pub fn width(names: &[Vec<u8>], question: &[u8]) -> (usize, usize) {
 }
 
 /// The first name of the node that the question leads to, and how many leading
-/// bytes the two have in common; nothing where there are no names.
+/// bytes of the question to light there; nothing where there are no names.
 pub fn nearest(names: &[Vec<u8>], question: &[u8]) -> Option<(usize, usize)> {
     let root = tree(names)?;
-    let position = node_reached(&root, question).first;
-    Some((position, leading_equal(&names[position], question)))
+    Some(nearest_from(&root, names, question))
+}
+
+/// The same where the root of the names' tree is at hand.
+pub fn nearest_from(root: &Node, names: &[Vec<u8>], question: &[u8]) -> (usize, usize) {
+    let position = node_reached(root, question).first;
+    let shared = leading_equal(&names[position], question);
+    (position, lit(question, shared))
+}
+
+/// How many leading bytes of a question to light where it shares so many with a
+/// name: the greatest L, not above the shared bytes, that is 0, or the
+/// question's length, or a place where the question's byte is not 128 to 191.
+///
+/// In UTF-8 the bytes 128 to 191 are those inside a character. Cafè shares 4
+/// bytes with Café, the first one of è among them, and 3 are lit.
+pub fn lit(question: &[u8], shared: usize) -> usize {
+    let mut greatest = 0;
+    for place in 0..=shared {
+        if place == 0 || place == question.len() || is_outside(question, place) {
+            greatest = place;
+        }
+    }
+    greatest
+}
+
+/// Whether this is a place of the question, and its byte there is not 128 to
+/// 191.
+fn is_outside(question: &[u8], place: usize) -> bool {
+    let byte = question.get(place);
+    byte.is_some_and(|byte| !(128..=191).contains(byte))
 }
 
 /// Goes down from the root for as long as a child fits the question.

@@ -7,7 +7,7 @@
 
 mod common;
 
-use common::{all_strings, built, shared, yes, Random, FILLING, UNSET};
+use common::{all_strings, built, shared, whole_letters, yes, Random, FILLING, UNSET};
 use model::{
     book_batch, book_check, book_exact, book_nearest, book_place, book_range, book_read,
     book_width, open, read_list, write_list, Answer, Row,
@@ -79,7 +79,8 @@ fn direct_nearest(names: &[Vec<u8>], question: &[u8]) -> Answer {
         }
         group = fitting;
     }
-    yes(group[0], shared(&names[group[0]], question))
+    let shared = shared(&names[group[0]], question);
+    yes(group[0], whole_letters(question, shared))
 }
 
 /// The five expected answers, in the order of the kinds.
@@ -147,9 +148,12 @@ fn try_list(names: &[Vec<u8>], block: usize, questions: &[Vec<u8>], seed: u64) {
             *five, expected,
             "seed {seed} names {names:?} question {question:?}"
         );
-        let greatest = names.iter().map(|name| shared(name, question)).max();
-        if let Some(greatest) = greatest {
-            assert_eq!(five[3].second, greatest, "seed {seed} {question:?}");
+        let counts = names.iter().map(|name| shared(name, question));
+        if let Some(greatest) = counts.clone().max() {
+            let reached = shared(&names[five[3].first], question);
+            assert_eq!(reached, greatest, "seed {seed} {question:?}");
+            let lit = counts.map(|count| whole_letters(question, count)).max();
+            assert_eq!(Some(five[3].second), lit, "seed {seed} {question:?}");
         }
     }
 }

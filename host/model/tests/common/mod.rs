@@ -195,6 +195,18 @@ pub fn shared(name: &[u8], question: &[u8]) -> usize {
     count
 }
 
+/// How many leading bytes of a question to light where so many are shared, by
+/// another way than the model's. A byte and the bytes 128 to 191 behind it are a
+/// letter; the letters that are shared whole are lit.
+pub fn whole_letters(question: &[u8], shared: usize) -> usize {
+    let letters = question.chunk_by(|_, next| next & 0xC0 == 0x80);
+    let ends = letters.scan(0, |end, letter| {
+        *end += letter.len();
+        Some(*end)
+    });
+    ends.take_while(|&end| end <= shared).last().unwrap_or(0)
+}
+
 /// A tiny generator of numbers that look random: xorshift, 64 bits.
 pub struct Random {
     state: u64,
