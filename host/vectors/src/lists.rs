@@ -62,6 +62,41 @@ pub fn longest_of_three(number: usize) -> Names {
     .concat()
 }
 
+/// Names with letters of several bytes, by what letters these are, and names that
+/// are no text. Names of a list part inside a letter, so that the tree forks there.
+pub fn lettered() -> Vec<(&'static str, Names)> {
+    let texts_of = [
+        ("è and é", &["Bègles", "Béziers", "Bézu"][..]),
+        ("ö and ü", &["Köln", "König", "Küche"]),
+        ("í and ñ", &["Caído", "Caña", "Cañada"]),
+        ("Greek", &["Άρτα", "Αίγιο", "Αθήνα"]),
+        ("Cyrillic", &["Минск", "Москва", "Мост"]),
+        ("accents apart", &["Cafe", "Cafe\u{300}", "Cafe\u{301}s"]),
+        ("three and four bytes", &["G𝄞", "G𝄟", "駅", "駆"]),
+    ];
+    let mut lists: Vec<(&str, Names)> = texts_of
+        .map(|(letters, names)| (letters, texts(names)))
+        .to_vec();
+    lists.push(("broken letters", broken_letters()));
+    lists
+}
+
+/// Names of letters that break off, and of bytes that go on with a letter where
+/// none began.
+fn broken_letters() -> Names {
+    let names: [&[u8]; 8] = [
+        b"ab\xC3",
+        b"ab\xC3b",
+        b"a\x7F",
+        b"a\x80\x81\x82\x83\x84",
+        b"\x80",
+        b"\x80\xBF\x80",
+        b"\xC0\xBF",
+        b"\xF0\x9D\x84",
+    ];
+    names.map(<[u8]>::to_vec).to_vec()
+}
+
 /// So many names of two bytes, up to 64,000: 250 with first byte 0, then 250
 /// with first byte 1, and so on. A tree of two wide levels.
 pub fn pairs(count: usize) -> Names {
@@ -207,3 +242,8 @@ pub fn shared_out<const LISTS: usize>(random: &mut Random, names: &Names) -> [Na
 pub fn all_bytes() -> Vec<u8> {
     (0..=255).collect()
 }
+
+/// One letter, the two bytes of é, the two of an accent that stands behind its
+/// letter, and one more that goes on with a letter: names of these are full of
+/// letters that break off or never began.
+pub const PARTS_OF_LETTERS: &[u8] = b"a\xC3\xA9\xCC\x81\xBF";

@@ -4,6 +4,10 @@ use crate::lists::{self, Names};
 use crate::random::Random;
 use format::LONGEST_QUESTION;
 
+/// Bytes that go on with a letter of several bytes: the lowest, the second one of
+/// é and the highest.
+const GOING_ON: [u8; 3] = [128, 0xA9, 191];
+
 /// The beginnings of a name, from the empty one to the name itself.
 pub fn beginnings(name: &[u8]) -> Names {
     (0..=name.len())
@@ -44,6 +48,40 @@ pub fn around_all<'names>(names: impl IntoIterator<Item = &'names Vec<u8>>) -> N
     let mut questions = vec![vec![], vec![0], vec![255], vec![255; 3]];
     questions.extend(names.into_iter().flat_map(|name| around(name)));
     lists::sorted(questions)
+}
+
+/// What parts from the name at each of its bytes, with another byte of the same
+/// kind there: one that begins a letter, or one that goes on with it.
+pub fn partings(name: &[u8]) -> Names {
+    parted(name, |byte| byte ^ 2)
+}
+
+/// What parts from the name at each of its bytes, with a byte of the other kind
+/// there, and such a byte behind the name: a letter breaks off, or a byte goes on
+/// with a letter that was whole.
+pub fn breaks(name: &[u8]) -> Names {
+    let mut breaks = parted(name, |byte| match byte {
+        128..=191 => b'e',
+        _ => GOING_ON[0],
+    });
+    breaks.push([name, &GOING_ON[..1]].concat());
+    breaks
+}
+
+/// For each byte of the name what stands before it, and another byte in its place.
+fn parted(name: &[u8], other: impl Fn(u8) -> u8) -> Names {
+    let places = 0..name.len();
+    places
+        .map(|at| [&name[..at], &[other(name[at])]].concat())
+        .collect()
+}
+
+/// Everything about the letters of these names, each question once: what ends
+/// inside a letter, and what parts from a name inside one, before it or behind it.
+pub fn about_letters(names: &Names) -> Names {
+    let names = names.iter();
+    let questions = names.flat_map(|name| [beginnings(name), partings(name), breaks(name)]);
+    lists::sorted(questions.flatten().collect())
 }
 
 /// All questions of at most so many bytes over these, the shorter ones first.
@@ -143,7 +181,7 @@ fn miss(random: &mut Random, name: &[u8]) -> Vec<u8> {
 }
 
 /// A question of any shape; now and then it is empty, or has 200 bytes, 201 or
-/// more.
+/// more, or somewhere a byte that goes on with a letter.
 pub fn any_question(random: &mut Random, names: &Names) -> Vec<u8> {
     let shape = *random.one_of(&SHAPES);
     let mut question = of_shape(random, names, shape);
@@ -153,6 +191,10 @@ pub fn any_question(random: &mut Random, names: &Names) -> Vec<u8> {
         1 | 2 => question.resize(LONGEST_QUESTION, byte),
         3 | 4 => question.resize(LONGEST_QUESTION + 1, byte),
         5 => question.resize(LONGEST_QUESTION + random.below(400), byte),
+        6..=10 => {
+            let at = random.below(question.len() + 1);
+            question.insert(at, *random.one_of(&GOING_ON));
+        }
         _ => {}
     }
     question

@@ -1,6 +1,6 @@
 //! What the lists promise: sound, and of the shape that their names say.
 
-use model::names::is_sound_list;
+use model::names::{is_sound_list, leading_equal};
 use model::tree::tree;
 use model::{book_of, read_list, write_list};
 use vectors::damage::{spoil_bytes, spoil_names};
@@ -23,8 +23,20 @@ fn the_fixed_lists_are_sound() {
         ("binary", lists::binary(2000)),
         ("long", lists::long(2000)),
     ];
-    for (shape, names) in shapes {
+    for (shape, names) in shapes.into_iter().chain(lists::lettered()) {
         assert!(is_sound_list(&names), "{shape}");
+    }
+}
+
+#[test]
+fn names_with_letters_of_several_bytes_part_inside_a_letter() {
+    for (letters, names) in lists::lettered() {
+        let pairs = names.windows(2);
+        let inside = pairs.filter(|pair| {
+            let shared = leading_equal(&pair[0], &pair[1]);
+            matches!(pair[1][shared], 128..=191)
+        });
+        assert!(inside.count() > 0, "{letters}");
     }
 }
 

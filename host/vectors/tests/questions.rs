@@ -1,7 +1,12 @@
 //! Questions stand to the names as their functions say.
 
+mod common;
+
+use common::{lit, shared};
 use vectors::lists;
-use vectors::questions::{all_short, any_question, around_all, of_shape, Shape, SHAPES};
+use vectors::questions::{
+    about_letters, all_short, any_question, around_all, of_shape, Shape, SHAPES,
+};
 use vectors::random::Random;
 
 #[test]
@@ -24,6 +29,43 @@ fn what_stands_around_a_name_is_what_is_said() {
         b"\xFF\xFF\xFF",
     ];
     assert_eq!(questions, expected);
+}
+
+#[test]
+fn what_is_about_the_letters_of_a_name_is_what_is_said() {
+    let questions = about_letters(&lists::texts(&["né"]));
+    let expected: [&[u8]; 11] = [
+        b"",
+        b"l",
+        b"n",
+        b"n\x80",
+        b"n\xC1",
+        b"n\xC3",
+        b"n\xC3e",
+        b"n\xC3\xA9",
+        b"n\xC3\xA9\x80",
+        b"n\xC3\xAB",
+        b"\x80",
+    ];
+    assert_eq!(questions, expected);
+}
+
+#[test]
+fn many_questions_part_from_all_names_inside_a_letter() {
+    // Also where the names themselves have no letter of several bytes.
+    let stops = lists::stops();
+    let mut random = Random::from_seed(3);
+    let parts = lists::grown(&mut random, lists::PARTS_OF_LETTERS, 40, 9);
+    for (names, least) in [(stops, 60), (parts, 200)] {
+        let inside = (0..1000).filter(|_| {
+            let question = any_question(&mut random, &names);
+            let counts = names.iter().map(|name| shared(name, &question));
+            let count = counts.max().unwrap();
+            lit(&question, count) < count
+        });
+        let inside = inside.count();
+        assert!(inside > least, "{inside}");
+    }
 }
 
 #[test]

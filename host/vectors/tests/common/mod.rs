@@ -1,0 +1,33 @@
+//! What several test files need: nearest's number, found by another way than the
+//! second program's.
+
+// Each test file is a program of its own and uses only some of these.
+#![allow(dead_code)]
+
+/// How many leading bytes two names share.
+pub fn shared(one: &[u8], other: &[u8]) -> usize {
+    let pairs = one.iter().zip(other);
+    pairs.take_while(|(one, other)| one == other).count()
+}
+
+/// How many leading bytes of a question to light where so many are shared: all of
+/// them, unless a letter goes on behind them; then what stands before that letter.
+pub fn lit(question: &[u8], shared: usize) -> usize {
+    let begins = |byte: &u8| byte >> 6 != 0b10;
+    match question.get(shared) {
+        None => shared,
+        Some(byte) if begins(byte) => shared,
+        Some(_) => question[..shared].iter().rposition(begins).unwrap_or(0),
+    }
+}
+
+/// Holds nearest's two numbers to the names: no name shares more with the question
+/// than the one at the position, and of what it shares no half letter is lit. Gives
+/// whether that is less than what is shared.
+pub fn hold_nearest(names: &[Vec<u8>], question: &[u8], position: usize, number: usize) -> bool {
+    let counts = names.iter().map(|name| shared(name, question));
+    let count = shared(&names[position], question);
+    assert_eq!(counts.max(), Some(count), "{question:?}");
+    assert_eq!(number, lit(question, count), "{question:?}");
+    number < count
+}
