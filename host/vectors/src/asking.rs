@@ -22,7 +22,9 @@ use crate::damage::{
 use crate::hostile;
 use crate::lists::{self, Names};
 use crate::pieces::Pieces;
-use crate::questions::{all_short, any_question, around_all, extensions, misses};
+use crate::questions::{
+    about_letters, all_short, any_question, around_all, extensions, misses, partings,
+};
 use crate::random::Random;
 use crate::rooms::printed_answer;
 use crate::sets::{length_bytes, Call, Case, Set};
@@ -55,6 +57,7 @@ pub const SET: Set<Ask> = Set {
         block_sizes,
         deep_trees,
         wide_trees,
+        letters,
         numbers_of_names,
         longest_books,
         spoilt_books,
@@ -340,6 +343,25 @@ fn wide_trees() -> Cases {
     .concat()
 }
 
+/// All about the letters of names, of one byte, of several and broken ones: how
+/// much of a question is lit. Then the bytes around 128 and 191, and a letter of
+/// 200 bytes, which no text has.
+fn letters() -> Cases {
+    let mut cases = Vec::new();
+    for (letters, names) in lists::lettered() {
+        cases.extend(of_names(letters, &names, 2, about_letters(&names)));
+    }
+    let ends = [126, 127, 128, 129, 190, 191, 192, 193].map(|byte| vec![b'a', b'b', byte]);
+    let stem = lists::texts(&["ab"]);
+    cases.extend(of_names("around 128 and 191", &stem, 1, ends.to_vec()));
+    let longest = [b"a", &[128; 199][..]].concat();
+    let partings = partings(&longest);
+    let mut some = [1, 2, 100, 199].map(|at| partings[at].clone()).to_vec();
+    some.extend([1, 2, 199, 200].map(|length| longest[..length].to_vec()));
+    cases.extend(of_names("longest letter", &vec![longest], 1, some));
+    cases
+}
+
 /// 2,000 names; and one more, which makes no book. Then names whose tree has
 /// two children at every node.
 fn numbers_of_names() -> Cases {
@@ -405,6 +427,7 @@ fn random_books() -> Cases {
         let letters = match turn % 4 {
             0 => &all[..],
             1 => b"\0\xFF",
+            2 => lists::PARTS_OF_LETTERS,
             _ => b"abc",
         };
         let (count, tail) = (random.between(1, 40), random.between(1, 9));

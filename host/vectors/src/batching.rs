@@ -31,12 +31,13 @@ use crate::damage::{
 use crate::hostile;
 use crate::lists::{self, Names};
 use crate::pieces::Pieces;
-use crate::questions::around_all;
+use crate::questions::{around_all, breaks, partings};
 use crate::random::Random;
 use crate::rooms::printed_answer;
 use crate::sets::{length_bytes, Call, Case, Set};
 use format::MOST_ROWS;
 use model::{book_batch, book_of, Answer};
+use std::ops::RangeInclusive;
 
 /// A call of `book_batch`.
 #[derive(Clone)]
@@ -69,6 +70,7 @@ pub const SET: Set<AskBatch> = Set {
         book_as_buffer,
         seventy_stops,
         deep_and_wide_trees,
+        letters,
         large_books,
         spoilt_books,
         random_batches,
@@ -162,13 +164,15 @@ fn over_buffer(buffer: &[u8], rows: &[Numbers]) -> Vec<Batch> {
 
 /// These spans in each of the five kinds.
 fn in_all_kinds(spans: &[[u64; 2]]) -> Vec<Numbers> {
-    let kinds = 1..=5;
-    let rows = kinds.flat_map(|kind| {
-        spans
-            .iter()
-            .map(move |&[start, length]| [kind, start, length])
-    });
-    rows.collect()
+    (1..=5).flat_map(|kind| in_kind(kind, spans)).collect()
+}
+
+/// These spans in one kind.
+fn in_kind(kind: u64, spans: &[[u64; 2]]) -> Vec<Numbers> {
+    let spans = spans.iter();
+    spans
+        .map(|&[start, length]| [kind, start, length])
+        .collect()
 }
 
 /// These spans, of each kind in turn.
@@ -181,9 +185,14 @@ fn in_turn(spans: &[[u64; 2]]) -> Vec<Numbers> {
 
 /// Each question in each of the five kinds, in as many batches as they take.
 fn in_batches(questions: &Names) -> Vec<Batch> {
+    of_kinds(1..=5, questions)
+}
+
+/// Each question in each of these kinds, in as many batches as they take.
+fn of_kinds(kinds: RangeInclusive<u64>, questions: &Names) -> Vec<Batch> {
     let asked = questions
         .iter()
-        .flat_map(|question| (1..=5).map(move |kind| (kind, &question[..])));
+        .flat_map(|question| kinds.clone().map(move |kind| (kind, &question[..])));
     let asked: Vec<(u64, &[u8])> = asked.collect();
     let parts = asked.chunks(MOST_ROWS);
     parts.map(|part| Batch::of(part.iter().copied())).collect()
@@ -497,6 +506,8 @@ fn other_bytes_outside() -> Cases {
                     0 => 255,
                     1 => b'a',
                     2 => b'i',
+                    // as if the letter before it went on
+                    3 => 128,
                     _ => random.byte(),
                 };
             }
@@ -581,6 +592,28 @@ fn deep_and_wide_trees() -> Cases {
     .concat()
 }
 
+/// How much of a question is lit, where letters have several bytes or are broken:
+/// what parts from a name, and every beginning of the names in a buffer, which goes
+/// on with the letter that such a span cuts.
+fn letters() -> Cases {
+    let mut cases = Vec::new();
+    for (letters, names) in lists::lettered() {
+        let parting = names.iter().flat_map(|name| [partings(name), breaks(name)]);
+        let parting = lists::sorted(parting.flatten().collect());
+        let mut batches = of_kinds(4..=4, &parting);
+        let mut spans = Vec::new();
+        let mut start = 0;
+        for name in &names {
+            let end = name.len() as u64;
+            spans.extend((1..=end).map(|length| [start, length]));
+            start += end;
+        }
+        batches.extend(over_buffer(&names.concat(), &in_kind(4, &spans)));
+        cases.extend(of_names(letters, &names, 2, batches));
+    }
+    cases
+}
+
 /// 2,000 names, one more, which makes no book, and a book of 65,535 bytes.
 fn large_books() -> Cases {
     let pairs = lists::pairs(2000);
@@ -627,10 +660,11 @@ fn random_batches() -> Cases {
     let mut random = Random::from_seed(13);
     let all = lists::all_bytes();
     let mut cases = Vec::new();
-    for turn in 0..45 {
+    for turn in 0..43 {
         let letters = match turn % 4 {
             0 => &all[..],
             1 => b"\0\xFF",
+            2 => lists::PARTS_OF_LETTERS,
             _ => b"abc",
         };
         let (count, tail) = (random.between(1, 40), random.between(1, 9));

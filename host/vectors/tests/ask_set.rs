@@ -1,7 +1,10 @@
 //! The set of the five questions: its file read back by a reader of its own,
 //! and what must be among its cases.
 
-use model::{book_exact, book_nearest, book_place, book_range, book_width};
+mod common;
+
+use common::hold_nearest;
+use model::{book_exact, book_nearest, book_place, book_range, book_width, open};
 use std::collections::BTreeSet;
 use std::sync::LazyLock;
 use vectors::asking::{self, Ask};
@@ -209,6 +212,79 @@ fn the_width_of_a_range_is_among_the_cases_wherever_its_longest_name_stands() {
         let ending = format!(" 0 {width} 0");
         assert!(outcome.ends_with(&ending), "{purpose}: {outcome}");
     }
+}
+
+#[test]
+fn nearest_lights_no_half_letter_in_any_case_and_less_than_is_shared_in_many() {
+    let file = asking::SET.case_file();
+    let mut less = 0;
+    let (mut book, mut names) = (&[][..], Vec::new());
+    for (case, line) in read_file(&file).iter().zip(EXPECTED.lines()) {
+        let numbers: Vec<usize> = line.split(' ').map(|word| word.parse().unwrap()).collect();
+        let [code, position, number] = [10, 11, 12].map(|at| numbers[at]);
+        if code != 0 {
+            continue;
+        }
+        if book != case.book {
+            book = case.book;
+            names = open(book).expect("an accepted book").1;
+        }
+        less += usize::from(hold_nearest(&names, case.question, position, number));
+    }
+    assert!(less > 300, "{less}");
+}
+
+#[test]
+fn letters_of_several_bytes_are_among_the_cases() {
+    let cases = asking::SET.cases();
+    for (letters, question, nearest) in [
+        // parts before é, inside it and behind it; ends inside it
+        ("è and é: book 104", "B\\xc1", "0 1"),
+        ("è and é: book 104", "B\\xc3\\xaa", "0 1"),
+        ("è and é: book 104", "B\\xc3\\xa9x", "1 3"),
+        ("è and é: book 104", "B\\xc3", "0 2"),
+        // the same at the first letter, where nothing is left to be lit
+        ("Greek: book 113", "\\xcc", "0 0"),
+        ("Greek: book 113", "\\xce\\x93", "0 0"),
+        ("Greek: book 113", "\\xce\\x91", "1 2"),
+        ("Greek: book 113", "\\xce", "0 1"),
+        // an accent of its own, and another one
+        ("accents apart: book 99", "Cafe\\xcc\\x81", "2 6"),
+        ("accents apart: book 99", "Cafe\\xcc\\x82", "1 4"),
+        // four bytes, of which three are shared
+        (
+            "three and four bytes: book 122",
+            "G\\xf0\\x9d\\x84\\x9c",
+            "0 1",
+        ),
+        ("three and four bytes: book 122", "G\\xf0\\x9d\\x84", "0 4"),
+        // a byte goes on with a whole letter; a run of them; the first of all
+        ("è and é: book 104", "B\\xc3\\xa9\\x80", "1 1"),
+        (
+            "broken letters: book 203",
+            "a\\x80\\x81\\x82\\x83\\x86",
+            "3 0",
+        ),
+        ("broken letters: book 203", "\\x80\\xbf\\x82", "5 0"),
+        ("broken letters: book 203", "\\x80", "4 1"),
+        // the name goes on with such a byte, the question does not
+        ("broken letters: book 203", "a\\x80e", "3 2"),
+        ("around 128 and 191: book 34", "ab\\x7f", "0 2"),
+        ("around 128 and 191: book 34", "ab\\x80", "0 1"),
+        ("around 128 and 191: book 34", "ab\\xbf", "0 1"),
+        ("around 128 and 191: book 34", "ab\\xc0", "0 2"),
+    ] {
+        let purpose = format!("{letters}, question \"{question}\"");
+        let outcome = find(&cases, &purpose).outcome();
+        let words: Vec<&str> = outcome.split(' ').collect();
+        assert_eq!(words[9..12].join(" "), format!("0 {nearest}"), "{purpose}");
+    }
+    // From the last byte but one to the first, and not at all.
+    let longest = "longest letter: book 232, question of 200 bytes";
+    let longest = cases.iter().filter(|case| case.purpose() == longest);
+    let outcomes: Vec<String> = longest.map(Case::outcome).collect();
+    assert!(outcomes[0].ends_with(" 0 0 0 0 0 0"), "{}", outcomes[0]);
+    assert!(outcomes[1].ends_with(" 0 0 200 0 200 0"), "{}", outcomes[1]);
 }
 
 #[test]

@@ -1,7 +1,10 @@
 //! The set of `book_batch`: its file read back by a reader of its own, and what
 //! must be among its cases.
 
-use model::{book_batch, book_check, Answer, Row};
+mod common;
+
+use common::hold_nearest;
+use model::{book_batch, book_check, open, Answer, Row};
 use std::collections::{BTreeMap, BTreeSet};
 use vectors::batching;
 use vectors::checksum::checksum_of;
@@ -339,6 +342,46 @@ fn other_bytes_outside_the_spans_change_no_line() {
         assert_eq!(found.len(), count);
         assert!(found.iter().all(|outcome| *outcome == found[0]));
     }
+}
+
+#[test]
+fn nearest_lights_no_half_letter_in_any_row_and_less_than_is_shared_in_many() {
+    let file = batching::SET.case_file();
+    let mut less = 0;
+    for case in read_file(&file) {
+        let (answer, answers) = ask(&case);
+        if answer.code != 0 {
+            continue;
+        }
+        let (_, names) = open(case.book).expect("an accepted book");
+        for (row, answer) in case.rows.iter().zip(answers) {
+            if row.kind == 4 && answer.code == 0 {
+                let question = &case.questions[row.start..row.start + row.length];
+                let (position, number) = (answer.first, answer.second);
+                less += usize::from(hold_nearest(&names, question, position, number));
+            }
+        }
+    }
+    assert!(less > 140, "{less}");
+}
+
+#[test]
+fn letters_of_several_bytes_are_among_the_rows() {
+    // Each beginning of Bègles, Béziers and Bézu, also those that end inside a letter.
+    let beginnings = [
+        (0, 1..=7),
+        (0, 1..=2),
+        (1, 3..=8),
+        (0, 1..=2),
+        (1, 3..=4),
+        (2, 5..=5),
+    ];
+    let rows = beginnings
+        .into_iter()
+        .flat_map(|(position, lengths)| lengths.map(move |length| [0, position, length]));
+    let rows: Vec<[usize; 3]> = rows.collect();
+    let purpose = "è and é: book 104, buffer 20, rows 20, places 20";
+    assert_eq!(outcomes(purpose), [accepted(&rows)]);
 }
 
 #[test]
