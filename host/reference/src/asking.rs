@@ -48,6 +48,18 @@ fn symbol_at(name: &[u8], at: usize) -> usize {
     }
 }
 
+/// How many leading bytes of a question to light where it shares so many, at most
+/// all: back over the bytes that go on with a character, unless all are shared.
+#[inline(always)]
+fn lit(question: &[u8], shared: usize) -> usize {
+    let mut at = shared;
+    // SAFETY: where it is read the place lies inside.
+    while 0 < at && at < question.len() && unsafe { byte(question, at) } & 0xC0 == 0x80 {
+        at -= 1;
+    }
+    at
+}
+
 impl<'lent> Sound<'lent> {
     /// The book, to be asked.
     ///
@@ -282,8 +294,8 @@ impl<'lent> Sound<'lent> {
         }
     }
 
-    /// The position that the question reaches, and how many bytes its name
-    /// shares; nothing where there are no names.
+    /// The position that the question reaches, and how many leading bytes of the
+    /// question to light there; nothing where there are no names.
     pub fn nearest(self, question: &[u8]) -> Option<(usize, usize)> {
         if self.parts.names == 0 {
             return None;
@@ -292,7 +304,7 @@ impl<'lent> Sound<'lent> {
         unsafe {
             let (position, name) = self.reach(question);
             let name = part(&name.bytes, 0, name.length);
-            Some((position, leading_equal(name, question)))
+            Some((position, lit(question, leading_equal(name, question))))
         }
     }
 }

@@ -141,8 +141,8 @@ pub fn book_range(book: &[u8], question: &[u8]) -> Answer {
     ask_book(book, 3, question)
 }
 
-/// Nearest: a position and how many leading bytes are shared there. Refusals:
-/// 2, 1, 10.
+/// Nearest: a position and how many leading bytes of the question to light there.
+/// Refusals: 2, 1, 10.
 pub fn book_nearest(book: &[u8], question: &[u8]) -> Answer {
     ask_book(book, 4, question)
 }

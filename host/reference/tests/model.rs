@@ -4,7 +4,7 @@ use model::book_of;
 use vectors::damage::{self, spoil_book, spoil_bytes, spoil_names};
 use vectors::lists::{self, Names};
 use vectors::pieces::Pieces;
-use vectors::questions::{any_question, around_all};
+use vectors::questions::{about_letters, any_question, around_all};
 use vectors::random::Random;
 use vectors::{batches, hostile};
 
@@ -21,7 +21,7 @@ fn theirs(answer: model::Answer) -> Numbers {
 /// Lists of every shape, small enough for the second program.
 fn any_names(random: &mut Random) -> Names {
     let all = lists::all_bytes();
-    match random.below(8) {
+    match random.below(9) {
         0 => Names::new(),
         1 => lists::random(random, b"ab", 60, 1, 8),
         2 => lists::random(random, &all, 60, 1, 40),
@@ -29,6 +29,7 @@ fn any_names(random: &mut Random) -> Names {
         4 => lists::grown(random, &all, 40, 60),
         5 => lists::chain(random.byte(), random.between(1, 200)),
         6 => lists::mirror(b'a', b'b', random.between(1, 200)),
+        7 => lists::grown(random, lists::PARTS_OF_LETTERS, 40, 12),
         _ => lists::fan(&random.string(b"ab", 1, 5)),
     }
 }
@@ -200,6 +201,18 @@ fn answers_all_around_every_name() {
         }
         for length in [0, 199, 200, 201, 300] {
             same_questions(&book, &vec![b'M'; length]);
+        }
+    }
+}
+
+#[test]
+fn lights_as_much_of_every_question_about_letters() {
+    let longest = [b"a", &[128; 199][..]].concat();
+    let lists = lists::lettered().into_iter().map(|(_, names)| names);
+    for names in lists.chain([vec![longest]]) {
+        let book = book_of(2, &names);
+        for question in about_letters(&names) {
+            same_questions(&book, &question);
         }
     }
 }
