@@ -7,8 +7,7 @@
 use crate::asking::{call_of, shown_question};
 use crate::{checking, read_file, shown};
 use format::Kind;
-use model::names::leading_equal;
-use model::questions::{exact, node_reached, place, range, width};
+use model::questions::{exact, nearest_from, place, range, width};
 use model::tree::tree;
 use model::{book_check, open, Answer};
 use vectors::lists::Names;
@@ -30,10 +29,6 @@ pub fn run(words: &[String]) -> Result<String, String> {
     // under a profiler; so its questions are asked of the names, and the tree
     // for nearest is made once.
     let root = tree(&names).ok_or_else(|| format!("{file} has no names"))?;
-    let nearest = |question: &[u8]| {
-        let position = node_reached(&root, question).first;
-        (position, leading_equal(&names[position], question))
-    };
 
     let checked = shown(checking::measured_check(&book), book_check(&book))?;
     let mut lines = vec![format!("check {checked}")];
@@ -42,7 +37,7 @@ pub fn run(words: &[String]) -> Result<String, String> {
             exact(&names, &question),
             place(&names, &question),
             range(&names, &question),
-            nearest(&question),
+            nearest_from(&root, &names, &question),
             width(&names, &question),
         ];
         for (kind, (first, second)) in Kind::ALL.into_iter().zip(pairs) {

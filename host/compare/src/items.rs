@@ -8,8 +8,7 @@ use compare::sorted::Sorted;
 use compare::stations::{stations, BLOCK};
 use compare::steps::{Step, Subject, LIBRARY, MODEL, REFERENCE, ROWS, SORTED};
 use format::{Kind, LONGEST_BOOK, LONGEST_NAME, MOST_NAMES};
-use model::names::leading_equal;
-use model::questions::node_reached;
+use model::questions::nearest_from;
 use model::tree::tree;
 use vectors::lists::Names;
 
@@ -46,13 +45,9 @@ impl Data {
         let names = stations();
         let questions = questions(&names);
         let root = tree(&names).expect("there are names");
-        let nearest = |question: &[u8]| {
-            let position = node_reached(&root, question).first;
-            (position, leading_equal(&names[position], question))
-        };
         let answers = Kind::ALL.map(|kind| {
             let answer = |question: &Vec<u8>| match kind {
-                Kind::Nearest => accepted(nearest(question)),
+                Kind::Nearest => accepted(nearest_from(&root, &names, question)),
                 _ => accepted(ask_names(&names, kind, question)),
             };
             questions.iter().map(answer).collect()

@@ -96,7 +96,8 @@ impl<'lent> Sorted<'lent> {
     }
 
     /// The first name of the node that the question leads to, and how many
-    /// leading bytes they share; nothing where there are no names.
+    /// leading bytes of the question to light there; nothing where there are no
+    /// names.
     ///
     /// A node is a run of names. Since they are in order, all share what the
     /// first and the last of them share, and those that go on with the same
@@ -122,6 +123,16 @@ impl<'lent> Sorted<'lent> {
             node = &node[from..from + names];
         }
         let name = self.name(*node.first()?);
-        Some((first, leading_equal(name, question)))
+        Some((first, lit(question, leading_equal(name, question))))
     }
+}
+
+/// How many leading bytes of a question to light where it shares so many: back to
+/// the start of a character that goes on behind them.
+fn lit(question: &[u8], shared: usize) -> usize {
+    let mut lit = shared;
+    while lit > 0 && matches!(question.get(lit), Some(128..=191)) {
+        lit -= 1;
+    }
+    lit
 }

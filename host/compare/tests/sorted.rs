@@ -3,12 +3,11 @@
 use compare::mix::questions;
 use compare::sorted::Sorted;
 use compare::stations;
-use model::names::leading_equal;
-use model::questions::{exact, nearest, node_reached, place, range, width};
+use model::questions::{exact, nearest, nearest_from, place, range, width};
 use model::tree::tree;
 use model::write_list;
 use vectors::lists::{self, Names};
-use vectors::questions::around_all;
+use vectors::questions::{about_letters, around_all};
 
 /// Asks these questions of the names in all five kinds.
 fn hold_to_the_model(names: &Names, questions: &Names) {
@@ -17,10 +16,9 @@ fn hold_to_the_model(names: &Names, questions: &Names) {
     let sorted = Sorted::build(&list, &mut starts).unwrap();
     let root = tree(names);
     for question in questions {
-        let nearest = root.as_ref().map(|root| {
-            let position = node_reached(root, question).first;
-            (position, leading_equal(&names[position], question))
-        });
+        let nearest = root
+            .as_ref()
+            .map(|root| nearest_from(root, names, question));
         assert_eq!(sorted.exact(question), exact(names, question));
         assert_eq!(sorted.place(question), place(names, question));
         assert_eq!(sorted.range(question), range(names, question));
@@ -57,6 +55,13 @@ fn all_that_stands_around_the_names_of_other_lists_gets_them_too() {
         lists::binary(64),
     ] {
         hold_to_the_model(&names, &around_all(&names));
+    }
+}
+
+#[test]
+fn no_half_letter_is_lit() {
+    for (_, names) in lists::lettered() {
+        hold_to_the_model(&names, &about_letters(&names));
     }
 }
 
