@@ -57,3 +57,26 @@ fn run(
         format!("question {question}\nbook {book}\n{answers}")
     })
 }
+
+#[cfg(test)]
+mod tests {
+    use super::*;
+    use model::names::leading_equal;
+
+    #[test]
+    fn nearest_is_often_asked_what_parts_from_all_names_inside_a_letter() {
+        let mut random = Random::from_seed(1);
+        let (mut asked, mut inside) = (0, 0);
+        while asked < 2000 {
+            let (book, names) = any_book(&mut random);
+            let question = any_question(&mut random, &names);
+            let answer = model::book_nearest(&book, &question);
+            if answer.code == 0 {
+                let shared = names.iter().map(|name| leading_equal(name, &question));
+                asked += 1;
+                inside += usize::from(Some(answer.second) < shared.max());
+            }
+        }
+        assert!(inside > asked / 10, "{inside} of {asked}");
+    }
+}

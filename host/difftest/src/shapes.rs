@@ -12,7 +12,7 @@ pub const ANY_BLOCK: usize = 16;
 /// A rising list of one of the shapes below. The large ones are rare, since the
 /// second program takes its time over them.
 pub fn any_names(random: &mut Random, block: usize) -> Names {
-    match random.below(300) {
+    match random.below(360) {
         0 => as_many_as_can_be(random),
         1 => as_large_as_can_be(random, block),
         2..=79 => few_letters(random),
@@ -21,7 +21,8 @@ pub fn any_names(random: &mut Random, block: usize) -> Names {
         200..=239 => deep(random),
         240..=259 => wide(random),
         260..=269 => costly(random),
-        _ => shortest_and_longest(random),
+        270..=299 => shortest_and_longest(random),
+        _ => letters(random),
     }
 }
 
@@ -113,6 +114,24 @@ fn shortest_and_longest(random: &mut Random) -> Names {
         name[changed] = *random.one_of(&alphabet);
         name.truncate(*random.one_of(&[1, 2, 3, 198, 199, 200, 200]));
         names.push(name);
+    }
+    lists::sorted(names)
+}
+
+/// Letters of one byte to four, of which some share their first bytes.
+const LETTERS: [&str; 10] = ["a", "e", "é", "è", "ñ", "α", "β", "e\u{301}", "駅", "𝄞"];
+
+/// Names of whole letters, or of parts of letters.
+fn letters(random: &mut Random) -> Names {
+    let (count, longest) = (random.between(1, 60), random.between(1, 9));
+    if random.once_in(3) {
+        return lists::grown(random, lists::PARTS_OF_LETTERS, count, longest);
+    }
+    let mut names = Names::new();
+    for _ in 0..count {
+        let letters = random.between(1, longest);
+        let letters = (0..letters).map(|_| *random.one_of(&LETTERS));
+        names.push(letters.collect::<String>().into_bytes());
     }
     lists::sorted(names)
 }
