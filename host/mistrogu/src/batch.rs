@@ -25,7 +25,7 @@ pub enum Reply {
     Place(usize),
     /// The positions of the names that begin with it.
     Range(Range<usize>),
-    /// A name that shares most with it.
+    /// A name that shares most with it, and how much of it to light.
     Nearest(Nearest),
     /// The length of the longest name that begins with it, 0 where none does.
     Width(usize),
@@ -81,7 +81,7 @@ pub fn reply(kind: Kind, answer: Answer) -> Result<Reply, Refusal> {
 /// let mut answers = [Answer::default(); 6];
 /// assert_eq!(batch(book, questions, &rows, &mut answers), Ok(6));
 ///
-/// let nearest = Nearest { position: 0, shared: 1 };
+/// let nearest = Nearest { position: 0, lit: 1 };
 /// assert_eq!(reply(Kind::Nearest, answers[0]), Ok(Reply::Nearest(nearest)));
 /// assert_eq!(reply(Kind::Range, answers[1]), Ok(Reply::Range(0..3)));
 /// assert_eq!(reply(Kind::Exact, answers[2]), Ok(Reply::Exact(None)));

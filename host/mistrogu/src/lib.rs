@@ -17,7 +17,7 @@
 //! | know whether there is such a stop | [`exact`] |
 //! | know where a name would stand | [`place`] |
 //! | have the stops that begin with some letters | [`range`] |
-//! | have a stop as near as any to what was typed | [`nearest`] |
+//! | have a stop as near as any to what was typed, and how much of that to light | [`nearest`] |
 //! | know how much space the stops that begin with some letters take | [`width`] |
 //! | ask many questions of one book | [`batch`] |
 //!
@@ -32,7 +32,7 @@
 //! let mut name = [0; mistrogu::LONGEST_NAME];
 //! assert_eq!(read(book, 2, &mut name), Ok(&b"Market Square"[..]));
 //! assert_eq!(range(book, b"Mark"), Ok(2..3));
-//! assert_eq!(nearest(book, b"Mango"), Ok(Nearest { position: 0, shared: 2 }));
+//! assert_eq!(nearest(book, b"Mango"), Ok(Nearest { position: 0, lit: 2 }));
 //! # Ok::<(), mistrogu::Refused>(())
 //! ```
 //!
@@ -98,13 +98,16 @@ pub struct Checked {
     pub block: usize,
 }
 
-/// A name that shares as many leading bytes with a question as any name does.
+/// A name that shares as many leading bytes with a question as any name does, and
+/// how much of the question to light.
 #[derive(Clone, Copy, Debug, PartialEq, Eq, Hash)]
 pub struct Nearest {
     /// The name's position.
     pub position: usize,
-    /// How many leading bytes the name and the question share.
-    pub shared: usize,
+    /// How many leading bytes of the question to light: those that the name
+    /// shares, but for a character of which it shares a part. The name begins
+    /// with the same bytes.
+    pub lit: usize,
 }
 
 /// The two numbers of an answer, where its code is 0.
@@ -126,8 +129,8 @@ fn span((place, names): (usize, usize)) -> Range<usize> {
 }
 
 /// What nearest's two numbers say.
-fn near((position, shared): (usize, usize)) -> Nearest {
-    Nearest { position, shared }
+fn near((position, lit): (usize, usize)) -> Nearest {
+    Nearest { position, lit }
 }
 
 /// Builds the book of a list, in blocks of so many names, at the front of the
@@ -270,9 +273,15 @@ pub fn range(book: &[u8], question: &[u8]) -> Result<Range<usize>, Refusal> {
 }
 
 /// A name that shares as many leading bytes with the question as any name does,
-/// and how many those are. They may be none. Of several such names the book's
-/// nodes lead to one, always the same, and not always the first:
-/// docs/STATEMENTS.md says which.
+/// and how many leading bytes of the question to light. They may be none. Of
+/// several such names the book's nodes lead to one, always the same, and not always
+/// the first: docs/STATEMENTS.md says which.
+///
+/// Of a text in UTF-8 no half character is lit. The number is the greatest, not
+/// above the shared bytes, that is 0, or the question's length, or a place where
+/// the question's byte is not 128 to 191: in UTF-8 those are the bytes that go on
+/// with a character. A question that ends inside a character and is shared in full
+/// is lit in full. What the name goes on with does not count.
 ///
 /// Refused, in this order: [`NoBook`](Refusal::NoBook),
 /// [`QuestionTooLong`](Refusal::QuestionTooLong),
@@ -282,9 +291,14 @@ pub fn range(book: &[u8], question: &[u8]) -> Result<Range<usize>, Refusal> {
 /// use mistrogu::{build, nearest, Nearest};
 ///
 /// let mut room = [0; 100];
-/// let length = build(b"\x03Mar\x06Marina", 16, &mut room)?;
-/// let answer = nearest(&room[..length], b"Marine Parade");
-/// assert_eq!(answer, Ok(Nearest { position: 1, shared: 5 }));
+/// let length = build("\x05Café\x06Marina".as_bytes(), 16, &mut room)?;
+/// let book = &room[..length];
+/// let answer = nearest(book, b"Marine Parade");
+/// assert_eq!(answer, Ok(Nearest { position: 1, lit: 5 }));
+///
+/// // é is C3 A9 and è is C3 A8: four bytes are shared, and Caf is lit.
+/// let answer = nearest(book, "Cafè".as_bytes());
+/// assert_eq!(answer, Ok(Nearest { position: 0, lit: 3 }));
 /// # Ok::<(), mistrogu::Refused>(())
 /// ```
 pub fn nearest(book: &[u8], question: &[u8]) -> Result<Nearest, Refusal> {

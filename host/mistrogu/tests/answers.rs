@@ -29,7 +29,7 @@ fn no_names() -> Vec<u8> {
 
 /// Document 01's twelve questions, some of document 02's kind, and what they get.
 fn asked() -> [(&'static str, Reply); 16] {
-    let near = |position, shared| Reply::Nearest(Nearest { position, shared });
+    let near = |position, lit| Reply::Nearest(Nearest { position, lit });
     [
         ("Marina", Reply::Exact(Some(1))),
         ("Marin", Reply::Exact(None)),
@@ -138,6 +138,31 @@ fn the_longest_name_counts_wherever_it_stands_and_only_in_its_range() {
 }
 
 #[test]
+fn no_half_letter_of_a_question_is_lit() {
+    let mut room = [0; 150];
+    let length = build("\x05Café\x0BCafétéria".as_bytes(), 2, &mut room).unwrap();
+    let book = &room[..length];
+    for (question, position, lit) in [
+        (&b"Cafe"[..], 0, 3),
+        ("Cafè".as_bytes(), 0, 3),
+        ("Cafés".as_bytes(), 0, 5),
+        ("Cafétés".as_bytes(), 1, 8),
+        ("Cafétè".as_bytes(), 1, 6),
+        (b"Caf\xC3", 0, 4),
+        (b"\xA9", 0, 0),
+        (b"", 0, 0),
+    ] {
+        let near = Nearest { position, lit };
+        assert_eq!(nearest(book, question), Ok(near), "{question:?}");
+        let rows = [row(Kind::Nearest, 0..question.len())];
+        let mut answers = [Answer::default()];
+        assert_eq!(batch(book, question, &rows, &mut answers), Ok(1));
+        let reply = reply(Kind::Nearest, answers[0]);
+        assert_eq!(reply, Ok(Reply::Nearest(near)), "{question:?}");
+    }
+}
+
+#[test]
 fn a_batch_may_have_no_rows_and_64_rows() {
     let book = book();
     assert_eq!(batch(&book, &[], &[], &mut []), Ok(0));
@@ -147,7 +172,7 @@ fn a_batch_may_have_no_rows_and_64_rows() {
     for answer in answers {
         let near = Nearest {
             position: 0,
-            shared: 1,
+            lit: 1,
         };
         assert_eq!(reply(Kind::Nearest, answer), Ok(Reply::Nearest(near)));
     }

@@ -115,7 +115,7 @@ pub fn book_range(book: &[u8], question: &[u8]) -> Answer {
 }
 
 /// Asks for a name that shares most with the question: (0, its position, how
-/// many leading bytes they share), or refusal 2, 1 or 10.
+/// many leading bytes of the question to light), or refusal 2, 1 or 10.
 pub fn book_nearest(book: &[u8], question: &[u8]) -> Answer {
     // SAFETY: each pointer comes with the length of its own slice, and nothing
     // is written.

@@ -142,6 +142,36 @@ fn the_width_of_a_range_is_its_longest_name() {
     }
 }
 
+/// Questions to a book of Café, C3 A9 at its end, and how much of them is lit: they
+/// part before é, inside it and behind it, or end inside it.
+const LIT: [(&[u8], usize); 7] = [
+    (b"Cafe", 3),
+    (b"Caf\xC3\xA8", 3),
+    (b"Caf\xC3\xA9s", 5),
+    (b"Caf\xC3", 4),
+    (b"Caf\xC3e", 4),
+    (b"Caf\xC3\xA9\xA9", 3),
+    (b"\xA9", 0),
+];
+
+#[test]
+fn nearest_lights_no_half_letter_alone_and_in_a_batch() {
+    let mut book = [0; 37];
+    let list = b"\x05Caf\xC3\xA9";
+    assert_eq!(book_build(list, 1, &mut book), answer(0, 37, 0));
+    let mut start = 0;
+    let rows = LIT.map(|(question, lit)| {
+        assert_eq!(book_nearest(&book, question), answer(0, 0, lit));
+        start += question.len();
+        row(4, start - question.len(), question.len())
+    });
+    let questions = LIT.map(|(question, _)| question).concat();
+    let mut answers = [UNSET; 7];
+    let answered = book_batch(&book, &questions, &rows, &mut answers);
+    assert_eq!(answered, answer(0, 7, 0));
+    assert_eq!(answers, LIT.map(|(_, lit)| answer(0, 0, lit)));
+}
+
 #[test]
 fn a_question_is_refused_with_2_then_1_then_10() {
     let asks: [Ask; 5] = [book_exact, book_place, book_range, book_width, book_nearest];

@@ -54,8 +54,8 @@ mod tests {
     use mistrogu::Nearest;
 
     /// The reply of nearest.
-    fn near(position: usize, shared: usize) -> Reply {
-        Reply::Nearest(Nearest { position, shared })
+    fn near(position: usize, lit: usize) -> Reply {
+        Reply::Nearest(Nearest { position, lit })
     }
 
     /// The twelve rows of document 01, and some of document 02's kind.

@@ -135,15 +135,15 @@ fn tell_range(
 
 /// The name that shares most, with the shared part in brackets.
 fn tell_nearest(book: &mut Book, text: &[u8], nearest: Nearest) -> Result<Told, Failure> {
-    let Nearest { position, shared } = nearest;
+    let Nearest { position, lit } = nearest;
     let name = book.name(position)?;
     let (text, shown) = (named(text), shown(name));
-    if shared == 0 {
+    if lit == 0 {
         return done(format!(
             "no name shares a beginning with {text}; the search ends at {shown}, stop {position}\n"
         ));
     }
-    let (marked, bytes) = (marked(name, shared), counted(shared, "byte"));
+    let (marked, bytes) = (marked(name, lit), counted(lit, "byte"));
     done(format!(
         "nearest to {text} is {marked}, stop {position}; {bytes} shared\n"
     ))
