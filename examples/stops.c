@@ -3,9 +3,9 @@
  * of it.
  *
  * The merged list, the book and the first twelve questions are those of document
- * 01, the project's scope document; the widths and the merging are document 02's.
- * Every answer is held to the figures there: where one differs, the program says
- * so and its exit status is 1.
+ * 01, the project's scope document; the widths, the merging and how much of a
+ * question is lit are document 02's. Every answer is held to the figures there:
+ * where one differs, the program says so and its exit status is 1.
  *
  * run.sh compiles it, links it with the proved library and runs it.
  */
@@ -50,6 +50,23 @@ static const struct asked ASKED[] = {
     {MISTROGU_WIDTH, "", 13, 0},
     {MISTROGU_WIDTH, "Mari", 6, 0},
     {MISTROGU_WIDTH, "Mas", 0, 0},
+};
+
+/* A list of one stop, Café, whose last letter has two bytes: C3 A9. */
+static const uint8_t ACCENTED[] = "\005Caf\303\251";
+
+struct lit {
+    const char *how;
+    const char *question;
+    size_t lit;
+};
+
+/* Cafe, Cafè, Cafés, and what ends between the two bytes. */
+static const struct lit LIT[] = {
+    {"parts before its last letter", "Cafe", 3},
+    {"parts inside it", "Caf\303\250", 3},
+    {"parts behind it", "Caf\303\251s", 5},
+    {"ends inside it", "Caf\303", 4},
 };
 
 /* How many answers were not the expected ones. */
@@ -211,7 +228,7 @@ static void tell(const struct asked *asked, struct mistrogu_answer answer)
         printf("  width \"%s\": %zu bytes\n", question, answer.first);
         break;
     default:
-        printf("  nearest \"%s\": stop %zu, shared bytes: %zu\n", question,
+        printf("  nearest \"%s\": stop %zu, bytes to light: %zu\n", question,
                answer.first, answer.second);
     }
 }
@@ -266,6 +283,26 @@ static void ask_in_a_batch(const uint8_t *book, size_t length)
     hold("more rows than answers",
          book_batch(book, length, questions, used, rows, COUNT(rows), answers, 1),
          MISTROGU_BAD_BATCH, 0, 0);
+}
+
+/* How much of a question to light, where a letter has two bytes: never half of
+   it, unless the question itself ends there. */
+static void light_no_half_letter(void)
+{
+    uint8_t book[37];
+    size_t i;
+
+    hold("book_build, one stop",
+         book_build(ACCENTED, sizeof ACCENTED - 1, 1, book, sizeof book), 0, sizeof book,
+         0);
+    printf("a question that nearly is Caf\303\251\n");
+    for (i = 0; i < COUNT(LIT); i++) {
+        struct mistrogu_answer answer =
+            hold(LIT[i].how,
+                 ask(book, sizeof book, MISTROGU_NEAREST, LIT[i].question), 0, 0,
+                 LIT[i].lit);
+        printf("  %s: bytes to light: %zu\n", LIT[i].how, answer.second);
+    }
 }
 
 /* Holds a room to what it was filled with. */
@@ -381,6 +418,7 @@ int main(void)
     read_names(book, length);
     ask_one_by_one(book, length);
     ask_in_a_batch(book, length);
+    light_no_half_letter();
     be_refused(list, list_length, book, length);
     be_refused_lists(list, list_length);
     return differences == 0 ? 0 : 1;

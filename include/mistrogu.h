@@ -230,10 +230,19 @@ struct mistrogu_answer book_range(const uint8_t *book, size_t book_length,
 
 /*
  * Asks for a name that shares as many leading bytes with the question as any
- * name does. Of several such names the book's nodes lead to one, always the
- * same, and not always the first: docs/STATEMENTS.md says which.
+ * name does, and how much of the question to light. Of several such names the
+ * book's nodes lead to one, always the same, and not always the first:
+ * docs/STATEMENTS.md says which.
  *
- * Accepted: (0, its position, how many leading bytes they share).
+ * Of a text in UTF-8 no half character is lit. The number is the greatest, not
+ * above the shared bytes, that is 0, or the question's length, or a place where
+ * the question's byte is not 128 to 191: in UTF-8 those are the bytes that go on
+ * with a character. With the name Café, C3 A9 at its end, the question Cafè, C3 A8
+ * at its end, shares four bytes, and three are lit: Caf. The name begins with the
+ * lit bytes; what it goes on with does not count. A question that ends inside a
+ * character and is shared in full is lit in full.
+ *
+ * Accepted: (0, its position, how many leading bytes of the question to light).
  * Refused: 2, 1, 10.
  */
 struct mistrogu_answer book_nearest(const uint8_t *book, size_t book_length,
