@@ -88,7 +88,9 @@ Asks a book one question of at most 200 bytes:
   exact     is this a stop, and which?
   place     where does it stand, or where would it?
   range     which names begin with it?
-  nearest   which name shares the longest beginning with it? The shared part is in brackets.
+  nearest   which name shares the longest beginning with it? What it shares is lit, but no
+            half letter: in reverse video on a terminal, unless NO_COLOR is set, and
+            elsewhere in brackets.
   width     how many bytes has the longest of the names that begin with it?
 
 Without a question, lines of standard input are asked, a kind, a blank and a question on

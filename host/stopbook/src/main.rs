@@ -12,6 +12,7 @@
 //! | [`outcome`] | how a command ends, and where it writes |
 //! | [`files`] | files, standard input and standard output |
 //! | [`text`] | bytes as text, numbers as text |
+//! | [`light`] | the lit part of a name |
 //! | [`layout`] | document 01's layout, read from an accepted book |
 //! | [`book`] | a book that was read and accepted |
 //! | [`names`] | a file with a name on each line |
@@ -31,6 +32,7 @@ mod check;
 mod files;
 mod help;
 mod layout;
+mod light;
 mod list;
 mod merge;
 mod names;
@@ -42,6 +44,7 @@ mod text;
 mod tree;
 
 use args::{Shape, Words};
+use light::Light;
 use outcome::{Failure, Outcome, Status, Streams};
 use std::env;
 use std::ffi::OsString;
@@ -77,6 +80,7 @@ fn main() -> ExitCode {
     let mut streams = Streams {
         out: &mut out,
         err: &mut err,
+        light: Light::of_standard_output(),
     };
     let outcome = run(&words, &mut streams).and_then(|status| {
         streams.out.flush()?;

@@ -1,5 +1,6 @@
 //! How a command ends, and where it writes.
 
+use crate::light::Light;
 use std::io::{self, Write};
 
 /// How a command ended that could be carried out.
@@ -55,6 +56,8 @@ pub struct Streams<'a> {
     pub out: &'a mut dyn Write,
     /// Notes and errors.
     pub err: &'a mut dyn Write,
+    /// How `out` shows what is lit.
+    pub light: Light,
 }
 
 impl Streams<'_> {
@@ -87,6 +90,7 @@ mod tests {
         let mut streams = Streams {
             out: &mut out,
             err: &mut err,
+            light: Light::Brackets,
         };
         let code = report(outcome, &mut streams);
         (code, String::from_utf8(err).expect("notes are text"))

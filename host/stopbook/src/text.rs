@@ -61,19 +61,6 @@ fn steers(character: char) -> bool {
             | '\u{FEFF}' | '\u{FFFE}' | '\u{FFFF}')
 }
 
-/// A name with its first bytes in brackets. Where they end inside a character,
-/// the bracket closes before it.
-pub fn marked(name: &[u8], shared: usize) -> String {
-    let mut at = shared.min(name.len());
-    if let Ok(text) = std::str::from_utf8(name) {
-        while !text.is_char_boundary(at) {
-            at -= 1;
-        }
-    }
-    let (front, rest) = name.split_at(at);
-    format!("[{}]{}", shown(front), shown(rest))
-}
-
 /// How many columns a text takes where every letter is as wide: 2 for the wide
 /// letters of East Asia and for pictures, 0 for marks on the letter before.
 pub fn columns(text: &str) -> usize {
@@ -155,17 +142,6 @@ mod tests {
         for bad in [&b"a\nb"[..], b"a\r", b"\xFF", b"\t", b"\xEF\xBB\xBFa"] {
             assert!(!is_line(bad), "{bad:?}");
         }
-    }
-
-    #[test]
-    fn the_shared_part_is_marked_up_to_a_whole_character() {
-        assert_eq!(marked(b"Marina", 2), "[Ma]rina");
-        assert_eq!(marked(b"Marina", 0), "[]Marina");
-        assert_eq!(marked(b"Marina", 6), "[Marina]");
-        assert_eq!(marked(b"Marina", 9), "[Marina]");
-        assert_eq!(marked("aÉ".as_bytes(), 2), "[a]É");
-        assert_eq!(marked("aÉ".as_bytes(), 3), "[aÉ]");
-        assert_eq!(marked(b"\xC3\xFF", 1), "[\\C3]\\FF");
     }
 
     #[test]

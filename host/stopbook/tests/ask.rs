@@ -56,19 +56,19 @@ fn the_rows_of_the_documents_are_answered_in_words() {
             "nearest",
             "Mango",
             0,
-            "nearest to Mango is [Ma]r, stop 0; 2 bytes shared",
+            "nearest to Mango is [Ma]r, stop 0; 2 bytes lit",
         ),
         (
             "nearest",
             "Maxim",
             0,
-            "nearest to Maxim is [Ma]rina, stop 1; 2 bytes shared",
+            "nearest to Maxim is [Ma]rina, stop 1; 2 bytes lit",
         ),
         (
             "nearest",
             "M",
             0,
-            "nearest to M is [M]ar, stop 0; 1 byte shared",
+            "nearest to M is [M]ar, stop 0; 1 byte lit",
         ),
         (
             "width",
@@ -108,7 +108,7 @@ fn the_same_rows_are_answered_from_standard_input() {
     let expected = "Marina is stop 1\n\
                     Marin is no stop; it would stand between Mar and Marina\n\
                     3 names begin with \"\"\n  0 Mar\n  and 2 more\n\
-                    nearest to Maxim is [Ma]rina, stop 1; 2 bytes shared\n\
+                    nearest to Maxim is [Ma]rina, stop 1; 2 bytes lit\n\
                     the longest name that begins with Mar has 13 bytes\n\
                     Market Square stands at 2, last, after Marina\n";
     let ran = folder.run_with(&["ask", "mar.book", "--limit", "1"], lines.as_bytes());
@@ -165,8 +165,33 @@ fn a_book_without_names_is_asked() {
 fn a_question_need_not_be_text() {
     let folder = Folder::with("mar.book", EXAMPLE);
     let ran = folder.run_with(&["ask", "mar.book"], b"nearest Mar\xFF\nplace Mar\\\n");
-    let expected = "nearest to Mar\\FF is [Mar], stop 0; 3 bytes shared\n\
+    let expected = "nearest to Mar\\FF is [Mar], stop 0; 3 bytes lit\n\
                     Mar\\5C would stand at 1, between Mar and Marina\n";
+    ran.assert(0, expected);
+}
+
+#[test]
+fn no_half_letter_is_lit() {
+    let folder = Folder::with("c.txt", "Café\nCafétéria\nZoo\n".as_bytes());
+    assert_eq!(folder.run(&["build", "c.txt"]).status, 0);
+    let rows = [
+        ("Cafe", "[Caf]é, stop 0; 3 bytes lit"),
+        ("Cafè", "[Caf]é, stop 0; 3 bytes lit"),
+        ("Cafés", "[Café], stop 0; 5 bytes lit"),
+        ("Cafétè", "[Cafét]éria, stop 1; 6 bytes lit"),
+        ("Cafété", "[Cafété]ria, stop 1; 8 bytes lit"),
+    ];
+    for (question, answer) in rows {
+        let ran = folder.run(&["ask", "c.book", "nearest", question]);
+        ran.assert(0, &format!("nearest to {question} is {answer}\n"));
+    }
+    // What ends inside a letter is lit in full; what shares half of its first
+    // letter is not lit at all.
+    folder.write("e.txt", "Évry\n".as_bytes());
+    assert_eq!(folder.run(&["build", "e.txt"]).status, 0);
+    let ran = folder.run_with(&["ask", "e.book"], b"nearest \xC3\nnearest \xC3\x88ze\n");
+    let expected = "nearest to \\C3 is [\\C3]\\89vry, stop 0; 1 byte lit\n\
+                    no name shares a beginning with Èze; the search ends at Évry, stop 0\n";
     ran.assert(0, expected);
 }
 
@@ -248,8 +273,15 @@ fn random_questions_get_what_the_plain_list_says() {
     ran.assert(0, &expected);
 }
 
+/// How many leading bytes of two texts are those of letters that both have.
+fn in_letters(one: &str, other: &str) -> usize {
+    let both = one.chars().zip(other.chars());
+    let letters = both.take_while(|(one, other)| one == other);
+    letters.map(|(letter, _)| letter.len_utf8()).sum()
+}
+
 #[test]
-fn the_nearest_name_shares_as_much_as_any() {
+fn the_nearest_name_shares_as_much_as_any_and_its_whole_letters_are_lit() {
     let mut numbers = Numbers(29);
     let names = numbers.names(200);
     let folder = Folder::with("n.txt", names.join("\n").as_bytes());
@@ -262,15 +294,23 @@ fn the_nearest_name_shares_as_much_as_any() {
     let ran = folder.run_with(&["ask", "n.book"], lines.as_bytes());
     assert_eq!((ran.status, ran.err.as_str()), (0, ""));
     assert_eq!(ran.out().lines().count(), questions.len());
+    let mut halves = 0;
     for (line, question) in ran.out().lines().zip(&questions) {
         let most = names.iter().map(|name| shared(name, question)).max();
         let most = most.expect("there are names");
         let (_, rest) = line.split_once(", stop ").expect("a position is told");
-        let (position, rest) = rest.split_once("; ").unwrap_or((rest, "0 bytes shared"));
+        let (position, rest) = rest.split_once("; ").unwrap_or((rest, "0 bytes lit"));
         let name = &names[position.parse::<usize>().expect("it is a number")];
         assert_eq!(shared(name, question), most, "{line}");
-        assert!(rest.starts_with(&format!("{most} byte")), "{line}");
+        let lit = in_letters(name, question);
+        assert!(rest.starts_with(&format!("{lit} byte")), "{line}");
+        if lit > 0 {
+            let marked = format!(" is [{}]{}, stop ", &name[..lit], &name[lit..]);
+            assert!(line.contains(&marked), "{line}");
+        }
+        halves += usize::from(lit < most);
     }
+    assert!(halves > 10, "{halves}");
 }
 
 #[test]

@@ -115,7 +115,7 @@ fn ask_waiting(book: &mut Book, waiting: &[Asked], limit: usize, streams: &mut S
     for (asked, reply) in waiting.iter().zip(replies) {
         match reply {
             Ok(reply) => {
-                let told = sentence::tell(book, &asked.question, &reply, limit)?;
+                let told = sentence::tell(book, &asked.question, &reply, limit, streams.light)?;
                 streams.out.write_all(told.text.as_bytes())?;
             }
             Err(refusal) => {
@@ -140,6 +140,7 @@ fn note_line(number: usize, text: &str, streams: &mut Streams) {
 mod tests {
     use super::*;
     use crate::layout::tests::EXAMPLE;
+    use crate::light::Light;
 
     #[test]
     fn a_line_is_a_kind_and_a_question() {
@@ -182,6 +183,7 @@ mod tests {
         let mut streams = Streams {
             out: &mut out,
             err: &mut err,
+            light: Light::Brackets,
         };
         let status = ask_reader(&mut book, &mut lines.as_bytes(), most, 20, &mut streams);
         let text = |bytes| String::from_utf8(bytes).expect("answers are text");

@@ -68,7 +68,7 @@ fn read_kind(word: &OsStr) -> Result<Kind, Failure> {
 fn ask_one(book: &mut Book, question: &Question, limit: usize, streams: &mut Streams) -> Outcome {
     let reply = question::ask(book.bytes(), question)
         .map_err(|refusal| sentence::refusal(book, question, refusal))?;
-    let told = sentence::tell(book, question, &reply, limit)?;
+    let told = sentence::tell(book, question, &reply, limit, streams.light)?;
     streams.out.write_all(told.text.as_bytes())?;
     Ok(told.status)
 }

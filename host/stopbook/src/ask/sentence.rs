@@ -2,8 +2,9 @@
 
 use super::question::Question;
 use crate::book::Book;
+use crate::light::Light;
 use crate::outcome::{Failure, Status};
-use crate::text::{counted, marked, named, shown};
+use crate::text::{counted, named, shown};
 use mistrogu::{Nearest, Refusal, Reply, LONGEST_NAME};
 use std::ops::Range;
 
@@ -15,12 +16,14 @@ pub struct Told {
     pub status: Status,
 }
 
-/// Tells what a question got. Of a range no more names than the limit.
+/// Tells what a question got. Of a range no more names than the limit; of the
+/// nearest name the first letters in this light.
 pub fn tell(
     book: &mut Book,
     question: &Question,
     reply: &Reply,
     limit: usize,
+    light: Light,
 ) -> Result<Told, Failure> {
     let text = &question.text;
     match reply {
@@ -29,7 +32,7 @@ pub fn tell(
         Reply::Place(place) => tell_place(book, text, *place),
         Reply::Range(range) if range.is_empty() => no_range(book, text, range.start),
         Reply::Range(range) => tell_range(book, text, range.clone(), limit),
-        Reply::Nearest(nearest) => tell_nearest(book, text, *nearest),
+        Reply::Nearest(nearest) => tell_nearest(book, text, *nearest, light),
         Reply::Width(width) => tell_width(text, *width),
     }
 }
@@ -133,19 +136,26 @@ fn tell_range(
     done(lines)
 }
 
-/// The name that shares most, with the shared part in brackets.
-fn tell_nearest(book: &mut Book, text: &[u8], nearest: Nearest) -> Result<Told, Failure> {
+/// The name that shares most, with as many of its first bytes lit as the library
+/// lights of the question: they are the same.
+fn tell_nearest(
+    book: &mut Book,
+    text: &[u8],
+    nearest: Nearest,
+    light: Light,
+) -> Result<Told, Failure> {
     let Nearest { position, lit } = nearest;
     let name = book.name(position)?;
-    let (text, shown) = (named(text), shown(name));
+    let text = named(text);
     if lit == 0 {
+        let shown = shown(name);
         return done(format!(
             "no name shares a beginning with {text}; the search ends at {shown}, stop {position}\n"
         ));
     }
-    let (marked, bytes) = (marked(name, lit), counted(lit, "byte"));
+    let (marked, bytes) = (light.marked(name, lit), counted(lit, "byte"));
     done(format!(
-        "nearest to {text} is {marked}, stop {position}; {bytes} shared\n"
+        "nearest to {text} is {marked}, stop {position}; {bytes} lit\n"
     ))
 }
 

@@ -160,10 +160,11 @@ impl Numbers {
         (self.0 % bound as u64) as usize
     }
 
-    /// A word of few letters, so that words share beginnings.
+    /// A word of few letters, so that words share beginnings, and half a letter
+    /// now and then.
     pub fn word(&mut self, longest: usize) -> String {
         let length = 1 + self.below(longest);
-        let letters = ['a', 'b', ' ', 'é', '駅', '&'];
+        let letters = ['a', 'b', ' ', 'é', 'è', '駅', '&'];
         (0..length)
             .map(|_| letters[self.below(letters.len())])
             .collect()
