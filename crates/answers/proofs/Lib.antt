@@ -4,6 +4,7 @@ pub mod Places
 pub mod Nearest
 pub mod Widths
 pub mod Lit
+pub mod Neighbours
 pub mod Calls
 pub mod Merging
 pub mod Heads

@@ -157,14 +157,23 @@ begins-none q n ws a h = count-none (begins q) ws (all-map (λ y k. short-no q y
 
 -- ---- exact
 
-pub place-le : (q : List ℕ) (ws : Words) → place q ws ≤ length ws
-unfolding place count
-place-le q [] = omega arith
-place-le q (w ∷ ws) = go (less w q) (place-le q ws)
+count-le : (f : List ℕ → Bool) (ws : Words) → count f ws ≤ length ws
+unfolding count
+count-le f [] = omega arith
+count-le f (w ∷ ws) = go (f w) (count-le f ws)
   where
-    go : (t : Bool) → place q ws ≤ length ws → pick t (suc (place q ws)) (place q ws) ≤ length (w ∷ ws)
+    go : (t : Bool) → count f ws ≤ length ws → pick t (suc (count f ws)) (count f ws) ≤ length (w ∷ ws)
     go true h = omega arith
     go false h = omega arith
+
+pub place-le : (q : List ℕ) (ws : Words) → place q ws ≤ length ws
+unfolding place
+place-le q ws = count-le (λ w. less w q) ws
+
+-- a range ends with the words, at the latest
+pub range-le : (q : List ℕ) (ws : Words) → place q ws + count (begins q) ws ≤ length ws
+unfolding place
+range-le q ws = omega (arith, sums (λ v. less v q) (begins q) (λ v. begins-not-less q v) ws, count-le (λ v. either (less v q) (begins q v)) ws)
 
 differ : (x y : List ℕ) → (x ≡ y → ⊥) → same x y ≡ false
 differ x y n = go (same x y) refl

@@ -1,5 +1,6 @@
 pub mod Widths
 pub mod Lit
+pub mod Neighbours
 pub mod Questions
 pub mod Calls
 pub mod Heads

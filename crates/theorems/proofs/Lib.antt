@@ -5,8 +5,10 @@ pub mod Trees
 pub mod Tower
 pub mod Orders
 pub mod Questions
+pub mod Ranges
 pub mod Widths
 pub mod Letters
+pub mod Neighbours
 pub mod Search
 pub mod Calls
 pub mod Merging

@@ -34,12 +34,9 @@ use Rattle.answers.proofs.Places.{count-found}
 use Rattle.answers.proofs.Widths.{width-all, width-at, width-found, width-some}
 use Rattle.theorems.specs.Widths.{AsLong}
 use Rattle.theorems.proofs.Calls.{question-settles}
-use Rattle.theorems.proofs.Questions.{range-is}
+use Rattle.theorems.proofs.Ranges.{InRange, asks, begun, count-is, in-range, range-names}
 
 module _ (ρ : Rule) (ok : Lawful ρ) (s : Bytes) (k : ℕ) (xs : List Bytes) (opens : opened ρ s ≡ Book k xs) where
-  is : sound ρ xs ≡ true
-  is = fits-parts ρ k xs (book-opened ρ s k xs opens .0) .sound
-
   -- the words of the names
   abbrev ws : Words
   ws = map (word ρ) xs
@@ -48,63 +45,39 @@ module _ (ρ : Rule) (ok : Lawful ρ) (s : Bytes) (k : ℕ) (xs : List Bytes) (o
   word-length i = ap length (nth-word ρ xs i) ∙ length-map (getD xs i []) ρ
 
   module _ (q : Bytes) (short : length q ≤ longest) where
-    asks : (kind : ℕ) → (kind ≡ 4 → ⊥) → question ρ kind s q ≡ given (answer ρ kind q xs .0) (answer ρ kind q xs .1)
-    unfolding question
-    asks kind n = ap (questionOf ρ kind q) opens ∙ sym (question-given ρ kind q k xs short (λ e z. n e) (answer ρ kind q xs) refl)
-
     pub width-given : question ρ 5 s q ≡ given (width (word ρ q) (map (word ρ) xs)) 0
     unfolding answer ask
-    width-given = asks 5 (λ e. lt-irrefl 4 (omega arith))
+    width-given = asks ρ ok s k xs opens q short 5 (λ e. lt-irrefl 4 (omega arith))
 
     width-is : question ρ 5 s q .first ≡ width (word ρ q) (map (word ρ) xs)
     width-is = ap (λ (a : Answer). a .first) width-given
 
-    range-given : question ρ 3 s q ≡ given (answer ρ 3 q xs .0) (answer ρ 3 q xs .1)
-    range-given = asks 3 (λ e. lt-irrefl 3 (omega arith))
+    -- the range's laws, of this book and question; by the words of the names
+    abbrev Within : ℕ → Type 0
+    Within i = InRange ρ ok s k xs opens q short i
 
-    from-is : question ρ 3 s q .first ≡ answer ρ 3 q xs .0
-    from-is = ap (λ (a : Answer). a .first) range-given
+    begun-word : (i : ℕ) → Within i → begins (word ρ q) (nth (map (word ρ) xs) i) ≡ true
+    begun-word i r = ap (begins (word ρ q)) (nth-word ρ xs i) ∙ begun ρ ok s k xs opens q short i r
 
-    count-is : question ρ 3 s q .second ≡ answer ρ 3 q xs .1
-    count-is = ap (λ (a : Answer). a .second) range-given
-
-    -- a name begins with the question just where it stands in the range
-    begun : (i : ℕ) → i < length xs → question ρ 3 s q .first ≤ i → i < question ρ 3 s q .first + question ρ 3 s q .second → begins (word ρ q) (nth (map (word ρ) xs) i) ≡ true
-    begun i l low high =
-        ap (begins (word ρ q)) (nth-word ρ xs i) ∙ range-is ρ ok xs is q i l
-        ∙ ap₂ both (le-leb (answer ρ 3 q xs .0) i (omega (arith, from-is))) (lt-ltb i (answer ρ 3 q xs .0 + answer ρ 3 q xs .1) (omega (arith, from-is, count-is)))
-
-    record InRange (i : ℕ) : Type 0 where
-      low : question ρ 3 s q .first ≤ i
-      high : i < question ρ 3 s q .first + question ρ 3 s q .second
-
-    in-range : (i : ℕ) → i < length ws → begins (word ρ q) (nth (map (word ρ) xs) i) ≡ true → InRange i
-    in-range i l h =
-        let e : both (leb (answer ρ 3 q xs .0) i) (ltb i (answer ρ 3 q xs .0 + answer ρ 3 q xs .1)) ≡ true =
-        sym (range-is ρ ok xs is q i (omega (arith, length-map xs (word ρ)))) ∙ ap (begins (word ρ q)) (sym (nth-word ρ xs i)) ∙ h in
-        let b = both-true (leb (answer ρ 3 q xs .0) i) (ltb i (answer ρ 3 q xs .0 + answer ρ 3 q xs .1)) e in
-        record {
-          low = omega (arith, leb-true (answer ρ 3 q xs .0) i (b .0), from-is);
-          high = omega (arith, ltb-true i (answer ρ 3 q xs .0 + answer ρ 3 q xs .1) (b .1), from-is, count-is);
-        }
+    within : (i : ℕ) → i < length ws → begins (word ρ q) (nth (map (word ρ) xs) i) ≡ true → Within i
+    within i l h = in-range ρ ok s k xs opens q short i (omega (arith, length-map xs (word ρ))) (ap (begins (word ρ q)) (sym (nth-word ρ xs i)) ∙ h)
 
     pub width-most : (i : ℕ) → question ρ 3 s q .first ≤ i → i < question ρ 3 s q .first + question ρ 3 s q .second → length (getD xs i []) ≤ question ρ 5 s q .first
-    width-most i low high = elim (apart i (length xs)) [
-      | inl l ↦ omega (arith, width-is, word-length i, width-at (word ρ q) (map (word ρ) xs) i (omega (arith, length-map xs (word ρ))) (begun i l low high))
-      | inr l ↦ omega (arith, ap length (List·getD-eq-default xs [] l))
-    ]
+    width-most i low high =
+        let r : Within i = record { low = low; high = high } in
+        omega (arith, width-is, word-length i, width-at (word ρ q) (map (word ρ) xs) i (omega (arith, range-names ρ ok s k xs opens q short i r, length-map xs (word ρ))) (begun-word i r))
 
     pub width-least : 0 < question ρ 3 s q .second → AsLong xs (question ρ 3 s q .first) (question ρ 3 s q .second) (question ρ 5 s q .first)
     unfolding answer ask range
     width-least h =
-        let p = count-found (begins (word ρ q)) (map (word ρ) xs) (omega (arith, count-is)) in
+        let p = count-found (begins (word ρ q)) (map (word ρ) xs) (omega (arith, count-is ρ ok s k xs opens q short)) in
         let w = width-found (word ρ q) (map (word ρ) xs) (p .index) (p .within) (p .passes) in
-        let r = in-range (w .index) (w .within) (w .begun) in
+        let r = within (w .index) (w .within) (w .begun) in
         record { index = w .index; low = r .low; high = r .high; is = sym (word-length (w .index)) ∙ w .is ∙ sym width-is }
 
     pub width-none : question ρ 3 s q .second ≡ 0 → question ρ 5 s q ≡ given 0 0
     width-none z = width-given ∙ ap (λ (n : ℕ). given n 0) (elim (apart 0 (width (word ρ q) (map (word ρ) xs))) [
-      | inl a ↦ let w = width-some (word ρ q) (map (word ρ) xs) a in let r = in-range (w .index) (w .within) (w .begun) in absurd (lt-irrefl (w .index) (omega (arith, r .low, r .high)))
+      | inl a ↦ let w = width-some (word ρ q) (map (word ρ) xs) a in let r = within (w .index) (w .within) (w .begun) in absurd (lt-irrefl (w .index) (omega (arith, r .low, r .high)))
       | inr a ↦ omega arith
     ])
 

@@ -1,7 +1,7 @@
 -- Laws of words: what two words share, and their order. They hold of any lists of numbers, and where `Positive` is asked, of those
 -- without the end symbol in them, as every rule's words are.
 --     sides, apart              how two numbers stand to each other
---     word-positive, shared-word, shared-word-le, word-injective; plain-lawful, plain-injective
+--     word-positive, shared-word, shared-word-le, word-front, word-injective; plain-lawful, plain-injective
 --     shared-self, -comm, -le, -at, -trans, -more, -parts, -append, -front, -two; take-shared
 --     word-at                   a byte's symbol
 --     at-past, at-end           past the last symbol stands the end symbol, and nowhere else
@@ -304,6 +304,11 @@ shared-word-le ρ (a ∷ s) (b ∷ t) = elim (ℕ-discrete a b) [
 ]
 
 -- and names whose words are equal are equal
+pub word-front : (ρ : Rule) (m : ℕ) (s : Bytes) → word ρ (take m s) ≡ take m (word ρ s)
+word-front ρ zero s = refl
+word-front ρ (suc m) [] = refl
+word-front ρ (suc m) (b ∷ s) = ap (λ (w : List ℕ). ρ b ∷ w) (word-front ρ m s)
+
 pub word-injective : (ρ : Rule) → ((a b : ℕ) → ρ a ≡ ρ b → a ≡ b) → (s t : Bytes) → word ρ s ≡ word ρ t → s ≡ t
 word-injective ρ inj [] [] e = refl
 word-injective ρ inj [] (b ∷ t) e = absurd (let z : 0 ≡ suc (length (word ρ t)) = ap length e in omega arith)
@@ -336,6 +341,13 @@ begins-nil x = refl
 pub begins-nothing : (c : ℕ) (q : List ℕ) → begins (c ∷ q) [] ≡ false
 unfolding begins shared
 begins-nothing c q = ne-eqb 0 (suc (length q)) (λ e. lt-irrefl 0 (omega arith))
+
+-- a word that begins with q begins with any beginning of q
+pub begins-front : (q x : List ℕ) (m : ℕ) → begins q x ≡ true → begins (take m q) x ≡ true
+begins-front q x zero h = begins-nil x
+begins-front [] x (suc m) h = begins-nil x
+begins-front (c ∷ q) [] (suc m) h = absurd (false≠true (sym (begins-nothing c q) ∙ h))
+begins-front (c ∷ q) (b ∷ x) (suc m) h = let p = begins-cons c b q x h in begins-same c b (take m q) x (p .0) (begins-front q x m (p .1))
 
 -- a word that begins with q is not below q
 pub begins-not-less : (q x : List ℕ) → begins q x ≡ true → less x q ≡ false

@@ -1,0 +1,87 @@
+-- Document 02, CR 12: testers check nearest by eye against the sorted sheet. Over the public calls' own functions (place is kind 2, range 3, nearest
+-- 4), any lawful rule, an accepted book and a question that is not refused.
+--     neighbours-tell   nearest's number is the greater of those that the names at place less 1 and at place would give, whichever of these exist
+--     range-nested      the names in the range of a longer question all lie in the range of any beginning of it
+--     typed-on          one byte more never brings back a stop that was out
+-- Assumes nothing.
+use Prim.Native.Nat.{ℕ, _+_, _-_, _≤_, _<_}
+use native.Mathlib.Nat.{lt-irrefl}
+use native.Mathlib.Omega.{arith}
+use mathlib.Core.Path.{_≡_, refl, sym, ap, _∙_, subst}
+use mathlib.Core.Bool.{true}
+use mathlib.Core.List.{List, [], _∷_, _++_, map}
+use lib.ListN.{getD, length, length-append, length-map, length-take, take}
+use lib.Seq.{take-append-seam}
+use Rattle.words.specs.Rising.{nth}
+use Rattle.words.specs.Words.{Bytes, Lawful, Rule, begins, shared, word}
+use Rattle.words.proofs.Rising.{nth-word}
+use Rattle.words.proofs.Words.{begins-front, word-front, word-positive}
+use Rattle.format.specs.Book.{Book, opened}
+use Rattle.format.specs.Outcomes.{Answer}
+use Rattle.format.specs.Records.{longest}
+use Rattle.format.proofs.Records.{sound-rises}
+use Rattle.answers.specs.Calls.{question}
+use Rattle.answers.specs.Lit.{lit}
+use Rattle.answers.specs.Neighbours.{ByNeighbours}
+use Rattle.answers.specs.Questions.{answer, ask, place, reached}
+use Rattle.answers.proofs.Neighbours.{Peak, peak-lit, peak-told, shared-peak}
+use Rattle.theorems.proofs.Letters.{nearest-given}
+use Rattle.theorems.proofs.Ranges.{InRange, asks, begun, in-range, names-sound, range-names}
+
+module _ (ρ : Rule) (ok : Lawful ρ) (s : Bytes) (k : ℕ) (xs : List Bytes) (opens : opened ρ s ≡ Book k xs) where
+  -- ---- nearest by the names beside the place
+
+  module _ (some : 0 < length xs) (q : Bytes) (short : length q ≤ longest) where
+    -- the number that name i would give
+    abbrev gives : ℕ → ℕ
+    gives i = lit q (shared (word ρ q) (word ρ (getD xs i [])))
+
+    place-is : question ρ 2 s q .first ≡ place (word ρ q) (map (word ρ) xs)
+    unfolding answer ask
+    place-is = ap (λ (a : Answer). a .first) (asks ρ ok s k xs opens q short 2 (λ e. lt-irrefl 2 (omega arith)))
+
+    number-is : question ρ 4 s q .second ≡ lit q (shared (word ρ q) (word ρ (getD xs (reached (word ρ q) (map (word ρ) xs)) [])))
+    number-is = ap (λ (a : Answer). a .second) (nearest-given ρ ok s k xs opens some q short)
+
+    -- by names, where the laws have words
+    by-names : Peak (λ i. shared (word ρ q) (word ρ (getD xs i []))) (length xs) (place (word ρ q) (map (word ρ) xs)) (shared (word ρ q) (word ρ (getD xs (reached (word ρ q) (map (word ρ) xs)) [])))
+    by-names =
+        let p = shared-peak (word ρ q) (map (word ρ) xs) (sound-rises ρ ok xs (names-sound ρ ok s k xs opens)) (word-positive ρ ok q) (omega (arith, length-map xs (word ρ))) in
+        record {
+          within = omega (arith, p .within, length-map xs (word ρ));
+          at = p .at;
+          inside = omega (arith, p .inside, length-map xs (word ρ));
+          is = sym (same (reached (word ρ q) (map (word ρ) xs))) ∙ p .is ∙ same (p .at);
+          most = λ i l. omega (arith, p .most i (omega (arith, length-map xs (word ρ))), same i, same (reached (word ρ q) (map (word ρ) xs)));
+          up = λ i l. omega (arith, p .up i l, same i, same (place (word ρ q) (map (word ρ) xs) - 1));
+          down = λ i l h. omega (arith, p .down i l (omega (arith, length-map xs (word ρ))), same i, same (place (word ρ q) (map (word ρ) xs)));
+        }
+      where
+        same : (i : ℕ) → shared (word ρ q) (nth (map (word ρ) xs) i) ≡ shared (word ρ q) (word ρ (getD xs i []))
+        same i = ap (shared (word ρ q)) (nth-word ρ xs i)
+
+    pub neighbours-tell : ByNeighbours (λ i. lit q (shared (word ρ q) (word ρ (getD xs i [])))) (length xs) (question ρ 2 s q .first) (question ρ 4 s q .second)
+    neighbours-tell =
+        subst (λ (n : ℕ). ByNeighbours gives (length xs) n (question ρ 4 s q .second)) (sym place-is)
+        (subst (λ (n : ℕ). ByNeighbours gives (length xs) (place (word ρ q) (map (word ρ) xs)) n) (sym number-is) (peak-told (peak-lit q by-names)))
+
+  -- ---- ranges inside each other
+
+  module _ (q : Bytes) (short : length q ≤ longest) where
+    pub range-nested : (m i : ℕ) → question ρ 3 s q .first ≤ i → i < question ρ 3 s q .first + question ρ 3 s q .second
+        → (question ρ 3 s (take m q) .first ≤ i) × (i < question ρ 3 s (take m q) .first + question ρ 3 s (take m q) .second)
+    range-nested m i low high =
+        let r : InRange ρ ok s k xs opens q short i = record { low = low; high = high } in
+        let less : length (take m q) ≤ longest = omega (arith, length-take m q) in
+        let b : begins (word ρ (take m q)) (word ρ (getD xs i [])) ≡ true =
+        subst (λ (w : List ℕ). begins w (word ρ (getD xs i [])) ≡ true) (sym (word-front ρ m q)) (begins-front (word ρ q) (word ρ (getD xs i [])) m (begun ρ ok s k xs opens q short i r)) in
+        let t = in-range ρ ok s k xs opens (take m q) less i (range-names ρ ok s k xs opens q short i r) b in
+        (t .low, t .high)
+
+  -- a panel: what was out stays out
+  pub typed-on : (q : Bytes) (b i : ℕ) → length (q ++ (b ∷ [])) ≤ longest → (question ρ 3 s q .first ≤ i → i < question ρ 3 s q .first + question ρ 3 s q .second → ⊥)
+      → question ρ 3 s (q ++ (b ∷ [])) .first ≤ i → i < question ρ 3 s (q ++ (b ∷ [])) .first + question ρ 3 s (q ++ (b ∷ [])) .second → ⊥
+  typed-on q b i short out low high =
+      let r = range-nested (q ++ (b ∷ [])) short (length q) i low high in
+      let same : take (length q) (q ++ (b ∷ [])) ≡ q = take-append-seam q (b ∷ []) in
+      out (subst (λ (x : Bytes). question ρ 3 s x .first ≤ i) same (r .0)) (subst (λ (x : Bytes). i < question ρ 3 s x .first + question ρ 3 s x .second) same (r .1))
