@@ -68,15 +68,16 @@ module _ (ρ : Rule) (ok : Lawful ρ) (s : Bytes) (k : ℕ) (xs : List Bytes) (o
   -- ---- ranges inside each other
 
   module _ (q : Bytes) (short : length q ≤ longest) where
+    -- position i is a name's, which begins with q; and it lies in the range of the first m bytes of q
     pub range-nested : (m i : ℕ) → question ρ 3 s q .first ≤ i → i < question ρ 3 s q .first + question ρ 3 s q .second
-        → (question ρ 3 s (take m q) .first ≤ i) × (i < question ρ 3 s (take m q) .first + question ρ 3 s (take m q) .second)
+        → (i < length xs) × (begins (word ρ q) (word ρ (getD xs i [])) ≡ true) × (question ρ 3 s (take m q) .first ≤ i) × (i < question ρ 3 s (take m q) .first + question ρ 3 s (take m q) .second)
     range-nested m i low high =
         let r : InRange ρ ok s k xs opens q short i = record { low = low; high = high } in
         let less : length (take m q) ≤ longest = omega (arith, length-take m q) in
         let b : begins (word ρ (take m q)) (word ρ (getD xs i [])) ≡ true =
         subst (λ (w : List ℕ). begins w (word ρ (getD xs i [])) ≡ true) (sym (word-front ρ m q)) (begins-front (word ρ q) (word ρ (getD xs i [])) m (begun ρ ok s k xs opens q short i r)) in
         let t = in-range ρ ok s k xs opens (take m q) less i (range-names ρ ok s k xs opens q short i r) b in
-        (t .low, t .high)
+        (range-names ρ ok s k xs opens q short i r, begun ρ ok s k xs opens q short i r, t .low, t .high)
 
   -- a panel: what was out stays out
   pub typed-on : (q : Bytes) (b i : ℕ) → length (q ++ (b ∷ [])) ≤ longest → (question ρ 3 s q .first ≤ i → i < question ρ 3 s q .first + question ρ 3 s q .second → ⊥)
@@ -84,4 +85,4 @@ module _ (ρ : Rule) (ok : Lawful ρ) (s : Bytes) (k : ℕ) (xs : List Bytes) (o
   typed-on q b i short out low high =
       let r = range-nested (q ++ (b ∷ [])) short (length q) i low high in
       let same : take (length q) (q ++ (b ∷ [])) ≡ q = take-append-seam q (b ∷ []) in
-      out (subst (λ (x : Bytes). question ρ 3 s x .first ≤ i) same (r .0)) (subst (λ (x : Bytes). i < question ρ 3 s x .first + question ρ 3 s x .second) same (r .1))
+      out (subst (λ (x : Bytes). question ρ 3 s x .first ≤ i) same (r .2)) (subst (λ (x : Bytes). i < question ρ 3 s x .first + question ρ 3 s x .second) same (r .3))
