@@ -65,7 +65,7 @@ fn several_names(random: &mut Random, block: usize) -> Names {
 }
 
 /// A block size from 1 to 64, often a small one.
-fn any_block(random: &mut Random) -> usize {
+pub fn any_block(random: &mut Random) -> usize {
     match random.below(4) {
         0 => *random.one_of(&[1, 2, 16, 63, 64]),
         1 | 2 => random.between(1, 8),

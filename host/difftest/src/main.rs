@@ -3,8 +3,10 @@
 //! Every case makes one call of both with the same bytes and numbers, and
 //! compares the answer and all lent bytes and rows; those of the laws of merging
 //! compare what the proved library gives in one order with what it gives in
-//! another. The seed is printed first; the same seed gives the same cases. A
-//! difference is printed with the whole case, and the exit status is then 1.
+//! another, and those of neighbours its answers with the names that it reads back
+//! and with each other. The seed is printed first; the same seed gives the same
+//! cases. A difference is printed with the whole case, and the exit status is
+//! then 1.
 //!
 //! The proved library is called on exactly as much stack as its header says is
 //! enough, and all that is lent to it has a fence before or behind it. Where it
@@ -24,6 +26,7 @@ mod checking;
 mod laws;
 mod lent;
 mod merging;
+mod neighbours;
 mod reading;
 mod records;
 mod shapes;
@@ -47,7 +50,7 @@ pub struct Kind {
 }
 
 /// Every kind of call, as often as the others.
-const KINDS: [Kind; 13] = [
+const KINDS: [Kind; 17] = [
     Kind {
         name: "build",
         run: building::run,
@@ -99,6 +102,22 @@ const KINDS: [Kind; 13] = [
     Kind {
         name: "merge laws",
         run: laws::run,
+    },
+    Kind {
+        name: "both neighbours",
+        run: neighbours::both,
+    },
+    Kind {
+        name: "neighbour before",
+        run: neighbours::only_before,
+    },
+    Kind {
+        name: "neighbour behind",
+        run: neighbours::only_behind,
+    },
+    Kind {
+        name: "nested ranges",
+        run: neighbours::ranges,
     },
 ];
 
