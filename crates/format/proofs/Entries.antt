@@ -7,7 +7,7 @@ use Prim.Native.Nat.{ℕ, zero, suc, _+_, _*_, _≤_, _<_}
 use native.Mathlib.Nat.{le-of-suc-le-suc, not-suc-le-zero}
 use native.Mathlib.Omega.{arith}
 use mathlib.Core.Path.{_≡_, refl, sym, ap, ap₂, _∙_}
-use mathlib.Core.List.{List, [], _∷_, _++_, map, append-assoc}
+use mathlib.Core.List.{List, [], _∷_, _++_, map, append-assoc, append-nil}
 use lib.ListN.{length, getD, take, drop, length-append, take-append-drop, length-drop, length-map}
 use lib.Seq.{take-append-seam, drop-append-seam, drop-append-add, drop-drop, drop-nil}
 use Rattle.words.specs.Words.{Bytes, shared}
@@ -51,6 +51,11 @@ decode-block prev (x ∷ xs) rest after h =
     ap (decodeFrom prev 0) (append-assoc (entry [] x) (front x xs) rest)
     ∙ decode-entry prev [] x (front x xs ++ rest) refl
     ∙ ap (λ (r : List Bytes). x ∷ r) (decode-front x xs rest after h)
+
+-- a block's entries alone tell its names
+pub decode-alone : (xs : List Bytes) → decode (front [] xs) ≡ xs
+unfolding decode decodeFrom
+decode-alone xs = ap (decodeFrom [] 0) (sym (append-nil (front [] xs))) ∙ decode-front [] xs [] [] (λ p. refl) ∙ append-nil xs
 
 abbrev pub joinedNames : List (List Bytes) → List Bytes
 joinedNames [] = []

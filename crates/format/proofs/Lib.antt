@@ -5,6 +5,7 @@ pub mod Merging
 pub mod Unions
 pub mod Distinct
 pub mod Entries
+pub mod Salvage
 pub mod Groups
 pub mod Widths
 pub mod Spans

@@ -3,6 +3,7 @@ pub mod Alone
 pub mod Merging
 pub mod Distinct
 pub mod Entries
+pub mod Salvage
 pub mod Widths
 pub mod Nodes
 pub mod Book

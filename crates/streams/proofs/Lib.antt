@@ -8,3 +8,4 @@ pub mod Walks
 pub mod Here
 pub mod InBlocks
 pub mod Rereading
+pub mod Alone
