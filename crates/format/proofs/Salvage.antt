@@ -1,20 +1,29 @@
 -- Laws of a block that is judged alone.
 --     Alone             names that stand in a span by themselves
 --     alone-whole, whole-alone     a block is whole just where its names stand so, and then they are its names
+--     Outside           bytes that differ only inside a span
+--     number-behind, told-same, bounds-same     what is told behind it is the same: the trailer, the block table
+--     span-before, span-behind     and so is every other span
+--     span-at, spans-long, bounds-rise, spans-isolated     spans by their number; those of two runs of bytes that differ only inside one of them
 -- Assumes nothing.
-use Prim.Native.Nat.{ℕ}
+use Prim.Native.Nat.{ℕ, zero, suc, _+_, _-_, _*_, _≤_, _<_, min}
+use native.Mathlib.Nat.{le-of-suc-le-suc, lt-irrefl, not-suc-le-zero}
 use native.Mathlib.Omega.{arith}
 use mathlib.Core.Path.{_≡_, refl, sym, ap, ap₂, _∙_, subst}
+use mathlib.Core.Logic.{_⊎_, inl, inr}
 use mathlib.Core.Bool.{Bool, true, false}
-use mathlib.Core.List.{List, []}
-use lib.Dec.{eqb}
-use lib.ListN.{length}
-use borrow.Author.Tests.{eq-eqb, eqb-true}
+use mathlib.Core.List.{List, [], _∷_}
+use lib.Dec.{eqb, ltb}
+use lib.ListN.{drop, getD, length, take}
+use lib.Seq.{drop-drop, getD-drop, take-take}
+use borrow.Author.Tests.{eq-eqb, eqb-true, ltb-true}
 use Rattle.words.specs.Words.{Bytes, both, pick, plain, same}
-use Rattle.words.proofs.Words.{both-true, same-refl, same-true}
+use Rattle.words.proofs.Lists.{drop-take}
+use Rattle.words.proofs.Words.{apart, both-true, same-refl, same-true}
+use Rattle.format.specs.Book.{number, told, trailerSize}
 use Rattle.format.specs.Entries.{decode, front}
 use Rattle.format.specs.Records.{rising}
-use Rattle.format.specs.Salvage.{Block, Broken, Whole, judgedAlone}
+use Rattle.format.specs.Salvage.{Broken, Whole, boundsFrom, climbs, fromZero, judgedAlone, spansFrom}
 use Rattle.format.proofs.Entries.{decode-alone}
 
 pub record Alone (m : ℕ) (span : Bytes) (xs : List Bytes) : Type 0 where
@@ -39,3 +48,103 @@ whole-alone m span xs e = go (both (eqb (length (decode span)) m) (both (rising 
         let c = both-true (rising plain [] (decode span)) (same (front [] (decode span)) span) (b .1) in
         subst (Alone m span) same-names (record { count = eqb-true (length (decode span)) m (b .0); rises = c .0; entries = same-true (front [] (decode span)) span (c .1) })
     go false p f = let z : _≡_ {A = ℕ} 0 1 = cc in absurd (omega arith)
+
+-- ---- bytes that differ only inside a span
+
+pub record Outside (lo hi : ℕ) (s t : Bytes) : Type 0 where
+  pub order : lo ≤ hi
+  pub size : length s ≡ length t
+  pub front : take lo s ≡ take lo t
+  pub back : drop hi s ≡ drop hi t
+
+module _ {lo hi : ℕ} {s t : Bytes} (u : Outside lo hi s t) where
+  -- behind it every byte is the same, and so is every number
+  byte-behind : (i : ℕ) → hi ≤ i → getD s i 0 ≡ getD t i 0
+  byte-behind i h =
+      let there : hi + (i - hi) ≡ i = omega arith in
+      ap (λ (n : ℕ). getD s n 0) (sym there) ∙ sym (getD-drop hi s (i - hi) 0) ∙ ap (λ (l : Bytes). getD l (i - hi) 0) (u .back) ∙ getD-drop hi t (i - hi) 0 ∙ ap (λ (n : ℕ). getD t n 0) there
+
+  pub number-behind : (o : ℕ) → hi ≤ o → number s o ≡ number t o
+  unfolding number
+  number-behind o h = ap₂ (λ (a b : ℕ). a + 256 * b) (byte-behind o h) (byte-behind (o + 1) (omega arith))
+
+  -- a span before it, or behind it, is the same
+  pub span-behind : (a b : ℕ) → hi ≤ a → take (b - a) (drop a s) ≡ take (b - a) (drop a t)
+  span-behind a b h =
+      let there : hi + (a - hi) ≡ a = omega arith in
+      let same : (l : Bytes) → drop a l ≡ drop (a - hi) (drop hi l) = λ l. ap (λ (n : ℕ). drop n l) (sym there) ∙ sym (drop-drop (a - hi) hi l) in
+      ap (take (b - a)) (same s ∙ ap (drop (a - hi)) (u .back) ∙ sym (same t))
+
+  pub span-before : (a b : ℕ) → b ≤ lo → take (b - a) (drop a s) ≡ take (b - a) (drop a t)
+  span-before a b h = sym (cut a s) ∙ ap (drop a) (shorter s ∙ ap (take b) (u .front) ∙ sym (shorter t)) ∙ cut a t
+    where
+      shorter : (l : Bytes) → take b l ≡ take b (take lo l)
+      shorter l = sym (take-take b lo l h)
+
+      cut : (n : ℕ) (l : Bytes) → drop n (take b l) ≡ take (b - n) (drop n l)
+      cut n l = drop-take n b l
+
+  -- the trailer and the block table tell the same, where they stand behind it
+  pub told-same : hi + trailerSize ≤ length s → (j : ℕ) → told s j ≡ told t j
+  told-same h j = ap (λ (n : ℕ). number s (n - trailerSize + 2 * j)) (u .size) ∙ number-behind (length t - trailerSize + 2 * j) (omega (arith, u .size))
+
+  pub bounds-same : hi + trailerSize ≤ length s → (at more : ℕ) → hi ≤ at → boundsFrom s at more ≡ boundsFrom t at more
+  unfolding boundsFrom
+  bounds-same h at zero l = ap (λ (n : ℕ). n ∷ []) (told-same h 2)
+  bounds-same h at (suc more) l = ap₂ (λ (n : ℕ) (ns : List ℕ). n ∷ ns) (number-behind at l) (bounds-same h (at + 2) more (omega arith))
+
+-- ---- spans by their number
+
+-- what is a span, where it has none
+abbrev pub noSpan : ℕ × Bytes
+noSpan = (0, [])
+
+pub span-at : (s : Bytes) (k left : ℕ) (bs : List ℕ) (i : ℕ) → suc i < length bs
+    → getD (spansFrom s k left bs) i noSpan ≡ (min (left - i * k) k, take (getD bs (suc i) 0 - getD bs i 0) (drop (getD bs i 0) s))
+unfolding spansFrom
+span-at s k left [] i h = absurd (not-suc-le-zero h)
+span-at s k left (a ∷ []) i h = absurd (lt-irrefl 0 (omega arith))
+span-at s k left (a ∷ b ∷ l) zero h = let same : left ≡ left - 0 * k = omega arith in ap (λ (n : ℕ). (min n k, take (b - a) (drop a s))) same
+span-at s k left (a ∷ b ∷ l) (suc i) h =
+    let same : left - k - i * k ≡ left - suc i * k = omega arith in
+    span-at s k (left - k) (b ∷ l) i (le-of-suc-le-suc h)
+    ∙ ap (λ (n : ℕ). (min n k, take (getD (b ∷ l) (suc i) 0 - getD (b ∷ l) i 0) (drop (getD (b ∷ l) i 0) s))) same
+
+pub spans-long : (s : Bytes) (k left : ℕ) (bs : List ℕ) → length (spansFrom s k left bs) ≡ length bs - 1
+unfolding spansFrom
+spans-long s k left [] = omega arith
+spans-long s k left (a ∷ []) = omega arith
+spans-long s k left (a ∷ b ∷ l) = omega (arith, spans-long s k (left - k) (b ∷ l))
+
+-- bounds that climb rise by their numbers
+climbs-above : (a : ℕ) (l : List ℕ) → climbs a l ≡ true → (j : ℕ) → j < length l → a < getD l j 0
+unfolding climbs
+climbs-above a [] c j h = absurd (not-suc-le-zero h)
+climbs-above a (b ∷ l) c zero h = ltb-true a b (both-true (ltb a b) (climbs b l) c .0)
+climbs-above a (b ∷ l) c (suc j) h =
+    let k = both-true (ltb a b) (climbs b l) c in
+    omega (arith, ltb-true a b (k .0), climbs-above b l (k .1) j (le-of-suc-le-suc h))
+
+climbs-rise : (a : ℕ) (l : List ℕ) → climbs a l ≡ true → (i j : ℕ) → i < j → j < length (a ∷ l) → getD (a ∷ l) i 0 < getD (a ∷ l) j 0
+unfolding climbs
+climbs-rise a l c i zero h k = absurd (not-suc-le-zero h)
+climbs-rise a l c zero (suc j) h k = climbs-above a l c j (le-of-suc-le-suc k)
+climbs-rise a [] c (suc i) (suc j) h k = absurd (lt-irrefl 0 (omega arith))
+climbs-rise a (b ∷ l) c (suc i) (suc j) h k = climbs-rise b l (both-true (ltb a b) (climbs b l) c .1) i j (le-of-suc-le-suc h) (le-of-suc-le-suc k)
+
+pub bounds-rise : (bs : List ℕ) → fromZero bs ≡ true → (i j : ℕ) → i ≤ j → j < length bs → getD bs i 0 ≤ getD bs j 0
+bounds-rise [] f i j h k = absurd (not-suc-le-zero k)
+bounds-rise (a ∷ l) f i j h k = elim (apart i j) [
+  | inl m ↦ omega (arith, climbs-rise a l (both-true (eqb a 0) (climbs a l) f .1) i j m k)
+  | inr m ↦ let same : i ≡ j = omega arith in subst (λ (n : ℕ). getD (a ∷ l) i 0 ≤ getD (a ∷ l) n 0) same (omega arith)
+]
+
+-- the spans of two runs of bytes that differ only inside span number j, but for that one
+pub spans-isolated : (bs : List ℕ) → fromZero bs ≡ true → (j : ℕ) → suc j < length bs → {s t : Bytes} → Outside (getD bs j 0) (getD bs (suc j) 0) s t → (k left i : ℕ) → suc i < length bs → (i ≡ j → ⊥)
+    → getD (spansFrom s k left bs) i noSpan ≡ getD (spansFrom t k left bs) i noSpan
+spans-isolated bs f j hj {s} {t} u k left i hi n =
+    span-at s k left bs i hi ∙ ap (λ (l : Bytes). (min (left - i * k) k, l)) (same (apart i j)) ∙ sym (span-at t k left bs i hi)
+  where
+    same : (i < j) ⊎ (j ≤ i) → take (getD bs (suc i) 0 - getD bs i 0) (drop (getD bs i 0) s) ≡ take (getD bs (suc i) 0 - getD bs i 0) (drop (getD bs i 0) t)
+    same (inl l) = span-before u (getD bs i 0) (getD bs (suc i) 0) (bounds-rise bs f (suc i) j (omega arith) (omega arith))
+    same (inr l) = span-behind u (getD bs i 0) (getD bs (suc i) 0) (bounds-rise bs f (suc j) i (omega arith) (omega arith))

@@ -3,10 +3,10 @@ pub mod Alone
 pub mod Merging
 pub mod Distinct
 pub mod Entries
-pub mod Salvage
 pub mod Widths
 pub mod Nodes
 pub mod Book
 pub mod Outcomes
 pub mod Spans
+pub mod Salvage
 pub mod Example

@@ -2,13 +2,15 @@
 --     all-head, all-tail, all-append, all-left, all-right, all-map, all-map₂
 --     all-from, all-at        what holds at every position holds of all, and back
 --     Within                  z stands at j: within-left, within-right, all-within, within-at
+--     drop-take               taking and passing over, in either order
 -- Assumes nothing.
-use Prim.Native.Nat.{ℕ, zero, suc, _+_, _<_, suc-le-suc, zero-le}
+use Prim.Native.Nat.{ℕ, zero, suc, _+_, _-_, _<_, suc-le-suc, zero-le}
 use native.Mathlib.Nat.{le-of-suc-le-suc, not-suc-le-zero}
+use native.Mathlib.Omega.{arith}
 use mathlib.Core.Path.{_≡_, ap, _∙_, sym, subst}
 use mathlib.Core.List.{List, [], _∷_, _++_, append-assoc}
-use lib.ListN.{length, getD, length-append}
-use lib.Seq.{getD-at}
+use lib.ListN.{drop, length, getD, length-append, take}
+use lib.Seq.{getD-at, take-nil}
 use Rattle.words.specs.Rising.{All, cons, nil}
 
 module _ {A : Type 0} {P : A → Type 0} where
@@ -76,3 +78,10 @@ module _ {A : Type 0} {z : A} {j : ℕ} where
 
   pub within-at : {l : List A} (d : A) → Within l z j → getD l j d ≡ z
   within-at d m = ap (λ (r : List A). getD r j d) (m .split) ∙ getD-at (m .before) z (m .behind) d j (m .size)
+
+-- what is taken and then passed over is passed over and then taken
+pub drop-take : {A : Type 0} (n m : ℕ) (l : List A) → drop n (take m l) ≡ take (m - n) (drop n l)
+drop-take zero m l = let same : m ≡ m - 0 = omega arith in ap (λ (k : ℕ). take k l) same
+drop-take (suc n) zero l = let same : 0 ≡ 0 - suc n = omega arith in ap (λ (k : ℕ). take k (drop (suc n) l)) same
+drop-take (suc n) (suc m) [] = sym (take-nil (suc m - suc n))
+drop-take (suc n) (suc m) (x ∷ l) = let same : m - n ≡ suc m - suc n = omega arith in drop-take n m l ∙ ap (λ (k : ℕ). take k (drop n l)) same
