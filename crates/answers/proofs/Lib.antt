@@ -9,4 +9,5 @@ pub mod Neighbours
 pub mod Calls
 pub mod Merging
 pub mod Heads
+pub mod Salvage
 pub mod Example

@@ -5,3 +5,4 @@ pub mod Questions
 pub mod Calls
 pub mod Heads
 pub mod Merging
+pub mod Salvage

@@ -7,9 +7,9 @@
 use Prim.Native.Nat.{ℕ, _+_, _≤_, zero-le}
 use native.Mathlib.Omega.{arith}
 use mathlib.Core.Path.{_≡_, refl, sym, ap, _∙_}
-use mathlib.Core.Logic.{_⊎_, inl, inr, ⊎-elim}
+use mathlib.Core.Logic.{⊎-elim}
 use mathlib.Core.Bool.{Bool, true, false, not}
-use mathlib.Core.List.{List, List·Memᴰ as Among, List·Memᴰ·head as here, List·Memᴰ·tail as there, Memᴰ·append-left, Memᴰ·append-right, [], _∷_, _++_, map}
+use mathlib.Core.List.{List, List·Memᴰ as Among, List·Memᴰ·head as here, List·Memᴰ·tail as there, [], _∷_, map}
 use lib.ListN.{length, length-append}
 use Rattle.words.specs.Words.{Bytes, Lawful, Rule, less, pick, same, word}
 use Rattle.words.proofs.Members.{Distinct, distinct-few, mapped, more, none, rising-distinct}

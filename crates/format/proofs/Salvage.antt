@@ -2,7 +2,7 @@
 --     Alone             names that stand in a span by themselves
 --     alone-whole, whole-alone     a block is whole just where its names stand so, and then they are its names
 --     Outside           bytes that differ only inside a span
---     number-behind, told-same, bounds-same     what is told behind it is the same: the trailer, the block table
+--     number-behind, tail-behind, told-same, bounds-same     what is told behind it is the same: the trailer, the block table
 --     span-before, span-behind     and so is every other span
 --     span-at, spans-long, bounds-rise, spans-isolated     spans by their number; those of two runs of bytes that differ only inside one of them
 -- Assumes nothing.
@@ -68,12 +68,15 @@ module _ {lo hi : ℕ} {s t : Bytes} (u : Outside lo hi s t) where
   unfolding number
   number-behind o h = ap₂ (λ (a b : ℕ). a + 256 * b) (byte-behind o h) (byte-behind (o + 1) (omega arith))
 
-  -- a span before it, or behind it, is the same
-  pub span-behind : (a b : ℕ) → hi ≤ a → take (b - a) (drop a s) ≡ take (b - a) (drop a t)
-  span-behind a b h =
+  pub tail-behind : (a : ℕ) → hi ≤ a → drop a s ≡ drop a t
+  tail-behind a h =
       let there : hi + (a - hi) ≡ a = omega arith in
       let same : (l : Bytes) → drop a l ≡ drop (a - hi) (drop hi l) = λ l. ap (λ (n : ℕ). drop n l) (sym there) ∙ sym (drop-drop (a - hi) hi l) in
-      ap (take (b - a)) (same s ∙ ap (drop (a - hi)) (u .back) ∙ sym (same t))
+      same s ∙ ap (drop (a - hi)) (u .back) ∙ sym (same t)
+
+  -- a span before it, or behind it, is the same
+  pub span-behind : (a b : ℕ) → hi ≤ a → take (b - a) (drop a s) ≡ take (b - a) (drop a t)
+  span-behind a b h = ap (take (b - a)) (tail-behind a h)
 
   pub span-before : (a b : ℕ) → b ≤ lo → take (b - a) (drop a s) ≡ take (b - a) (drop a t)
   span-before a b h = sym (cut a s) ∙ ap (drop a) (shorter s ∙ ap (take b) (u .front) ∙ sym (shorter t)) ∙ cut a t

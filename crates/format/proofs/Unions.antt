@@ -5,12 +5,11 @@
 --     merged-commutes, merged-associates     the same of names
 -- Assumes nothing.
 use Prim.Native.Nat.{ℕ}
-use mathlib.Core.Path.{_≡_, refl, sym, ap, _∙_}
+use mathlib.Core.Path.{_≡_, refl, ap, _∙_}
 use mathlib.Core.Logic.{_⊎_, inl, inr, ⊎-elim}
 use mathlib.Core.Bool.{true}
 use mathlib.Core.List.{List, List·Memᴰ as Among, Memᴰ·cast, [], _∷_, map}
-use Rattle.words.specs.Rising.{Rises}
-use Rattle.words.specs.Words.{Bytes, Lawful, Rule, Words, word}
+use Rattle.words.specs.Words.{Bytes, Lawful, Rule, word}
 use Rattle.words.proofs.Members.{map-injective, mapped, rising-unique, unmapped}
 use Rattle.format.specs.Merging.{merged}
 use Rattle.format.specs.Records.{rising}

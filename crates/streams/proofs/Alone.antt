@@ -5,7 +5,7 @@
 -- Assumes nothing.
 use Prim.Native.Nat.{ℕ, _+_, _-_, _≤_}
 use native.Mathlib.Omega.{arith}
-use mathlib.Core.Path.{_≡_, refl, sym, ap, ap₂, _∙_, subst}
+use mathlib.Core.Path.{_≡_, refl, sym, ap, ap₂, _∙_}
 use mathlib.Core.List.{List, [], _++_}
 use lib.ListN.{drop, length, length-append, length-drop, take, take-append-drop}
 use lib.Seq.{drop-drop, take-append-seam}
@@ -13,9 +13,9 @@ use Rattle.words.specs.Words.{Bytes}
 use Rattle.format.specs.Entries.{front}
 use Rattle.format.specs.Salvage.{Whole, judgedAlone}
 use Rattle.format.specs.Spans.{lastOf}
-use Rattle.format.proofs.Salvage.{Alone, alone-whole, whole-alone}
+use Rattle.format.proofs.Salvage.{alone-whole, whole-alone}
 use Rattle.streams.specs.Runs.{RunTo}
-use Rattle.streams.proofs.Fronts.{Fronts, front-run, run-front}
+use Rattle.streams.proofs.Fronts.{front-run, run-front}
 
 abbrev pub spanOf : Bytes → ℕ → ℕ → Bytes
 spanOf b o e = take (e - o) (drop o b)

@@ -7,7 +7,7 @@
 --     lit-accents       accents in several forms, computed
 -- Assumes nothing.
 use Prim.Native.Nat.{ℕ, zero, suc, _≤_, _<_}
-use native.Mathlib.Nat.{le-of-suc-le-suc, lt-irrefl, not-suc-le-zero}
+use native.Mathlib.Nat.{le-of-suc-le-suc, lt-irrefl}
 use native.Mathlib.Omega.{arith}
 use mathlib.Core.Path.{_≡_, refl, sym, ap, ap₂, _∙_, subst}
 use mathlib.Core.Logic.{_⊎_, inl, inr}
@@ -27,7 +27,7 @@ use Rattle.answers.specs.Lit.{accents, inCharacter, lit, mayEnd}
 use Rattle.answers.specs.Questions.{answer, ask, nearest, reached}
 use Rattle.answers.proofs.Accents.{accents-lit}
 use Rattle.answers.proofs.Calls.{question-given}
-use Rattle.answers.proofs.Lit.{answer-lit, lit-low, lit-may, lit-most, lit-rises}
+use Rattle.answers.proofs.Lit.{lit-low, lit-may, lit-most, lit-rises}
 use Rattle.theorems.specs.Demands.{Greatest}
 use Rattle.theorems.specs.Letters.{characters, following, wellFormed}
 use Rattle.theorems.proofs.Questions.{nearest-greatest}

@@ -32,7 +32,7 @@ use Rattle.format.proofs.Records.{read-encode, read-names}
 use Rattle.answers.specs.Heads.{Head as Place, bytesOf, headOf, lesserHead, partOf, screen}
 use Rattle.answers.specs.Merging.{judgeLists, mergeLists, ofReadings}
 use Rattle.answers.proofs.Heads.{head-bad, screen-shows}
-use Rattle.answers.proofs.Merging.{Accepted, all-put, merge-accepted, merge-read}
+use Rattle.answers.proofs.Merging.{all-put, merge-accepted, merge-read}
 use Rattle.shapes.specs.Heads.{headed, lentPart}
 use Rattle.shapes.specs.declared.Head.{Head}
 use Rattle.theorems.proofs.Calls.{written-settles}

@@ -7,10 +7,10 @@
 use Prim.Native.Nat.{ℕ, _+_, _-_, _≤_, _<_}
 use native.Mathlib.Nat.{lt-irrefl}
 use native.Mathlib.Omega.{arith}
-use mathlib.Core.Path.{_≡_, refl, sym, ap, _∙_, subst}
+use mathlib.Core.Path.{_≡_, sym, ap, _∙_, subst}
 use mathlib.Core.Bool.{true}
 use mathlib.Core.List.{List, [], _∷_, _++_, map}
-use lib.ListN.{getD, length, length-append, length-map, length-take, take}
+use lib.ListN.{getD, length, length-map, length-take, take}
 use lib.Seq.{take-append-seam}
 use Rattle.words.specs.Rising.{nth}
 use Rattle.words.specs.Words.{Bytes, Lawful, Rule, begins, shared, word}

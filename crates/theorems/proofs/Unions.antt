@@ -11,9 +11,9 @@
 -- Assumes nothing.
 use Prim.Native.Nat.{ℕ, _+_, _≤_}
 use native.Mathlib.Omega.{arith}
-use mathlib.Core.Path.{_≡_, refl, sym, ap, ap₂, _∙_}
+use mathlib.Core.Path.{_≡_, refl, sym, ap, _∙_}
 use mathlib.Core.Logic.{⊎-elim}
-use mathlib.Core.Bool.{true, not}
+use mathlib.Core.Bool.{true}
 use mathlib.Core.List.{List, List·Memᴰ as Among, Memᴰ·append-left, Memᴰ·append-right, [], _∷_, _++_, map}
 use lib.ListN.{drop, getD, length, replicate}
 use lib.Seq.{take-append-seam}
@@ -24,7 +24,7 @@ use Rattle.format.specs.Alone.{Reads}
 use Rattle.format.specs.Distinct.{distinct}
 use Rattle.format.specs.Example.{text}
 use Rattle.format.specs.Merging.{kept, merged}
-use Rattle.format.specs.Outcomes.{Answer, Written, given, over}
+use Rattle.format.specs.Outcomes.{Written, given, over}
 use Rattle.format.specs.Records.{Names, encode, mostNames, readFrom, readList, rising}
 use Rattle.format.proofs.Distinct.{rising-few, union-few, union-fits}
 use Rattle.format.proofs.Merging.{among-either, merged-rises}

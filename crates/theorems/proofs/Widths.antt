@@ -9,27 +9,23 @@
 use Prim.Native.Nat.{ℕ, _+_, _≤_, _<_}
 use native.Mathlib.Nat.{lt-irrefl}
 use native.Mathlib.Omega.{arith}
-use mathlib.Core.Path.{_≡_, refl, sym, ap, ap₂, _∙_}
+use mathlib.Core.Path.{_≡_, sym, ap, _∙_}
 use mathlib.Core.Logic.{inl, inr}
 use mathlib.Core.Bool.{true}
 use mathlib.Core.List.{List, [], map}
-use lib.Dec.{leb, ltb}
-use lib.ListN.{List·getD-eq-default, length, getD, length-map}
-use borrow.Author.Tests.{le-leb, leb-true, lt-ltb, ltb-true}
+use lib.ListN.{length, getD, length-map}
 use Rattle.words.specs.Rising.{nth}
-use Rattle.words.specs.Words.{Bytes, Lawful, Rule, Words, begins, both, word}
+use Rattle.words.specs.Words.{Bytes, Lawful, Rule, Words, begins, word}
 use Rattle.words.proofs.Rising.{nth-word}
-use Rattle.words.proofs.Words.{apart, begins-nil, both-true}
+use Rattle.words.proofs.Words.{apart, begins-nil}
 use Rattle.words.proofs.Lists.{all-from}
 use Rattle.format.specs.Book.{Book, opened}
-use Rattle.format.specs.Records.{longest, sound}
+use Rattle.format.specs.Records.{longest}
 use Rattle.format.specs.Outcomes.{Answer, given}
 use Rattle.format.specs.Widths.{widest}
-use Rattle.format.proofs.Book.{book-opened, fits-parts}
 use Rattle.answers.specs.Questions.{answer, ask, range}
 use Rattle.answers.specs.Widths.{width}
-use Rattle.answers.specs.Calls.{question, questionOf}
-use Rattle.answers.proofs.Calls.{question-given}
+use Rattle.answers.specs.Calls.{question}
 use Rattle.answers.proofs.Places.{count-found}
 use Rattle.answers.proofs.Widths.{width-all, width-at, width-found, width-some}
 use Rattle.theorems.specs.Widths.{AsLong}

@@ -4,7 +4,7 @@
 --     Distinct, rising-distinct, distinct-few     no element stands twice; so it is with rising words; as many as some list has members, at most
 --     mapped, From, unmapped, map-injective     the members of a list that is mapped
 -- Assumes nothing.
-use Prim.Native.Nat.{ℕ, suc, _+_, _≤_, zero-le}
+use Prim.Native.Nat.{ℕ, suc, _≤_, zero-le}
 use native.Mathlib.Omega.{arith}
 use mathlib.Core.Path.{_≡_, refl, sym, ap, ap₂, _∙_, subst}
 use mathlib.Core.Logic.{_⊎_, inl, inr}

@@ -1,6 +1,5 @@
 -- `letters::in_character` meets its contract: below 128 no byte goes on with a character; from there on those up to 191 do.
 -- Assumes nothing.
-use native.Mathlib.Omega.{arith}
 use Rattle.letters.proofs.Back.{inside-high, inside-low}
 use Rattle.letters.proofs.in_character.Statement.{statement}
 use Rattle.letters.proofs.in_character.Tie as tie
