@@ -1,6 +1,7 @@
 -- Document 02, CR 3: what nearest's number says of the names of an accepted book, over the public call's own function (nearest is kind 4), any
 -- lawful rule. A place where the lit part may end is one that is 0, the question's length, or before a byte that begins a character.
 --     nearest-given     the position is the plain list's; the number is what can be lit of what that name shares
+--     nearest-number    the number by itself
 --     lit-halves        both halves of 'the greatest': it is such a place, not above what is shared; and no greater one is
 --     nearest-lit       no name of the book would get a greater number
 --     nearest-whole     of a well-formed text no character is cut: what is lit is well-formed, and so is the rest
@@ -103,19 +104,19 @@ module _ (ρ : Rule) (ok : Lawful ρ) (s : Bytes) (k : ℕ) (xs : List Bytes) (o
       ∙ sym (question-given ρ 4 q k xs short (λ e z. lt-irrefl 0 (omega arith)) (answer ρ 4 q xs) refl)
       ∙ ap (λ (n : ℕ). given (reached (word ρ q) (map (word ρ) xs)) (lit q n)) (g .shares)
 
-  number-is : question ρ 4 s q .second ≡ lit q (shared (word ρ q) (word ρ (getD xs (reached (word ρ q) (map (word ρ) xs)) [])))
-  number-is = ap (λ (a : Answer). a .second) nearest-given
+  pub nearest-number : question ρ 4 s q .second ≡ lit q (shared (word ρ q) (word ρ (getD xs (reached (word ρ q) (map (word ρ) xs)) [])))
+  nearest-number = ap (λ (a : Answer). a .second) nearest-given
 
   -- name number i would get this number
   pub nearest-lit : (i : ℕ) → i < length xs → lit q (shared (word ρ q) (word ρ (getD xs i []))) ≤ question ρ 4 s q .second
   unfolding nearest
   nearest-lit i l =
-      subst (λ (n : ℕ). lit q (shared (word ρ q) (word ρ (getD xs i []))) ≤ n) (sym number-is)
+      subst (λ (n : ℕ). lit q (shared (word ρ q) (word ρ (getD xs i []))) ≤ n) (sym nearest-number)
       (lit-rises q (shared (word ρ q) (word ρ (getD xs i []))) (shared (word ρ q) (word ρ (getD xs (reached (word ρ q) (map (word ρ) xs)) []))) (omega (arith, g .most i l, g .shares)))
 
   pub nearest-whole : wellFormed q ≡ true → (wellFormed (take (question ρ 4 s q .second) q) ≡ true) × (wellFormed (drop (question ρ 4 s q .second) q) ≡ true)
   nearest-whole w =
-      subst (λ (n : ℕ). (wellFormed (take n q) ≡ true) × (wellFormed (drop n q) ≡ true)) (sym number-is)
+      subst (λ (n : ℕ). (wellFormed (take n q) ≡ true) × (wellFormed (drop n q) ≡ true)) (sym nearest-number)
       (lit-whole q (shared (word ρ q) (word ρ (getD xs (reached (word ρ q) (map (word ρ) xs)) []))) w)
 
 -- ---- computed

@@ -1,5 +1,6 @@
 -- Document 02, CR 2: what merging two lists and stepping over them give, over the public calls' own functions. A list that reads well has
 -- names: `readList plain (length s) s ≡ Names xs`, with no limit of its own.
+--     names-rise, union-rises   a list that reads well rises; so does the union of two
 --     merge-writes      two lists that read well, at most 2,000 names together and room enough: the records of their union
 --     merge-reads       where a merge's code is 0, both lists read well
 --     merge-sound       and what it wrote is a sound list: it is read again, with the limit of 2,000, as the union
@@ -39,6 +40,13 @@ use Rattle.theorems.proofs.Calls.{written-settles}
 
 -- ---- merging
 
+-- a list that reads well rises, and so does the union of two
+pub names-rise : {s : Bytes} {xs : List Bytes} → Reads s xs → rising plain [] xs ≡ true
+names-rise {s} {xs} p = read-names plain (length s) s xs (p .names) .rises
+
+pub union-rises : {s t : Bytes} {xs ys : List Bytes} → Reads s xs → Reads t ys → rising plain [] (merged plain xs ys) ≡ true
+union-rises {s} {t} {xs} {ys} p q = merged-rises plain plain-lawful xs ys (names-rise p) (names-rise q)
+
 module _ (s t room : Bytes) where
   pub merge-reads : mergeLists s t room .answer .code ≡ 0 → ((xs : List Bytes) × (readList plain (length s) s ≡ Names xs)) × ((ys : List Bytes) × (readList plain (length t) t ≡ Names ys))
   merge-reads e = let a = merge-accepted s t room e in ((a .xs, a .first .names), (a .ys, a .second .names))
@@ -54,9 +62,6 @@ module _ (s t : Bytes) (xs ys : List Bytes) (p : readList plain (length s) s ≡
       → mergeLists s t room ≡ record { answer = given (length (encode (merged plain xs ys))) 0; room = over (encode (merged plain xs ys)) room }
   merge-writes room few fits = merge-read one other room ∙ all-put room (merged plain xs ys) few fits
 
-  rises : rising plain [] (merged plain xs ys) ≡ true
-  rises = merged-rises plain plain-lawful xs ys (read-names plain (length s) s xs p .rises) (read-names plain (length t) t ys q .rises)
-
   pub merge-sound : (room : Bytes) → mergeLists s t room .answer .code ≡ 0
       → readList plain mostNames (take (mergeLists s t room .answer .first) (mergeLists s t room .room)) ≡ Names (merged plain xs ys)
   merge-sound room e =
@@ -68,7 +73,7 @@ module _ (s t : Bytes) (xs ys : List Bytes) (p : readList plain (length s) s ≡
       let fits : length (encode (merged plain xs ys)) ≤ length room = omega (arith, a .fits, ap (λ (l : List Bytes). length (encode l)) all) in
       ap (λ (w : Written). readList plain mostNames (take (w .answer .first) (w .room))) (merge-writes room few fits)
       ∙ ap (readList plain mostNames) (take-append-seam (encode (merged plain xs ys)) (drop (length (encode (merged plain xs ys))) room))
-      ∙ read-encode plain mostNames (merged plain xs ys) few rises
+      ∙ read-encode plain mostNames (merged plain xs ys) few (union-rises one other)
 
   pub merge-among : (z : Bytes) → List·Memᴰ z (merged plain xs ys) ↔ (List·Memᴰ z xs ⊎ List·Memᴰ z ys)
   merge-among z = (

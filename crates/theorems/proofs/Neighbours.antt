@@ -25,7 +25,7 @@ use Rattle.answers.specs.Lit.{lit}
 use Rattle.answers.specs.Neighbours.{ByNeighbours}
 use Rattle.answers.specs.Questions.{answer, ask, place, reached}
 use Rattle.answers.proofs.Neighbours.{Peak, peak-lit, peak-told, shared-peak}
-use Rattle.theorems.proofs.Letters.{nearest-given}
+use Rattle.theorems.proofs.Letters.{nearest-number}
 use Rattle.theorems.proofs.Ranges.{InRange, asks, begun, in-range, names-sound, range-names}
 
 module _ (ρ : Rule) (ok : Lawful ρ) (s : Bytes) (k : ℕ) (xs : List Bytes) (opens : opened ρ s ≡ Book k xs) where
@@ -39,9 +39,6 @@ module _ (ρ : Rule) (ok : Lawful ρ) (s : Bytes) (k : ℕ) (xs : List Bytes) (o
     place-is : question ρ 2 s q .first ≡ place (word ρ q) (map (word ρ) xs)
     unfolding answer ask
     place-is = ap (λ (a : Answer). a .first) (asks ρ ok s k xs opens q short 2 (λ e. lt-irrefl 2 (omega arith)))
-
-    number-is : question ρ 4 s q .second ≡ lit q (shared (word ρ q) (word ρ (getD xs (reached (word ρ q) (map (word ρ) xs)) [])))
-    number-is = ap (λ (a : Answer). a .second) (nearest-given ρ ok s k xs opens some q short)
 
     -- by names, where the laws have words
     by-names : Peak (λ i. shared (word ρ q) (word ρ (getD xs i []))) (length xs) (place (word ρ q) (map (word ρ) xs)) (shared (word ρ q) (word ρ (getD xs (reached (word ρ q) (map (word ρ) xs)) [])))
@@ -63,7 +60,7 @@ module _ (ρ : Rule) (ok : Lawful ρ) (s : Bytes) (k : ℕ) (xs : List Bytes) (o
     pub neighbours-tell : ByNeighbours (λ i. lit q (shared (word ρ q) (word ρ (getD xs i [])))) (length xs) (question ρ 2 s q .first) (question ρ 4 s q .second)
     neighbours-tell =
         subst (λ (n : ℕ). ByNeighbours gives (length xs) n (question ρ 4 s q .second)) (sym place-is)
-        (subst (λ (n : ℕ). ByNeighbours gives (length xs) (place (word ρ q) (map (word ρ) xs)) n) (sym number-is) (peak-told (peak-lit q by-names)))
+        (subst (λ (n : ℕ). ByNeighbours gives (length xs) (place (word ρ q) (map (word ρ) xs)) n) (sym (nearest-number ρ ok s k xs opens some q short)) (peak-told (peak-lit q by-names)))
 
   -- ---- ranges inside each other
 

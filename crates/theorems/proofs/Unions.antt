@@ -27,19 +27,17 @@ use Rattle.format.specs.Merging.{kept, merged}
 use Rattle.format.specs.Outcomes.{Written, given, over}
 use Rattle.format.specs.Records.{Names, encode, mostNames, readFrom, readList, rising}
 use Rattle.format.proofs.Distinct.{rising-few, union-few, union-fits}
-use Rattle.format.proofs.Merging.{among-either, merged-rises}
+use Rattle.format.proofs.Merging.{among-either}
 use Rattle.format.proofs.Records.{encode-long, read-encode, read-names}
 use Rattle.format.proofs.Unions.{merged-associates, merged-commutes, merged-self}
 use Rattle.answers.specs.Heads.{headOf, lesserHead, partOf}
 use Rattle.answers.specs.Merging.{mergeLists, ofReadings, putNames}
 use Rattle.answers.proofs.Merging.{all-put, merge-read}
 use Rattle.theorems.specs.Unions.{EitherWay, wrote}
+use Rattle.theorems.proofs.Merging.{names-rise, union-rises}
 
 -- a sound list, and its names
 module _ {s : Bytes} {xs : List Bytes} (p : Reads s xs) where
-  rises : rising plain [] xs ≡ true
-  rises = read-names plain (length s) s xs (p .names) .rises
-
   bytes : encode xs ≡ s
   bytes = read-names plain (length s) s xs (p .names) .bytes
 
@@ -64,10 +62,10 @@ module _ (s t : Bytes) (xs ys : List Bytes) (p : readList plain (length s) s ≡
 
   pub merge-commutes : (room : Bytes) → mergeLists s t room ≡ mergeLists t s room
   merge-commutes room =
-      merge-read a b room ∙ ap (putNames room) (merged-commutes plain plain-lawful (word-injective plain plain-injective) xs ys (rises a) (rises b)) ∙ sym (merge-read b a room)
+      merge-read a b room ∙ ap (putNames room) (merged-commutes plain plain-lawful (word-injective plain plain-injective) xs ys (names-rise a) (names-rise b)) ∙ sym (merge-read b a room)
 
   few-names : length (distinct (xs ++ ys)) ≤ mostNames → length (merged plain xs ys) ≤ mostNames
-  few-names few = omega (arith, union-few plain plain-lawful xs ys (rises a) (rises b) (xs ++ ys) (front xs ys) (back xs ys))
+  few-names few = omega (arith, union-few plain plain-lawful xs ys (names-rise a) (names-rise b) (xs ++ ys) (front xs ys) (back xs ys))
 
   pub merge-either : (room : Bytes) → length (distinct (xs ++ ys)) ≤ mostNames → length (encode (merged plain xs ys)) ≤ length room
       → (mergeLists s t room .answer .code ≡ 0) × (wrote (mergeLists s t room) ≡ wrote (mergeLists t s room))
@@ -81,7 +79,7 @@ module _ (s t : Bytes) (xs ys : List Bytes) (p : readList plain (length s) s ≡
 
 -- names that are few together with others are few by themselves
 pub fewer-together : (s : Bytes) (xs ys : List Bytes) → readList plain (length s) s ≡ Names xs → length (distinct (xs ++ ys)) ≤ mostNames → length xs ≤ mostNames
-fewer-together s xs ys p few = let a : Reads s xs = record { names = p } in omega (arith, rising-few plain plain-lawful xs (rises a) (xs ++ ys) (front xs ys))
+fewer-together s xs ys p few = let a : Reads s xs = record { names = p } in omega (arith, rising-few plain plain-lawful xs (names-rise a) (xs ++ ys) (front xs ys))
 
 -- ---- one list
 
@@ -89,8 +87,8 @@ pub merge-itself : (s : Bytes) (xs : List Bytes) (room : Bytes) → readList pla
     → mergeLists s s room ≡ record { answer = given (length s) 0; room = over s room }
 merge-itself s xs room p few fits =
     let a : Reads s xs = record { names = p } in
-    let self : merged plain xs xs ≡ xs = merged-self plain plain-lawful xs (rises a) in
-    let names : length (merged plain xs xs) ≤ mostNames = omega (arith, ap length self, rising-few plain plain-lawful xs (rises a) xs (λ z m. m)) in
+    let self : merged plain xs xs ≡ xs = merged-self plain plain-lawful xs (names-rise a) in
+    let names : length (merged plain xs xs) ≤ mostNames = omega (arith, ap length self, rising-few plain plain-lawful xs (names-rise a) xs (λ z m. m)) in
     let all : encode (merged plain xs xs) ≡ s = ap encode self ∙ bytes a in
     merge-read a a room ∙ all-put room (merged plain xs xs) names (omega (arith, ap length all)) ∙ ap (λ (l : Bytes). record { answer = given (length l) 0; room = over l room }) all
 
@@ -117,35 +115,29 @@ module _ (s t u : Bytes) (xs ys zs : List Bytes) (p : readList plain (length s) 
   in-third : (z : Bytes) → Among z zs → Among z (xs ++ (ys ++ zs))
   in-third z m = back xs (ys ++ zs) z (back ys zs z m)
 
-  front-rises : rising plain [] (merged plain xs ys) ≡ true
-  front-rises = merged-rises plain plain-lawful xs ys (rises first-sound) (rises second-sound)
-
-  back-rises : rising plain [] (merged plain ys zs) ≡ true
-  back-rises = merged-rises plain plain-lawful ys zs (rises second-sound) (rises third-sound)
-
   pub merge-associates : (left right room : Bytes) → length (encode (merged plain xs ys)) ≤ length left → length (encode (merged plain ys zs)) ≤ length right
       → length (encode (merged plain (merged plain xs ys) zs)) ≤ length room → EitherWay s t u left right room
   merge-associates left right room fits-left fits-right fits = record {
     left-accepted = ap (λ (w : Written). w .answer .code) one-way;
     right-accepted = ap (λ (w : Written). w .answer .code) other-way;
-    accepted = ap (λ (l : Bytes). mergeLists l u room .answer .code) wrote-left ∙ ap (λ (w : Written). w .answer .code) (merge-read (sound-list (merged plain xs ys) front-rises) third-sound room ∙ all-put room (merged plain (merged plain xs ys) zs) all-few fits);
+    accepted = ap (λ (l : Bytes). mergeLists l u room .answer .code) wrote-left ∙ ap (λ (w : Written). w .answer .code) (merge-read (sound-list (merged plain xs ys) (union-rises first-sound second-sound)) third-sound room ∙ all-put room (merged plain (merged plain xs ys) zs) all-few fits);
     same =
-        ap (λ (l : Bytes). mergeLists l u room) wrote-left ∙ merge-read (sound-list (merged plain xs ys) front-rises) third-sound room
-        ∙ ap (putNames room) (merged-associates plain plain-lawful (word-injective plain plain-injective) xs ys zs (rises first-sound) (rises second-sound) (rises third-sound))
-        ∙ sym (merge-read first-sound (sound-list (merged plain ys zs) back-rises) room) ∙ ap (λ (l : Bytes). mergeLists s l room) (sym wrote-right);
+        ap (λ (l : Bytes). mergeLists l u room) wrote-left ∙ merge-read (sound-list (merged plain xs ys) (union-rises first-sound second-sound)) third-sound room
+        ∙ ap (putNames room) (merged-associates plain plain-lawful (word-injective plain plain-injective) xs ys zs (names-rise first-sound) (names-rise second-sound) (names-rise third-sound))
+        ∙ sym (merge-read first-sound (sound-list (merged plain ys zs) (union-rises second-sound third-sound)) room) ∙ ap (λ (l : Bytes). mergeLists s l room) (sym wrote-right);
   }
     where
       all-few : length (merged plain (merged plain xs ys) zs) ≤ mostNames
-      all-few = omega (arith, union-few plain plain-lawful (merged plain xs ys) zs front-rises (rises third-sound) (xs ++ (ys ++ zs)) in-either in-third)
+      all-few = omega (arith, union-few plain plain-lawful (merged plain xs ys) zs (union-rises first-sound second-sound) (names-rise third-sound) (xs ++ (ys ++ zs)) in-either in-third)
         where
           in-either : (z : Bytes) → Among z (merged plain xs ys) → Among z (xs ++ (ys ++ zs))
           in-either z m = ⊎-elim (in-first z) (in-second z) (among-either plain xs ys m)
 
       left-few : length (merged plain xs ys) ≤ mostNames
-      left-few = omega (arith, union-few plain plain-lawful xs ys (rises first-sound) (rises second-sound) (xs ++ (ys ++ zs)) in-first in-second)
+      left-few = omega (arith, union-few plain plain-lawful xs ys (names-rise first-sound) (names-rise second-sound) (xs ++ (ys ++ zs)) in-first in-second)
 
       right-few : length (merged plain ys zs) ≤ mostNames
-      right-few = omega (arith, union-few plain plain-lawful ys zs (rises second-sound) (rises third-sound) (xs ++ (ys ++ zs)) in-second in-third)
+      right-few = omega (arith, union-few plain plain-lawful ys zs (names-rise second-sound) (names-rise third-sound) (xs ++ (ys ++ zs)) in-second in-third)
 
       one-way : mergeLists s t left ≡ record { answer = given (length (encode (merged plain xs ys))) 0; room = over (encode (merged plain xs ys)) left }
       one-way = merge-read first-sound second-sound left ∙ all-put left (merged plain xs ys) left-few fits-left
