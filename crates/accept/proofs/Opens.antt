@@ -7,18 +7,19 @@ use native.Mathlib.Omega.{arith}
 use mathlib.Core.Path.{_≡_, _∙_, ap, ap₂, refl, subst, sym}
 use mathlib.Core.List.{List, [], _++_, _∷_, map}
 use lib.ListN.{drop, getD, length, length-append, take, take-append-drop}
-use lib.Seq.{drop-append-le, drop-append-seam, drop-drop, getD-drop, length-take-le, slice, take-at, take-length}
+use lib.Seq.{drop-append-le, getD-drop, length-take-le, slice, take-at, take-length}
 use Rattle.words.specs.Words.{Bytes, InBytes, plain, same, word}
 use Rattle.words.proofs.Words.{same-refl, same-true}
 use Rattle.format.specs.Spans.{wordsOf}
 use Rattle.format.specs.Book.{Book, blockPart, book, entryPart, mark, nodePart, number, numbers, opened, trailerSize, namesOf, told}
 use Rattle.format.specs.Nodes.{Node, table}
-use Rattle.format.proofs.Book.{Fits, blocksAt, book-length, book-opened, fits-parts, nodes-length, nodesAt, opened-book, parts-fits, read-field, records, trailerAt, trailerNumbers}
+use Rattle.format.proofs.Book.{Fits, blocksAt, book-length, book-opened, fits-parts, from-nodes, from-trailer, nodes-length, nodesAt, opened-book, parts-fits, read-field, records, trailerAt, trailerNumbers}
 use Rattle.format.proofs.Book as layout
-use Rattle.format.proofs.Records.{sound-few, sound-rising}
+use Rattle.format.proofs.Records.{sound-few}
 use Rattle.format.proofs.Numbers.{numbers-are}
 use Rattle.trailer.specs.Trailer.{Trail, markBack, markFront}
 use Rattle.streams.specs.Runs.{Has}
+use Rattle.streams.proofs.Laid.{book-stands}
 use Rattle.streams.proofs.Walks.{ends-at, has-length, has-names, has-sound}
 use Rattle.inspect.specs.Check.{isTable}
 use Rattle.accept.specs.Parts.{Parts}
@@ -132,22 +133,12 @@ module _ (k : ℕ) (xs : List Bytes) (f : Fits plain k xs) where
   abbrev end : Bytes
   end = numbers (trailerNumbers plain k xs) ++ mark
 
-  from-blocks : drop (blocksAt plain k xs) B ≡ blockPart k xs ++ (ns ++ end)
-  from-blocks = ap (drop (blocksAt plain k xs)) (layout.book-parts plain k xs) ∙ drop-append-seam (entryPart k xs) _
-
-  from-nodes : drop (nodesAt plain k xs) B ≡ ns ++ end
-  from-nodes =
-      sym (drop-drop (length (blockPart k xs)) (blocksAt plain k xs) B) ∙ ap (drop (length (blockPart k xs))) from-blocks ∙ drop-append-seam (blockPart k xs) _
-
-  from-trailer : drop (trailerAt plain k xs) B ≡ end
-  from-trailer = sym (drop-drop (length ns) (nodesAt plain k xs) B) ∙ ap (drop (length ns)) from-nodes ∙ drop-append-seam ns end
-
   at-end : length B - trailerSize ≡ trailerAt plain k xs
   at-end = omega (arith, book-length plain k xs)
 
   -- number j of the trailer, the mark's two among them
   marked : (j : ℕ) → told B j ≡ number end (2 * j)
-  marked j = number-at B (length B - trailerSize) (2 * j) ∙ ap (λ (s : Bytes). number s (2 * j)) (ap (λ (x : ℕ). drop x B) at-end ∙ from-trailer)
+  marked j = number-at B (length B - trailerSize) (2 * j) ∙ ap (λ (s : Bytes). number s (2 * j)) (ap (λ (x : ℕ). drop x B) at-end ∙ from-trailer plain k xs)
 
   mark-front : told B 6 ≡ markFront
   unfolding number numbers
@@ -158,16 +149,7 @@ module _ (k : ℕ) (xs : List Bytes) (f : Fits plain k xs) where
   mark-back = marked 7
 
   here : Has B k (blocksAt plain k xs) (nodesAt plain k xs) (length xs) (blocksAt plain k xs) 0 []
-  unfolding blockPart
-  here = record {
-    names = xs;
-    count = refl;
-    rest = record {
-      rises = sound-rising plain xs (f .sound);
-      entries = layout.book-parts plain k xs ∙ ap (λ (y : Bytes). entryPart k xs ++ y) (sym from-blocks);
-      places = from-blocks ∙ ap (λ (y : Bytes). blockPart k xs ++ y) (sym from-nodes);
-    };
-  }
+  here = record { names = xs; count = refl; rest = book-stands k xs f }
 
   pub book-passes : Parts B
   unfolding isTable wordsOf here
@@ -197,7 +179,7 @@ module _ (k : ℕ) (xs : List Bytes) (f : Fits plain k xs) where
         nodes =
             ap₂ (λ (y z : Bytes). same y z) (ap (λ (ys : List Bytes). nodePart (table (map (word plain) ys))) nm)
             (ap (λ (x : ℕ). slice x (length B - trailerSize) B) tu
-            ∙ cut-slice B ns end (nodesAt plain k xs) (length B - trailerSize) (omega arith) (omega arith) from-nodes (ap (λ (x : ℕ). drop x B) at-end ∙ from-trailer))
+            ∙ cut-slice B ns end (nodesAt plain k xs) (length B - trailerSize) (omega arith) (omega arith) (from-nodes plain k xs) (ap (λ (x : ℕ). drop x B) at-end ∙ from-trailer plain k xs))
             ∙ same-refl ns;
       }
 

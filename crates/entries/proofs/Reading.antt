@@ -134,7 +134,7 @@ module _ (b : Bytes) (o e m : ℕ) where
 
 -- ---- a name read back
 
-stream-next : (b : Bytes) (o : ℕ) (prev : Bytes) (zs : List Bytes) → 0 < length zs → Stream b o prev zs
+pub stream-next : (b : Bytes) (o : ℕ) (prev : Bytes) (zs : List Bytes) → 0 < length zs → Stream b o prev zs
     → EntryAt b o (length prev) × (nameAt b o prev ≡ getD zs 0 []) × Stream b (entryEnd b o) (nameAt b o prev) (drop 1 zs)
 stream-next b o prev [] h s = absurd (omega arith)
 stream-next b o prev (z ∷ zs) h (entry a q s) = (a, q, subst (λ (x : Bytes). Stream b (entryEnd b o) x zs) (sym q) s)

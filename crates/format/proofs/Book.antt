@@ -1,5 +1,6 @@
 -- A book tells its parts, its block size and its names; and `opened` says just what bytes are a book.
 --     book-parts, book-split, book-length    a book is its parts, its body and its trailer; how long it is
+--     from-blocks, from-nodes, from-trailer, from-mark     what stands from each part on
 --     read-field                 what the trailer says: names, block size, starts, nodes, length
 --     read-names                 the names, out of a book's bytes
 --     opened-book, book-opened   `opened` gives k and xs just where those fit and the bytes are their book
@@ -10,8 +11,8 @@ use mathlib.Core.Path.{_≡_, refl, sym, ap, ap₂, _∙_}
 use mathlib.Core.Bool.{Bool, true, false}
 use mathlib.Core.List.{List, [], _∷_, _++_, map, append-assoc}
 use lib.Dec.{leb}
-use lib.ListN.{length, getD, take, length-append}
-use lib.Seq.{take-append-seam}
+use lib.ListN.{length, getD, take, drop, length-append}
+use lib.Seq.{drop-append-seam, drop-drop, take-append-seam}
 use borrow.Author.Tests.{leb-true, le-leb}
 use Rattle.words.specs.Rising.{All, cons, nil}
 use Rattle.words.specs.Words.{Bytes, Rule, both, pick, same, word}
@@ -89,6 +90,21 @@ module _ (ρ : Rule) (k : ℕ) (xs : List Bytes) where
   book-length =
       ap length book-split ∙ length-append body (numbers trailerNumbers ++ mark)
       ∙ omega (arith, body-length, length-append (numbers trailerNumbers) mark, numbers-length trailerNumbers)
+
+  -- what stands from each part on
+  pub from-blocks : drop blocksAt (book ρ k xs) ≡ blockPart k xs ++ (nodePart records ++ (numbers trailerNumbers ++ mark))
+  from-blocks = ap (drop blocksAt) book-parts ∙ drop-append-seam (entryPart k xs) _
+
+  pub from-nodes : drop nodesAt (book ρ k xs) ≡ nodePart records ++ (numbers trailerNumbers ++ mark)
+  from-nodes = sym (drop-drop (length (blockPart k xs)) blocksAt (book ρ k xs)) ∙ ap (drop (length (blockPart k xs))) from-blocks ∙ drop-append-seam (blockPart k xs) _
+
+  pub from-trailer : drop trailerAt (book ρ k xs) ≡ numbers trailerNumbers ++ mark
+  from-trailer = sym (drop-drop (length (nodePart records)) nodesAt (book ρ k xs)) ∙ ap (drop (length (nodePart records))) from-nodes ∙ drop-append-seam (nodePart records) (numbers trailerNumbers ++ mark)
+
+  pub from-mark : drop (length (book ρ k xs) - 4) (book ρ k xs) ≡ mark
+  from-mark =
+      let there : length (book ρ k xs) - 4 ≡ trailerAt + length (numbers trailerNumbers) = omega (arith, book-length, numbers-length trailerNumbers) in
+      ap (λ (n : ℕ). drop n (book ρ k xs)) there ∙ sym (drop-drop (length (numbers trailerNumbers)) trailerAt (book ρ k xs)) ∙ ap (drop (length (numbers trailerNumbers))) from-trailer ∙ drop-append-seam (numbers trailerNumbers) mark
 
   module _ (f : Fits ρ k xs) where
     numbers-few : All (λ n. n < 65536) trailerNumbers

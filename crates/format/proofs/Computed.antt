@@ -1,12 +1,15 @@
 -- The union of Mar and Marina, Marina and Market Square, Mar and Zoo, computed: in both orders of two, in both groupings of three, and of one
--- with itself. What another definition would give shows here, name by name.
---     union-computed, union-commutes, union-associates, union-of-itself
+-- with itself; and blocks of a worn card that are judged alone. What another definition would give shows here, name by name.
+--     union-computed, union-commutes, union-associates, union-of-itself, alone-computed
 -- Assumes nothing.
 use mathlib.Core.Path.{_≡_, refl}
-use mathlib.Core.List.{List, [], _∷_}
-use Rattle.words.specs.Words.{Bytes, less, plain, shared}
+use mathlib.Core.List.{List, [], _∷_, _++_}
+use Rattle.words.specs.Words.{Bytes, begins, less, plain, same, shared}
 use Rattle.format.specs.Example.{text}
+use Rattle.format.specs.Entries.{decode, decodeFrom, entry, front}
 use Rattle.format.specs.Merging.{kept, merged}
+use Rattle.format.specs.Records.{rising}
+use Rattle.format.specs.Salvage.{Broken, Whole, judgedAlone}
 
 abbrev one : List Bytes
 one = text "Mar" ∷ text "Marina" ∷ []
@@ -32,3 +35,10 @@ union-associates = refl
 pub union-of-itself : merged plain one one ≡ one
 unfolding shared less kept merged
 union-of-itself = refl
+
+-- Mar and Marina; then with a byte left over, a smaller count, a first count that is not 0, and another number of names
+pub alone-computed : judgedAlone 2 (0 ∷ 3 ∷ text "Mar" ++ (3 ∷ 3 ∷ text "ina")) ∷ judgedAlone 2 (0 ∷ 3 ∷ text "Mar" ++ (3 ∷ 3 ∷ text "ina" ++ (0 ∷ []))) ∷ judgedAlone 2 (0 ∷ 3 ∷ text "Mar" ++ (2 ∷ 4 ∷ text "rina"))
+    ∷ judgedAlone 2 (1 ∷ 3 ∷ text "Mar" ++ (3 ∷ 3 ∷ text "ina")) ∷ judgedAlone 3 (0 ∷ 3 ∷ text "Mar" ++ (3 ∷ 3 ∷ text "ina")) ∷ []
+    ≡ Whole one ∷ Broken ∷ Broken ∷ Broken ∷ Broken ∷ []
+unfolding shared less same begins decode decodeFrom entry front rising judgedAlone
+alone-computed = refl

@@ -5,7 +5,7 @@
 --     read-skip                 what was skipped does not count
 --     read-encode, read-names, read-sound   the round trip, both ways; for any number of names, and for as many as a book has
 --     read-refused              a list that is not read is refused with 5, 6 or 7
---     sound-few, sound-rising, rising-sizes, sound-rises, word-short    what a sound list's names are; their words rise
+--     sound-few, sound-rising, rising-sizes, sound-rises, rising-less, word-short    what a sound list's names are; their words rise
 --     from-rising, from-sound                and back
 -- Assumes nothing.
 use Prim.Native.Nat.{ℕ, suc-le-suc, zero, suc, _+_, _-_, _≤_, _<_, zero-le}
@@ -21,7 +21,7 @@ use borrow.Author.Tests.{lt-ltb, ltb-true, leb-true, le-leb}
 use Rattle.words.specs.Rising.{All, Rises, cons, nil, rise, start, nth}
 use Rattle.words.specs.Words.{Bytes, Lawful, Rule, both, less, pick, word}
 use Rattle.words.proofs.Lists.{all-map}
-use Rattle.words.proofs.Rising.{Above}
+use Rattle.words.proofs.Rising.{Above, nth-less, nth-word}
 use Rattle.words.proofs.Words.{both-true, less-start, less-trans, word-positive}
 use Rattle.format.specs.Records.{Names, Reading, Refused, after, encode, goodLength, longest, mostNames, readFrom, readList, rising, sound}
 
@@ -223,6 +223,10 @@ rising-rises ρ ok prev (x ∷ xs) h =
 
 pub sound-rises : (ρ : Rule) → Lawful ρ → (xs : List Bytes) → sound ρ xs ≡ true → Rises (map (word ρ) xs)
 sound-rises ρ ok xs h = rising-rises ρ ok [] xs (sound-rising ρ xs h) .1
+
+-- by two positions
+pub rising-less : (ρ : Rule) → Lawful ρ → (xs : List Bytes) → rising ρ [] xs ≡ true → (i j : ℕ) → i < j → j < length xs → less (word ρ (getD xs i [])) (word ρ (getD xs j [])) ≡ true
+rising-less ρ ok xs h i j l m = rw (← nth-word ρ xs i, ← nth-word ρ xs j) (nth-less (map (word ρ) xs) i j (rising-rises ρ ok [] xs h .1) l (omega (arith, length-map xs (word ρ))))
 
 pub word-short : (ρ : Rule) (xs : List Bytes) → sound ρ xs ≡ true → (i : ℕ) → length (nth (map (word ρ) xs) i) ≤ longest
 word-short ρ xs is i = go xs i (rising-sizes ρ [] xs (sound-rising ρ xs is))

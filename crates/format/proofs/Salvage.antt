@@ -1,30 +1,34 @@
 -- Laws of a block that is judged alone.
 --     Alone             names that stand in a span by themselves
 --     alone-whole, whole-alone     a block is whole just where its names stand so, and then they are its names
+--     whole-tells       they are those that its bytes tell
+--     count-few, count-starts, blocks-count     how many blocks there are: no more than names; each has a first name; as many as a list's
+--     bounds-long, bounds-inner, bounds-last     the bounds by their number
+--     from-first, climbs-next, climbs-end        whether they climb, one bound at a time
 --     Outside           bytes that differ only inside a span
 --     number-behind, tail-behind, told-same, bounds-same     what is told behind it is the same: the trailer, the block table
 --     span-before, span-behind     and so is every other span
 --     span-at, spans-long, bounds-rise, spans-isolated     spans by their number; those of two runs of bytes that differ only inside one of them
 -- Assumes nothing.
-use Prim.Native.Nat.{ℕ, zero, suc, _+_, _-_, _*_, _≤_, _<_, min}
-use native.Mathlib.Nat.{le-of-suc-le-suc, lt-irrefl, not-suc-le-zero}
+use Prim.Native.Nat.{ℕ, zero, suc, _+_, _-_, _*_, _/_, _≤_, _<_, min}
+use native.Mathlib.Nat.{add-div-right, div-add-mod', div-eq-of-lt, div-eq-sub-div, le-of-suc-le-suc, lt-irrefl, mul-le-mul-left, mul-le-mul-right, not-suc-le-zero}
 use native.Mathlib.Omega.{arith}
 use mathlib.Core.Path.{_≡_, refl, sym, ap, ap₂, _∙_, subst}
 use mathlib.Core.Logic.{_⊎_, inl, inr}
 use mathlib.Core.Bool.{Bool, true, false}
 use mathlib.Core.List.{List, [], _∷_}
 use lib.Dec.{eqb, ltb}
-use lib.ListN.{drop, getD, length, take}
+use lib.ListN.{drop, getD, length, length-drop, take}
 use lib.Seq.{drop-drop, getD-drop, take-take}
 use borrow.Author.Tests.{eq-eqb, eqb-true, ltb-true}
 use Rattle.words.specs.Words.{Bytes, both, pick, plain, same}
 use Rattle.words.proofs.Lists.{drop-take}
 use Rattle.words.proofs.Words.{apart, both-true, same-refl, same-true}
 use Rattle.format.specs.Book.{number, told, trailerSize}
-use Rattle.format.specs.Entries.{decode, front}
+use Rattle.format.specs.Entries.{blocksFrom, decode, front}
 use Rattle.format.specs.Records.{rising}
-use Rattle.format.specs.Salvage.{Broken, Whole, boundsFrom, climbs, fromZero, judgedAlone, spansFrom}
-use Rattle.format.proofs.Entries.{decode-alone}
+use Rattle.format.specs.Salvage.{Broken, Whole, blockCount, boundsFrom, climbs, fromZero, judgedAlone, spansFrom}
+use Rattle.format.proofs.Entries.{blocks-first, by-blocks, decode-alone}
 
 pub record Alone (m : ℕ) (span : Bytes) (xs : List Bytes) : Type 0 where
   pub count : length xs ≡ m
@@ -48,6 +52,80 @@ whole-alone m span xs e = go (both (eqb (length (decode span)) m) (both (rising 
         let c = both-true (rising plain [] (decode span)) (same (front [] (decode span)) span) (b .1) in
         subst (Alone m span) same-names (record { count = eqb-true (length (decode span)) m (b .0); rises = c .0; entries = same-true (front [] (decode span)) span (c .1) })
     go false p f = let z : _≡_ {A = ℕ} 0 1 = cc in absurd (omega arith)
+
+-- a whole block's names are those that its bytes tell
+pub whole-tells : (m : ℕ) (span : Bytes) (xs : List Bytes) → judgedAlone m span ≡ Whole xs → judgedAlone m span ≡ Whole (decode span)
+whole-tells m span xs e = let a = whole-alone m span xs e in e ∙ ap Whole (sym (ap decode (sym (a .entries)) ∙ decode-alone xs))
+
+-- ---- how many blocks, and where they begin
+
+module _ (n k : ℕ) (one : 1 ≤ k) where
+  full : blockCount n k * k ≤ n + (k - 1)
+  full = omega (arith, div-add-mod' (n + (k - 1)) k)
+
+  pub count-few : blockCount n k ≤ n
+  count-few = elim (apart n (blockCount n k)) [
+    | inl m ↦ absurd (lt-irrefl (n + k) (omega (arith, full, mul-le-mul-right k m, mul-le-mul-left n one)))
+    | inr m ↦ m
+  ]
+
+  pub count-starts : (i : ℕ) → i < blockCount n k → i * k < n
+  count-starts i h = omega (arith, full, mul-le-mul-right k h)
+
+pub blocks-count : (k : ℕ) → 1 ≤ k → (xs : List Bytes) → length (blocksFrom k 0 xs) ≡ blockCount (length xs) k
+unfolding blocksFrom
+blocks-count k one xs = by-blocks k one (λ (ys : List Bytes). length (blocksFrom k 0 ys) ≡ blockCount (length ys) k) none more xs
+  where
+    none : 0 ≡ (0 + (k - 1)) / k
+    none = sym (div-eq-of-lt (omega arith))
+
+    -- the first block is full, or it is the only one
+    one-more : (n : ℕ) → 1 ≤ n → (n < k) ⊎ (k ≤ n) → suc (blockCount (n - k) k) ≡ blockCount n k
+    one-more n some (inl h) =
+        let few : n - k + (k - 1) < k = omega arith in
+        let back : n + (k - 1) - k < k = omega arith in
+        omega (arith, div-eq-of-lt few, div-eq-of-lt back, div-eq-sub-div {m = k} {n = n + (k - 1)} one (omega arith))
+    one-more n some (inr h) =
+        let same : n - k + (k - 1) + k ≡ n + (k - 1) = omega arith in
+        omega (arith, add-div-right (n - k + (k - 1)) one, ap (λ (m : ℕ). m / k) same)
+
+    more : (y : Bytes) (ys : List Bytes) → length (blocksFrom k 0 (drop k (y ∷ ys))) ≡ blockCount (length (drop k (y ∷ ys))) k → length (blocksFrom k 0 (y ∷ ys)) ≡ blockCount (length (y ∷ ys)) k
+    more y ys h =
+        ap length (blocks-first k y ys one) ∙ ap suc (h ∙ ap (λ (n : ℕ). blockCount n k) (length-drop k (y ∷ ys))) ∙ one-more (length (y ∷ ys)) (omega arith) (apart (length (y ∷ ys)) k)
+
+pub bounds-long : (s : Bytes) (at more : ℕ) → length (boundsFrom s at more) ≡ suc more
+unfolding boundsFrom
+bounds-long s at zero = refl
+bounds-long s at (suc more) = ap suc (bounds-long s (at + 2) more)
+
+pub bounds-inner : (s : Bytes) (at more i : ℕ) → i < more → getD (boundsFrom s at more) i 0 ≡ number s (at + 2 * i)
+unfolding boundsFrom
+bounds-inner s at zero i h = absurd (not-suc-le-zero h)
+bounds-inner s at (suc more) zero h = let same : at ≡ at + 2 * 0 = omega arith in ap (number s) same
+bounds-inner s at (suc more) (suc i) h = let same : at + 2 + 2 * i ≡ at + 2 * suc i = omega arith in bounds-inner s (at + 2) more i (le-of-suc-le-suc h) ∙ ap (number s) same
+
+-- the last bound is where the entries end
+pub bounds-last : (s : Bytes) (at more : ℕ) → getD (boundsFrom s at more) more 0 ≡ told s 2
+unfolding boundsFrom
+bounds-last s at zero = refl
+bounds-last s at (suc more) = bounds-last s (at + 2) more
+
+pub from-first : (bs : List ℕ) → 0 < length bs → fromZero bs ≡ both (eqb (getD bs 0 0) 0) (climbs (getD bs 0 0) (drop 1 bs))
+from-first [] h = absurd (not-suc-le-zero h)
+from-first (a ∷ l) h = refl
+
+pub climbs-next : (a : ℕ) (bs : List ℕ) (i : ℕ) → i < length bs → climbs a (drop i bs) ≡ both (ltb a (getD bs i 0)) (climbs (getD bs i 0) (drop (suc i) bs))
+unfolding climbs
+climbs-next a [] i h = absurd (not-suc-le-zero h)
+climbs-next a (b ∷ l) zero h = refl
+climbs-next a (b ∷ l) (suc i) h = climbs-next a l i (le-of-suc-le-suc h)
+
+pub climbs-end : (a : ℕ) (bs : List ℕ) (i : ℕ) → length bs ≤ i → climbs a (drop i bs) ≡ true
+unfolding climbs
+climbs-end a [] zero h = refl
+climbs-end a [] (suc i) h = refl
+climbs-end a (b ∷ l) zero h = absurd (not-suc-le-zero h)
+climbs-end a (b ∷ l) (suc i) h = climbs-end a l i (le-of-suc-le-suc h)
 
 -- ---- bytes that differ only inside a span
 

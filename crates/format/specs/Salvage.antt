@@ -1,7 +1,6 @@
 -- Document 02, CR 5, 'Books from a worn card': what of damaged bytes is looked at, and one block judged alone.
 --     blockCount, bounds     how many blocks there are; where each of them begins, and behind them where the entries end
---     mapped            the trailer and the block table make sense; no node record is looked at
---     spans             each block's proper number of names, and its span's bytes
+--     mapped, spans     trailer and block table make sense, and no node record is looked at; each block's number of names and span's bytes
 --     Block, judgedAlone     a block's names, by these two and nothing else; or that it is broken
 -- The laws are in proofs/Salvage.antt. Assumes nothing: these are definitions.
 use Prim.Native.Nat.{ℕ, zero, suc, _+_, _-_, _*_, _/_, min}

@@ -1,24 +1,23 @@
 -- Laws of the records of two lists in one row.
---     record-put, not-put       what the kit's copy leaves; there is no place for it
 --     in-first, in-second       the list that a head stands in
 --     Joins, joins-start, joins-ask, joins-less, joins-within, joins-bytes, head-inside, joins-more, joins-all     the walk over both lists
 -- Assumes nothing.
-use Prim.Native.Nat.{ℕ, _+_, _-_, _≤_, _<_, zero-le}
+use Prim.Native.Nat.{ℕ, _+_, _≤_, _<_, zero-le}
 use native.Mathlib.Nat.{lt-irrefl}
 use native.Mathlib.Omega.{arith}
 use mathlib.Core.Path.{_≡_, refl, sym, ap, ap₂, _∙_}
 use mathlib.Core.Bool.{Bool, true, false}
 use mathlib.Core.List.{List, [], _∷_, _++_, append-assoc, append-nil}
 use lib.ListN.{drop, length, length-append, length-drop, take}
-use lib.Seq.{length-take-le}
 use Rattle.words.specs.Words.{Bytes, pick, plain}
 use Rattle.format.specs.Records.{encode}
 use Rattle.format.specs.Merging.{merged}
 use Rattle.format.specs.Outcomes.{over}
 use Rattle.format.proofs.Records.{encode-append}
-use Rattle.numbers.proofs.Parts.{Copied, copied, lent-front, over-length, part-length}
+use Rattle.numbers.proofs.Parts.{part-length}
 use Rattle.merge.specs.Heads.{HeadAsk, HeadSays, RestOf, Step}
-use Rattle.merge.specs.Joining.{Joined, MergeAsk, MergedInto, RecordPut}
+use Rattle.records.specs.Putting.{RecordPut}
+use Rattle.merge.specs.Joining.{Joined, MergeAsk, MergedInto}
 use Rattle.merge.specs.declared.Next.{Next}
 use Rattle.merge.proofs.Heads.{some-left}
 
@@ -27,25 +26,6 @@ pub no-records : (xs : List Bytes) → length (encode xs) ≡ 0 → xs ≡ []
 unfolding encode
 no-records [] e = refl
 no-records (x ∷ xs) e = absurd (lt-irrefl 0 (omega arith))
-
--- ---- one record
-
-module _ (list : Bytes) (from size : ℕ) (room : Bytes) (at : ℕ) where
-  -- it has no place
-  pub not-put : length room < at + size → RecordPut list from size room room at
-  not-put h = record { kept = refl; put = λ f. absurd (lt-irrefl (length room) (omega arith)) }
-
-  pub record-put : from + size ≤ length list → at ≤ length room → size ≤ length room - at → (ys : Bytes) → Copied (take (from + size - from) (drop from list)) (take (length room - at) (drop at room)) ys
-      → RecordPut list from size room (take at room ++ (ys ++ drop (length room - at) (drop at room))) at
-  record-put inside a b ys y =
-      let src : Bytes = take (from + size - from) (drop from list) in
-      let z : from + size - from ≡ size = omega arith in
-      let long : length (take size (drop from list)) ≡ size = part-length list from size inside in
-      let got : ys ≡ over (take size (drop from list)) (take (length room - at) (drop at room)) = copied src (take (length room - at) (drop at room)) ys y ∙ ap (λ (n : ℕ). over (take n (drop from list)) (take (length room - at) (drop at room))) z in
-      record {
-        kept = simp (length-append, length-drop) (omega (arith, length-take-le at room a, ap length got, over-length (take size (drop from list)) (take (length room - at) (drop at room)) (omega (arith, part-length room at (length room - at) (omega arith))), part-length room at (length room - at) (omega arith)));
-        put = λ f p xs r e k. lent-front p (take size (drop from list)) xs room ys at (length room - at) r e (omega arith) got (omega arith);
-      }
 
 -- the list that a head stands in
 pub in-second : {t : Bool} (first second : Bytes) → t ≡ true → second ≡ pick t second first

@@ -1,12 +1,12 @@
 -- Two lists that are judged, and merged where both read well.
 --     judging-first, judging-second, judging-sound     ways out of `judge_both`
 --     rest-of, read-ask     a list that reads well is the records of its names
---     untouched, merging-many, merging-short, merging-put     ways out of `merge_judged`
+--     merging-many, merging-short, merging-put     ways out of `merge_judged`
 -- Assumes nothing.
 use Prim.Native.Nat.{ℕ, _-_, _≤_, _<_, zero-le}
 use native.Mathlib.Omega.{arith}
 use mathlib.Core.Path.{_≡_, refl, sym, ap, ap₂, _∙_}
-use mathlib.Core.List.{List, [], _∷_, _++_}
+use mathlib.Core.List.{List, _++_}
 use lib.ListN.{drop, length, take}
 use Rattle.words.specs.Words.{Bytes, plain}
 use Rattle.format.specs.Alone.{BothRead, Reads, readAlone}
@@ -16,6 +16,7 @@ use Rattle.format.specs.Records.{Names, Reading, Refused, encode}
 use Rattle.format.proofs.Records.{read-names}
 use Rattle.answers.specs.Merging.{judgeLists, mergeLists}
 use Rattle.answers.proofs.Merging.{all-put, judge-one, judge-other, judge-read, merge-read, too-many, too-short}
+use Rattle.numbers.proofs.Parts.{none-lent}
 use Rattle.records.specs.Lists.{verdictOf}
 use Rattle.records.specs.declared.Verdict.{Verdict}
 use Rattle.records.specs.declared.Verdict.the-variants.{Good, Bad}
@@ -77,12 +78,8 @@ module _ {s t : Bytes} (b : BothRead s t) where
     abbrev back : Bytes
     back = take 0 room ++ (after ++ drop (0 - 0) (drop 0 room))
 
-    pub untouched : back ≡ room
-    untouched = go after (m .kept)
-      where
-        go : (l : Bytes) → length l ≡ length (take (0 - 0) (drop 0 room)) → take 0 room ++ (l ++ drop (0 - 0) (drop 0 room)) ≡ room
-        go [] e = refl
-        go (x ∷ l) e = absurd (omega arith)
+    untouched : back ≡ room
+    untouched = none-lent room after (m .kept)
 
     -- an answer that leaves the room alone
     alone : (r : Answer) {a : Numbers} → answered r ≡ a → record { answer = a; room = room } ≡ mergeLists s t room → written r back ≡ mergeLists s t room

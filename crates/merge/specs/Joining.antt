@@ -1,23 +1,17 @@
 -- The records of two lists in one row.
---     RecordPut         a record stands at a place of a room, where it fits there
 --     MergeAsk          the records of both lists are those of some names, which rise
 --     Joined            some of the names of the union have been gone through
 --     MergedInto        all of them; for any names that the records are
 -- The laws are in proofs/. Assumes nothing: these are definitions.
-use Prim.Native.Nat.{ℕ, _+_, _≤_}
+use Prim.Native.Nat.{ℕ, _≤_}
 use mathlib.Core.Path.{_≡_}
 use mathlib.Core.List.{List, _++_}
-use lib.ListN.{drop, length, take}
+use lib.ListN.{length}
 use Rattle.words.specs.Words.{Bytes, plain}
 use Rattle.format.specs.Records.{encode}
 use Rattle.format.specs.Merging.{merged}
 use Rattle.format.specs.Outcomes.{over}
 use Rattle.merge.specs.Heads.{RestOf}
-
--- behind the `at` bytes that are written
-pub record RecordPut (list : Bytes) (from size : ℕ) (room₀ room : Bytes) (at : ℕ) : Type 0 where
-  pub kept : length room ≡ length room₀
-  pub put : at + size ≤ length room₀ → (p xs : Bytes) → room₀ ≡ over p xs → length p ≡ at → length xs ≡ length room₀ → room ≡ over (p ++ take size (drop from list)) xs
 
 pub record MergeAsk (first second : Bytes) : Type 0 where
   pub xs : List Bytes

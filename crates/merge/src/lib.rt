@@ -11,7 +11,7 @@ ghost use Rattle.records.specs.Lists.{verdictOf};
 ghost use Rattle.shapes.specs.Heads.{headed};
 ghost use Rattle.shapes.specs.Shapes.{answered, written};
 ghost use Rattle.merge.specs.Heads.{HeadAsk, HeadSays, LesserSays, headIn};
-ghost use Rattle.merge.specs.Joining.{MergeAsk, MergedInto, RecordPut};
+ghost use Rattle.merge.specs.Joining.{MergeAsk, MergedInto};
 ghost use Rattle.merge.specs.Passing.{ListAsk, PassedTo};
 use records::Verdict;
 use shapes::Answer;
@@ -168,21 +168,6 @@ pub struct Tally {
     pub bytes: usize,
 }
 
-// The record at an offset of a list, at a place of the room, where there is room for it.
-fn put_record(list: &[u8], from: usize, size: usize, room: &mut [u8], at: usize)
-    requires { ⌜ from + size ≤ length (now list) ⌝ }
-    ensures { λ _. ⌜ RecordPut (now (list .entry)) from size (now (room .entry)) (now (room .exit)) at ⌝ }
-{
-    if room.len() < at {
-        return;
-    }
-    if room.len() - at < size {
-        return;
-    }
-    let to = from + size;
-    bytes::copy(&list[from..to], &mut room[at..]);
-}
-
 // The records of both lists in one row, as far as there is room for them; in an empty room it only counts.
 pub fn merge_into(first: &[u8], second: &[u8], room: &mut [u8]) -> Tally
     requires { ⌜ MergeAsk (now first) (now second) ⌝ }
@@ -196,9 +181,9 @@ pub fn merge_into(first: &[u8], second: &[u8], room: &mut [u8]) -> Tally
         let next = next_head(first, i, second, j);
         let size = next.size;
         if next.second {
-            put_record(second, next.from, size, room, bytes);
+            records::put_record(second, next.from, size, room, bytes);
         } else {
-            put_record(first, next.from, size, room, bytes);
+            records::put_record(first, next.from, size, room, bytes);
         }
         i = next.left;
         j = next.right;

@@ -2,7 +2,7 @@
 --     Held, held-bytes          bytes that a machine holds are bytes
 --     part-length               a part of a run of bytes
 --     over-length, over-all     a room that is written over
---     lent, lent-front          a part behind what is written comes back with more, whole or at its front
+--     lent, lent-front, none-lent     a part behind what is written comes back with more, whole or at its front; an empty part changes nothing
 --     Copied, copied, copied-behind     what the kit's `bytes::copy` leaves: in a room, and in one of which the front was not lent
 --     number-is, number-small   a number out of its two bytes
 --     two-stored                two bytes, one by one
@@ -56,6 +56,11 @@ lent p xs room ys a k r e h l =
     ap (λ (z : Bytes). drop k (drop a z)) r ∙ ap (drop k) (drop-at p (drop (length p) xs) a e) ∙ drop-drop k (length p) xs ∙ ap (λ (n : ℕ). drop n xs) size in
     ap₂ (λ (x z : Bytes). x ++ (ys ++ z)) (ap (take a) r ∙ take-at p (drop (length p) xs) a e) behind
     ∙ sym (append-assoc p ys (drop (length (p ++ ys)) xs))
+
+-- an empty part was lent
+pub none-lent : (room ys : Bytes) → length ys ≡ length (take (0 - 0) (drop 0 room)) → take 0 room ++ (ys ++ drop (0 - 0) (drop 0 room)) ≡ room
+none-lent room [] e = refl
+none-lent room (y ∷ ys) e = absurd (omega arith)
 
 -- the part is longer than what was written at its front
 pub lent-front : (p out xs room ys : Bytes) (a k : ℕ) → room ≡ over p xs → length p ≡ a → a + k ≡ length xs → ys ≡ over out (take k (drop a room)) → length out ≤ k

@@ -2,3 +2,4 @@
 pub mod Reading
 pub mod Starts
 pub mod Verdicts
+pub mod Putting

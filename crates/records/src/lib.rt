@@ -2,9 +2,12 @@
 // comparison of a name with the one before is nested inside and left by its label. It finds the bytes that both begin with; the next
 // byte then tells the order, in one test. What it learns on the way, each name's length and what it shares with the name before, is
 // noted for those who write the book, as far as there are places to note it.
+// And a record is put at its place in a room, where there is room for it.
 ghost use mathlib.Core.Path.{_≡_};
+ghost use Prim.Native.Nat.{_+_, _≤_};
 ghost use lib.ListN.{length};
 ghost use Rattle.records.specs.Lists.{Judged};
+ghost use Rattle.records.specs.Putting.{RecordPut};
 
 // What the reading of a list gives.
 pub enum Verdict {
@@ -69,4 +72,19 @@ pub fn judge(list: &[u8], limit: usize, lens: &mut [u8], shares: &mut [u8]) -> V
         at = start + len;
         n += 1;
     }
+}
+
+// The record at an offset of a list, at a place of the room, where there is room for it.
+pub fn put_record(list: &[u8], from: usize, size: usize, room: &mut [u8], at: usize)
+    requires { ⌜ from + size ≤ length (now list) ⌝ }
+    ensures { λ _. ⌜ RecordPut (now (list .entry)) from size (now (room .entry)) (now (room .exit)) at ⌝ }
+{
+    if room.len() < at {
+        return;
+    }
+    if room.len() - at < size {
+        return;
+    }
+    let to = from + size;
+    bytes::copy(&list[from..to], &mut room[at..]);
 }

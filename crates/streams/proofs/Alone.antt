@@ -1,12 +1,12 @@
 -- A block's span by itself: what the walk over a block shows of it, and the other way round.
 --     spanOf            the bytes from an offset to another
 --     run-alone         names whose entries stand from o to e are the whole block of that span
---     alone-run         and the names of a whole block stand there
+--     alone-run, alone-stream     and the names of a whole block stand there
 -- Assumes nothing.
 use Prim.Native.Nat.{ℕ, _+_, _-_, _≤_}
 use native.Mathlib.Omega.{arith}
 use mathlib.Core.Path.{_≡_, refl, sym, ap, ap₂, _∙_}
-use mathlib.Core.List.{List, [], _++_}
+use mathlib.Core.List.{List, [], _∷_, _++_}
 use lib.ListN.{drop, length, length-append, length-drop, take, take-append-drop}
 use lib.Seq.{drop-drop, take-append-seam}
 use Rattle.words.specs.Words.{Bytes}
@@ -14,8 +14,15 @@ use Rattle.format.specs.Entries.{front}
 use Rattle.format.specs.Salvage.{Whole, judgedAlone}
 use Rattle.format.specs.Spans.{lastOf}
 use Rattle.format.proofs.Salvage.{alone-whole, whole-alone}
-use Rattle.streams.specs.Runs.{RunTo}
+use Rattle.streams.specs.Runs.{Run, RunTo, more}
+use Rattle.streams.specs.Streams.{EntryAt, Stream, done, entry, entryEnd}
 use Rattle.streams.proofs.Fronts.{front-run, run-front}
+
+run-stream : (b : Bytes) (e : ℕ) → e ≤ length b → (o : ℕ) (prev : Bytes) (xs : List Bytes) → Run b e o prev xs → Stream b o prev xs
+run-stream b e w o prev [] r = done
+run-stream b e w o prev (x ∷ xs) (more s n r) =
+    let stands : EntryAt b o (length prev) = record { fits = omega (arith, s .fits); shares = s .shares; short = s .short } in
+    entry stands n (run-stream b e w (entryEnd b o) x xs r)
 
 abbrev pub spanOf : Bytes → ℕ → ℕ → Bytes
 spanOf b o e = take (e - o) (drop o b)
@@ -39,3 +46,7 @@ module _ (b : Bytes) (o e m : ℕ) (w : e ≤ length b) where
       let cut : drop o b ≡ front [] xs ++ drop e b =
       sym (take-append-drop (e - o) (drop o b)) ∙ ap₂ (λ (u v : Bytes). u ++ v) (sym (a .entries)) (drop-drop (e - o) o b ∙ ap (λ (n : ℕ). drop n b) there) in
       record { names = xs; count = a .count; run = front-run b e o [] xs (omega arith) w cut (a .rises); last = refl }
+
+  pub alone-stream : o ≤ e → (xs : List Bytes) → judgedAlone m (spanOf b o e) ≡ Whole xs → Stream b o [] xs
+  unfolding alone-run
+  alone-stream h xs k = run-stream b e w o [] xs (alone-run h xs k .run)

@@ -9,3 +9,4 @@ pub mod Here
 pub mod InBlocks
 pub mod Rereading
 pub mod Alone
+pub mod Laid

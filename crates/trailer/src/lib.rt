@@ -52,6 +52,14 @@ pub fn blocks_at(book: &[u8]) -> usize
     number(book, 2)
 }
 
+// Where the node table starts.
+pub fn nodes_at(book: &[u8]) -> usize
+    requires { ⌜ trailerSize ≤ length (now book) ⌝ }
+    ensures { λ r. ⌜ (r ≡ told (now (book .entry)) 3) × (r < 65536) ⌝ }
+{
+    number(book, 3)
+}
+
 // What the trailer tells.
 pub fn read(book: &[u8]) -> Trailer
     requires { ⌜ trailerSize ≤ length (now book) ⌝ }

@@ -1,10 +1,10 @@
--- `merge::put_record` meets its contract: there is no place for the record, or the kit copies it.
+-- `records::put_record` meets its contract: there is no place for the record, or the kit copies it.
 -- Assumes nothing.
 use native.Mathlib.Omega.{arith}
 use borrow.Author.Needs.{needs}
-use Rattle.merge.proofs.Joining.{not-put, record-put}
-use Rattle.merge.proofs.put_record.Statement.{statement}
-use Rattle.merge.proofs.put_record.Tie as tie
+use Rattle.records.proofs.Putting.{not-put, record-put}
+use Rattle.records.proofs.put_record.Statement.{statement}
+use Rattle.records.proofs.put_record.Tie as tie
 
 returns-3 : tie.Need-returns-3
 returns-3 c =
