@@ -1,25 +1,32 @@
 -- Laws of a salvage: what of damaged bytes does not depend on a block's own.
 --     Mapped, mapped-parts, parts-mapped     a map that makes sense, test by test
+--     blocks-many, block-at     how many blocks; block number i is its span's verdict
+--     saved-more, saved-append, saved-whole     the records of one block more, of others behind them, of blocks that are all whole
+--     salvage-by, salvage-gives, salvage-taken, salvage-kept     the call by what its tests say; what it gives, and where it does; what it leaves alone
 --     mapped-same       bytes that differ only inside a block's span have the same map
 --     Isolated, isolated     and the same blocks, in the same order, but for that one
 -- Assumes nothing.
 use Prim.Native.Nat.{ℕ, zero, suc, _+_, _-_, _*_, _≤_, _<_}
-use native.Mathlib.Nat.{lt-irrefl}
+use native.Mathlib.Nat.{le-of-suc-le-suc, lt-irrefl, not-suc-le-zero}
 use native.Mathlib.Omega.{arith}
 use mathlib.Core.Path.{_≡_, refl, sym, ap, ap₂, _∙_}
-use mathlib.Core.Bool.{true}
-use mathlib.Core.List.{List, _∷_, _++_}
+use mathlib.Core.Bool.{Bool, false, true}
+use mathlib.Core.List.{List, [], _∷_, _++_, append-assoc, append-nil, map}
+use lib.Dec.{eqb, leb}
 use lib.ListN.{List·getD-map, drop, getD, length, length-drop, length-map, take}
 use lib.Seq.{ext-getD, getD-drop, getD-take, length-take-le, split-at}
 use borrow.Author.Tests.{eq-eqb, eqb-true, le-leb, leb-true}
-use Rattle.words.specs.Words.{Bytes, same}
+use Rattle.words.specs.Words.{Bytes, pick, same}
 use Rattle.words.proofs.Words.{both-true}
-use Rattle.format.specs.Book.{goodBlock, mark, told, trailerSize}
-use Rattle.format.specs.Records.{mostNames}
-use Rattle.format.specs.Salvage.{Block, Broken, blockCount, bounds, boundsFrom, fromZero, judgedAlone, mapped, spans, spansFrom}
+use Rattle.format.specs.Book.{goodBlock, joined, mark, told, trailerSize}
+use Rattle.format.specs.Outcomes.{Answer, given, over, refused}
+use Rattle.format.specs.Records.{encode, mostNames}
+use Rattle.format.specs.Salvage.{Block, Broken, Whole, blockCount, bounds, boundsFrom, fromZero, judgedAlone, mapped, spans, spansFrom}
 use Rattle.format.specs.Spans.{nodeSize}
-use Rattle.format.proofs.Salvage.{Outside, bounds-rise, bounds-same, noSpan, spans-isolated, spans-long, tail-behind, told-same}
-use Rattle.answers.specs.Salvage.{cardBlocks}
+use Rattle.format.proofs.Entries.{joinedNames}
+use Rattle.format.proofs.Records.{encode-append}
+use Rattle.format.proofs.Salvage.{Outside, bounds-last, bounds-long, bounds-rise, bounds-same, noSpan, spans-isolated, spans-long, tail-behind, told-same}
+use Rattle.answers.specs.Salvage.{Salvaged, cardBlocks, recordsIn, reported, salvage, salvageFrom, savedRecords}
 
 pub record Mapped (s : Bytes) : Type 0 where
   pub sized : trailerSize ≤ length s
@@ -58,16 +65,95 @@ parts-mapped s m =
     rw (le-leb trailerSize (length s) (m .sized), le-leb (told s 0) mostNames (m .few), m .block, eq-eqb (told s 2 + 2 * blockCount (told s 0) (told s 1)) (told s 3) (m .table), eq-eqb (told s 3 + nodeSize * told s 4 + trailerSize) (length s) (m .nodes), eq-eqb (told s 5) (length s) (m .long), m .marked)
     (m .starts)
 
-bounds-long : (s : Bytes) (at more : ℕ) → length (boundsFrom s at more) ≡ suc more
-unfolding boundsFrom
-bounds-long s at zero = refl
-bounds-long s at (suc more) = ap suc (bounds-long s (at + 2) more)
+-- ---- blocks by their number
 
--- the last bound is where the entries end
-bounds-last : (s : Bytes) (at more : ℕ) → getD (boundsFrom s at more) more 0 ≡ told s 2
-unfolding boundsFrom
-bounds-last s at zero = refl
-bounds-last s at (suc more) = bounds-last s (at + 2) more
+-- a block's verdict, by its number of names and its span
+abbrev verdict : ℕ × Bytes → Block
+verdict b = judgedAlone (b .0) (b .1)
+
+many : (s : Bytes) → length (cardBlocks s) ≡ length (bounds s) - 1
+many s = length-map (spans s) verdict ∙ spans-long s (told s 1) (told s 0) (bounds s)
+
+pub blocks-many : (s : Bytes) → length (cardBlocks s) ≡ blockCount (told s 0) (told s 1)
+blocks-many s = omega (arith, many s, bounds-long s (told s 2) (blockCount (told s 0) (told s 1)))
+
+verdict-at : (l : List (ℕ × Bytes)) (i : ℕ) → i < length l → getD (map verdict l) i Broken ≡ verdict (getD l i noSpan)
+verdict-at [] i h = absurd (not-suc-le-zero h)
+verdict-at (b ∷ l) zero h = refl
+verdict-at (b ∷ l) (suc i) h = verdict-at l i (le-of-suc-le-suc h)
+
+pub block-at : (s : Bytes) (i : ℕ) → i < length (cardBlocks s) → getD (cardBlocks s) i Broken ≡ judgedAlone (getD (spans s) i noSpan .0) (getD (spans s) i noSpan .1)
+block-at s i h = verdict-at (spans s) i (omega (arith, length-map (spans s) verdict))
+
+-- one block more
+pub saved-more : (bs : List Block) (i : ℕ) → i < length bs → savedRecords (take i bs) ++ recordsIn (getD bs i Broken) ≡ savedRecords (take (suc i) bs)
+unfolding joined
+saved-more [] i h = absurd (not-suc-le-zero h)
+saved-more (b ∷ bs) zero h = sym (append-nil (recordsIn b))
+saved-more (b ∷ bs) (suc i) h =
+    append-assoc (recordsIn b) (savedRecords (take i bs)) (recordsIn (getD bs i Broken)) ∙ ap (λ (l : Bytes). recordsIn b ++ l) (saved-more bs i (le-of-suc-le-suc h))
+
+pub saved-append : (bs cs : List Block) → savedRecords (bs ++ cs) ≡ savedRecords bs ++ savedRecords cs
+unfolding joined
+saved-append [] cs = refl
+saved-append (b ∷ bs) cs = ap (λ (l : Bytes). recordsIn b ++ l) (saved-append bs cs) ∙ sym (append-assoc (recordsIn b) (savedRecords bs) (savedRecords cs))
+
+-- blocks that are all whole: the records of all their names
+pub saved-whole : (l : List (List Bytes)) → savedRecords (map Whole l) ≡ encode (joinedNames l)
+unfolding joined encode
+saved-whole [] = refl
+saved-whole (xs ∷ l) = ap (λ (z : Bytes). encode xs ++ z) (saved-whole l) ∙ sym (encode-append xs (joinedNames l))
+
+-- ---- the call
+
+-- what is left where nothing is refused
+abbrev pub savedAs : List Block → Bytes → Salvaged
+savedAs bs room = record { answer = given (length (savedRecords bs)) 0; room = over (savedRecords bs) room; rows = map reported bs }
+
+module _ (s room : Bytes) (rows : List (ℕ × ℕ)) where
+  abbrev as-it-was : Answer → Salvaged
+  as-it-was a = record { answer = a; room = room; rows = rows }
+
+  -- by what the three tests say
+  abbrev pub salvageBy : Bool → Bool → Bool → Salvaged
+  salvageBy m e f = pick m (pick e (pick f (savedAs (cardBlocks s) room) (as-it-was (refused 4))) (as-it-was (refused 12))) (as-it-was (refused 13))
+
+  pub salvage-by : (m e f : Bool) → mapped s ≡ m → eqb (length rows) (length (cardBlocks s)) ≡ e → leb (length (savedRecords (cardBlocks s))) (length room) ≡ f → salvage s room rows ≡ salvageBy m e f
+  unfolding salvage salvageFrom
+  salvage-by m e f p q r = rw (p, q, r) refl
+
+  pub salvage-gives : mapped s ≡ true → length rows ≡ length (cardBlocks s) → length (savedRecords (cardBlocks s)) ≤ length room → salvage s room rows ≡ savedAs (cardBlocks s) room
+  salvage-gives p q r = salvage-by true true true p (eq-eqb (length rows) (length (cardBlocks s)) q) (le-leb (length (savedRecords (cardBlocks s))) (length room) r)
+
+  pub record Taken : Type 0 where
+    pub makes-sense : mapped s ≡ true
+    pub many : length rows ≡ length (cardBlocks s)
+    pub fits : length (savedRecords (cardBlocks s)) ≤ length room
+
+  pub salvage-taken : salvage s room rows .answer .code ≡ 0 → Taken
+  salvage-taken z = go (mapped s) (eqb (length rows) (length (cardBlocks s))) (leb (length (savedRecords (cardBlocks s))) (length room)) refl refl refl
+    where
+      code : (m e f : Bool) → mapped s ≡ m → eqb (length rows) (length (cardBlocks s)) ≡ e → leb (length (savedRecords (cardBlocks s))) (length room) ≡ f → salvageBy m e f .answer .code ≡ 0
+      code m e f p q r = sym (ap (λ (a : Salvaged). a .answer .code) (salvage-by m e f p q r)) ∙ z
+
+      go : (m e f : Bool) → mapped s ≡ m → eqb (length rows) (length (cardBlocks s)) ≡ e → leb (length (savedRecords (cardBlocks s))) (length room) ≡ f → Taken
+      go false e f p q r = absurd (omega (arith, code false e f p q r))
+      go true false f p q r = absurd (omega (arith, code true false f p q r))
+      go true true false p q r = absurd (omega (arith, code true true false p q r))
+      go true true true p q r = record { makes-sense = p; many = eqb-true (length rows) (length (cardBlocks s)) q; fits = leb-true (length (savedRecords (cardBlocks s))) (length room) r }
+
+  -- a refused call leaves the room and the rows as they were
+  pub salvage-kept : (salvage s room rows .answer .code ≡ 0 → ⊥) → (salvage s room rows .room ≡ room) × (salvage s room rows .rows ≡ rows)
+  salvage-kept ne = go (mapped s) (eqb (length rows) (length (cardBlocks s))) (leb (length (savedRecords (cardBlocks s))) (length room)) refl refl refl
+    where
+      left : {a : Answer} → salvage s room rows ≡ as-it-was a → (salvage s room rows .room ≡ room) × (salvage s room rows .rows ≡ rows)
+      left e = (ap (λ (w : Salvaged). w .room) e, ap (λ (w : Salvaged). w .rows) e)
+
+      go : (m e f : Bool) → mapped s ≡ m → eqb (length rows) (length (cardBlocks s)) ≡ e → leb (length (savedRecords (cardBlocks s))) (length room) ≡ f → (salvage s room rows .room ≡ room) × (salvage s room rows .rows ≡ rows)
+      go false e f p q r = left (salvage-by false e f p q r)
+      go true false f p q r = left (salvage-by true false f p q r)
+      go true true false p q r = left (salvage-by true true false p q r)
+      go true true true p q r = absurd (ne (ap (λ (w : Salvaged). w .answer .code) (salvage-by true true true p q r)))
 
 -- ---- two runs of bytes that differ only inside span number j
 
@@ -126,13 +212,6 @@ module _ (s t : Bytes) (is : mapped s ≡ true) (j : ℕ) (hj : suc j < length (
       spans-isolated (bounds s) (m .starts) j hj u (told s 1) (told s 0) i h n
       ∙ ap (λ (bs : List ℕ). getD (spansFrom t (told s 1) (told s 0) bs) i noSpan) bounds-are
       ∙ ap₂ (λ (k left : ℕ). getD (spansFrom t k left (bounds t)) i noSpan) (told-are 1) (told-are 0)
-
-  -- by verdicts
-  abbrev verdict : ℕ × Bytes → Block
-  verdict b = judgedAlone (b .0) (b .1)
-
-  many : (b : Bytes) → length (cardBlocks b) ≡ length (bounds b) - 1
-  many b = length-map (spans b) verdict ∙ spans-long b (told b 1) (told b 0) (bounds b)
 
   many-same : length (cardBlocks s) ≡ length (cardBlocks t)
   many-same = omega (arith, many s, many t, ap length bounds-are)

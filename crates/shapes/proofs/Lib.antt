@@ -1,2 +1,3 @@
 -- Laws of the answers by themselves.
 pub mod Shapes
+pub mod Salvage

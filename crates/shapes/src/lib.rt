@@ -1,5 +1,6 @@
-// What crosses the public calls: the answer that they give, the row of a batch that they take and the head of a list. A part above the book that has one of
-// them in its hands lists this crate beside `book`; so nothing here asks anything of its caller.
+// What crosses the public calls: the answer that they give, the row of a batch that they take, the head of a list and the row of a
+// salvage's report. A part above the book that has one of them in its hands lists this crate beside `book`; so nothing here asks
+// anything of its caller.
 ghost use mathlib.Core.Path.{_≡_};
 ghost use Rattle.format.specs.Outcomes.{numbered};
 ghost use Rattle.shapes.specs.Shapes.{answered};
@@ -37,4 +38,11 @@ pub struct Head {
     pub list: usize,
     pub start: usize,
     pub length: usize,
+}
+
+// A row of a salvage's report: 1 and how many names were written where its block is kept; 0 and 0 where it is dropped.
+#[repr(C)]
+pub struct Kept {
+    pub kept: usize,
+    pub names: usize,
 }

@@ -1,0 +1,283 @@
+-- Laws of a worn card's map and of its blocks.
+--     mark-told, told-mark      the mark as bytes, and as two numbers
+--     mapped-trail              a map that makes sense has a trailer that passes
+--     not-trailed, trailed, MapRead, map-read, not-met, table-ask, map-climbs, mapped-is     whether a map makes sense, by the code's tests
+--     mapped-long, mapped-few, mapped-low, mapped-high, mapped-table     what it shows
+--     bound-inner, bound-last   a bound, where the code reads it
+--     Climbing: climbing-start, climbing-more, climbing-falls, climbing-done     the loop over the starts
+--     span-is                   a block's span
+--     whole-says                whether it is whole, by what the check of a block says
+--     block-found, block-kept, names-found     block number i then
+--     row-kept, row-dropped     its report row
+-- Assumes nothing.
+use Prim.Native.Nat.{ℕ, zero, suc, _+_, _-_, _*_, _<_, _≤_, min}
+use native.Mathlib.Nat.{lt-irrefl}
+use native.Mathlib.Omega.{arith}
+use mathlib.Core.Path.{_≡_, refl, sym, ap, ap₂, _∙_, subst}
+use mathlib.Core.Logic.{_⊎_, inl, inr}
+use mathlib.Core.Bool.{Bool, true, false, not}
+use mathlib.Core.List.{[], _∷_}
+use lib.Dec.{eqb, leb, ltb}
+use lib.ListN.{drop, getD, length, take}
+use lib.Seq.{take-length}
+use borrow.Author.Tests.{eq-eqb, eqb-true, le-leb, leb-true, lt-ltb, ltb-true, not-false, not-true}
+use Rattle.words.specs.Words.{Bytes, InBytes, both, pick, same}
+use Rattle.words.proofs.Words.{apart, both-true, false≠true, same-refl, same-true}
+use Rattle.format.specs.Book.{mark, number, numbers, told, trailerSize}
+use Rattle.format.specs.Entries.{decode}
+use Rattle.format.specs.Salvage.{Block, Broken, Whole, blockCount, bounds, climbs, fromZero, judgedAlone, mapped}
+use Rattle.format.proofs.Numbers.{numbers-are, numbers-told}
+use Rattle.format.proofs.Salvage.{bounds-inner, bounds-last, bounds-long, bounds-rise, climbs-end, climbs-next, count-few, count-starts, from-first, span-at, whole-alone, whole-tells}
+use Rattle.answers.specs.Salvage.{cardBlocks, reported}
+use Rattle.answers.proofs.Salvage.{Mapped, block-at, blocks-many, mapped-parts}
+use Rattle.numbers.proofs.Parts.{Held, held-bytes}
+use Rattle.trailer.specs.Trailer.{Trail, TrailSays, markBack, markFront, trailerIn}
+use Rattle.trailer.specs.declared.Trailer.{Trailer}
+use Rattle.streams.proofs.Alone.{alone-run, run-alone}
+use Rattle.entries.specs.Judging.{BlockSays}
+use Rattle.salvage.specs.Cards.{BlockAsk, SpanIs, Table, WholeSays}
+
+-- ---- the trailer
+
+module _ (s : Bytes) (long : trailerSize ≤ length s) where
+  abbrev end : ℕ
+  end = length s - 4
+
+  -- the mark's numbers are the trailer's last two
+  place : (i : ℕ) → number s (length s - trailerSize + 2 * (6 + i)) ≡ number s (end + 2 * i)
+  place i = let there : length s - trailerSize + 2 * (6 + i) ≡ end + 2 * i = omega arith in ap (number s) there
+
+  pub told-mark : InBytes s → told s 6 ≡ markFront → told s 7 ≡ markBack → same (drop end s) mark ≡ true
+  unfolding numbers
+  told-mark bytes front back =
+      let are : drop end s ≡ mark = ap (drop end) (sym (take-length s)) ∙ numbers-are s bytes (markFront ∷ markBack ∷ []) end (length s) (omega arith) (omega arith) at in
+      rw are (same-refl mark)
+    where
+      at : (i : ℕ) → i < 2 → number s (end + 2 * i) ≡ getD (markFront ∷ markBack ∷ []) i 0
+      at zero h = sym (place 0) ∙ front
+      at (suc zero) h = sym (place 1) ∙ back
+      at (suc (suc i)) h = absurd (omega arith)
+
+  pub mark-told : same (drop end s) mark ≡ true → (told s 6 ≡ markFront) × (told s 7 ≡ markBack)
+  unfolding numbers
+  mark-told e =
+      let are : drop end (take (length s) s) ≡ numbers (markFront ∷ markBack ∷ []) = ap (drop end) (take-length s) ∙ same-true (drop end s) mark e in
+      let at : (i : ℕ) → i < 2 → getD (markFront ∷ markBack ∷ []) i 0 < 65536 → number s (end + 2 * i) ≡ getD (markFront ∷ markBack ∷ []) i 0 =
+      numbers-told s (markFront ∷ markBack ∷ []) end (length s) (omega arith) (omega arith) are in
+      (place 0 ∙ at 0 (omega arith) (omega arith), place 1 ∙ at 1 (omega arith) (omega arith))
+
+number-fits : (s : Bytes) → InBytes s → (o : ℕ) → number s o < 65536
+unfolding number
+number-fits s bytes o = omega (arith, bytes o, bytes (o + 1))
+
+pub mapped-trail : {s : Bytes} → InBytes s → Mapped s → Trail s
+mapped-trail {s} bytes m =
+    let size = both-true (leb 1 (told s 1)) (leb (told s 1) 64) (m .block) in
+    let marks = mark-told s (m .sized) (m .marked) in
+    record {
+      long = m .sized;
+      short = omega (arith, number-fits s bytes (length s - trailerSize + 2 * 5), m .long);
+      few = m .few;
+      low = leb-true 1 (told s 1) (size .0);
+      high = leb-true (told s 1) 64 (size .1);
+      order = omega (arith, m .table);
+      total = omega (arith, m .nodes);
+      whole = m .long;
+      front = marks .0;
+      back = marks .1;
+    }
+
+-- a Boolean that cannot be true
+no-map : (t : Bool) → (t ≡ true → ⊥) → false ≡ t
+no-map true h = absurd (h refl)
+no-map false h = refl
+
+pub not-trailed : (s : Bytes) → Held s → (r : Bool) → TrailSays s r → not r ≡ true → false ≡ mapped s
+not-trailed s held true says h = absurd (false≠true h)
+not-trailed s held false says h = no-map (mapped s) (λ e. says (mapped-trail (held-bytes s held) (mapped-parts s e)))
+
+pub trailed : (s : Bytes) (r : Bool) → TrailSays s r → not r ≡ false → Trail s
+trailed s true says h = says
+trailed s false says h = absurd (false≠true (sym h))
+
+-- the numbers that the code has read
+pub record MapRead (s : Bytes) (table count nodes : ℕ) : Type 0 where
+  pub trail : Trail s
+  pub table-is : table ≡ told s 2
+  pub count-is : count ≡ blockCount (told s 0) (told s 1)
+  pub nodes-is : nodes ≡ told s 3
+
+pub map-read : {s : Bytes} {t : Trailer} {n k table count nodes : ℕ} → Trail s → t ≡ trailerIn s → n ≡ t .names → k ≡ t .block → table ≡ t .blocks → nodes ≡ t .nodes → count ≡ blockCount n k → MapRead s table count nodes
+map-read trail e ne ke te ue ce = record {
+  trail = trail;
+  table-is = te ∙ ap (λ (t : Trailer). t .blocks) e;
+  count-is = ce ∙ ap₂ blockCount (ne ∙ ap (λ (t : Trailer). t .names) e) (ke ∙ ap (λ (t : Trailer). t .block) e);
+  nodes-is = ue ∙ ap (λ (t : Trailer). t .nodes) e;
+}
+
+module _ {s : Bytes} {table count nodes : ℕ} (w : MapRead s table count nodes) where
+  pub not-met : (table + 2 * count ≡ nodes → ⊥) → false ≡ mapped s
+  not-met away = no-map (mapped s) (λ e. away (omega (arith, mapped-parts s e .table, w .table-is, w .count-is, w .nodes-is)))
+
+  module _ (met : table + 2 * count ≡ nodes) where
+    size : told s 2 + 2 * blockCount (told s 0) (told s 1) ≡ told s 3
+    size = omega (arith, w .table-is, w .count-is, w .nodes-is)
+
+    pub table-ask : Table s count × (count ≡ blockCount (told s 0) (told s 1))
+    table-ask = (record { within = omega (arith, w .trail .total); size = size; upto = omega (arith, w .count-is) }, w .count-is)
+
+    pub map-climbs : Held s → {r : Bool} → r ≡ fromZero (bounds s) → r ≡ mapped s
+    unfolding mapped
+    map-climbs held e =
+        let t = w .trail in
+        rw (le-leb trailerSize (length s) (t .long), le-leb (told s 0) 2000 (t .few), le-leb 1 (told s 1) (t .low), le-leb (told s 1) 64 (t .high), eq-eqb (told s 2 + 2 * blockCount (told s 0) (told s 1)) (told s 3) size, eq-eqb (told s 3 + 12 * told s 4 + trailerSize) (length s) (omega (arith, t .total)), eq-eqb (told s 5) (length s) (t .whole), told-mark s (t .long) (held-bytes s held) (t .front) (t .back))
+        e
+
+pub mapped-is : (s : Bytes) {m : Bool} → m ≡ mapped s → not m ≡ false → mapped s ≡ true
+mapped-is s {m} e h = sym e ∙ not-false m h
+
+-- ---- what a map that makes sense shows
+
+module _ (s : Bytes) (e : mapped s ≡ true) where
+  m : Mapped s
+  m = mapped-parts s e
+
+  pub mapped-long : trailerSize ≤ length s
+  mapped-long = m .sized
+
+  pub mapped-few : told s 0 ≤ 2000
+  mapped-few = m .few
+
+  pub mapped-low : 1 ≤ told s 1
+  mapped-low = leb-true 1 (told s 1) (both-true (leb 1 (told s 1)) (leb (told s 1) 64) (m .block) .0)
+
+  pub mapped-high : told s 1 ≤ 64
+  mapped-high = leb-true (told s 1) 64 (both-true (leb 1 (told s 1)) (leb (told s 1) 64) (m .block) .1)
+
+  pub mapped-table : (i : ℕ) → i ≤ blockCount (told s 0) (told s 1) → Table s i
+  mapped-table i h = record { within = omega (arith, m .nodes); size = m .table; upto = h }
+
+-- ---- bounds
+
+module _ {s : Bytes} {i table nodes : ℕ} (t : Table s i) (te : table ≡ told s 2) (ne : nodes ≡ told s 3) where
+  abbrev count : ℕ
+  count = blockCount (told s 0) (told s 1)
+
+  pub bound-last : table + 2 * i ≡ nodes → table ≡ getD (bounds s) i 0
+  bound-last e =
+      let same : blockCount (told s 0) (told s 1) ≡ i = omega (arith, t .size) in
+      te ∙ sym (bounds-last s (told s 2) count) ∙ ap (λ (n : ℕ). getD (bounds s) n 0) same
+
+  pub bound-inner : {r : ℕ} → (table + 2 * i ≡ nodes → ⊥) → r ≡ number s (table + 2 * i) → r ≡ getD (bounds s) i 0
+  bound-inner away re = re ∙ ap (λ (o : ℕ). number s (o + 2 * i)) te ∙ sym (bounds-inner s (told s 2) count i (before (apart i count)))
+    where
+      before : (i < blockCount (told s 0) (told s 1)) ⊎ (blockCount (told s 0) (told s 1) ≤ i) → i < blockCount (told s 0) (told s 1)
+      before (inl h) = h
+      before (inr h) = absurd (away (omega (arith, t .upto, t .size)))
+
+-- i bounds are passed, the last of them `at`; whether all climb is told by the others
+pub record Climbing (s : Bytes) (count i at : ℕ) : Type 0 where
+  pub upto : i ≤ count
+  pub many : length (bounds s) ≡ suc count
+  pub others : fromZero (bounds s) ≡ climbs at (drop (suc i) (bounds s))
+
+module _ (s : Bytes) {count : ℕ} (ce : count ≡ blockCount (told s 0) (told s 1)) where
+  all-bounds : length (bounds s) ≡ suc count
+  all-bounds = bounds-long s (told s 2) (blockCount (told s 0) (told s 1)) ∙ ap suc (sym ce)
+
+  first-is : {at : ℕ} → at ≡ getD (bounds s) 0 0 → fromZero (bounds s) ≡ both (eqb at 0) (climbs at (drop 1 (bounds s)))
+  first-is {at} e = from-first (bounds s) (omega (arith, all-bounds)) ∙ ap (λ (a : ℕ). both (eqb a 0) (climbs a (drop 1 (bounds s)))) (sym e)
+
+  pub climbing-not : {at : ℕ} → at ≡ getD (bounds s) 0 0 → (at ≡ 0 → ⊥) → false ≡ fromZero (bounds s)
+  climbing-not {at} e away = no-map (fromZero (bounds s)) (λ t. away (eqb-true at 0 (both-true (eqb at 0) (climbs at (drop 1 (bounds s))) (sym (first-is e) ∙ t) .0)))
+
+  pub climbing-start : {at : ℕ} → at ≡ getD (bounds s) 0 0 → at ≡ 0 → Climbing s count 0 at
+  climbing-start {at} e z = record { upto = omega arith; many = all-bounds; others = first-is e ∙ ap (λ (t : Bool). both t (climbs at (drop 1 (bounds s)))) (eq-eqb at 0 z) }
+
+module _ {s : Bytes} {count i at next : ℕ} (w : Climbing s count i at) (h : i < count) (e : next ≡ getD (bounds s) (i + 1) 0) where
+  one-more : fromZero (bounds s) ≡ both (ltb at next) (climbs next (drop (suc (i + 1)) (bounds s)))
+  one-more =
+      let number-is : suc i ≡ i + 1 = omega arith in
+      w .others ∙ ap (λ (j : ℕ). climbs at (drop j (bounds s))) number-is ∙ climbs-next at (bounds s) (i + 1) (omega (arith, w .many))
+      ∙ ap (λ (b : ℕ). both (ltb at b) (climbs b (drop (suc (i + 1)) (bounds s)))) (sym e)
+
+  pub climbing-falls : next ≤ at → false ≡ fromZero (bounds s)
+  climbing-falls l = no-map (fromZero (bounds s)) (λ t. lt-irrefl at (omega (arith, ltb-true at next (both-true (ltb at next) (climbs next (drop (suc (i + 1)) (bounds s))) (sym one-more ∙ t) .0))))
+
+  pub climbing-more : at < next → Climbing s count (i + 1) next
+  climbing-more l = record { upto = omega arith; many = w .many; others = one-more ∙ ap (λ (t : Bool). both t (climbs next (drop (suc (i + 1)) (bounds s)))) (lt-ltb at next l) }
+
+pub climbing-done : {s : Bytes} {count i at : ℕ} → Climbing s count i at → count ≤ i → true ≡ fromZero (bounds s)
+climbing-done {s} {count} {i} {at} w h = sym (w .others ∙ climbs-end at (bounds s) (suc i) (omega (arith, w .many)))
+
+-- ---- a block
+
+module _ {s : Bytes} {i : ℕ} (ask : BlockAsk s i) where
+  here : i < blockCount (told s 0) (told s 1)
+  here = omega (arith, ask .within, blocks-many s)
+
+  pub span-within : i ≤ blockCount (told s 0) (told s 1)
+  span-within = omega (arith, here)
+
+  pub span-few : i < 2000
+  span-few = omega (arith, here, count-few (told s 0) (told s 1) (mapped-low s (ask .map)), mapped-few s (ask .map))
+
+  pub span-first : Table s i
+  span-first = mapped-table s (ask .map) i span-within
+
+  pub span-behind : Table s (i + 1)
+  span-behind = mapped-table s (ask .map) (i + 1) (omega (arith, here))
+
+  pub span-names : {t : Trailer} {n k : ℕ} → t ≡ trailerIn s → n ≡ t .names → k ≡ t .block → i * k < n
+  span-names {t} {n} {k} e ne ke =
+      let block : told s 1 ≡ k = sym (ke ∙ ap (λ (t : Trailer). t .block) e) in
+      let names : told s 0 ≡ n = sym (ne ∙ ap (λ (t : Trailer). t .names) e) in
+      subst (λ (x : ℕ). i * x < n) block (subst (λ (x : ℕ). i * told s 1 < x) names (count-starts (told s 0) (told s 1) (mapped-low s (ask .map)) i here))
+
+  pub span-is : {t : Trailer} {n k start end names : ℕ} → t ≡ trailerIn s → n ≡ t .names → k ≡ t .block → start ≡ getD (bounds s) i 0 → end ≡ getD (bounds s) (i + 1) 0 → names ≡ min (n - i * k) k → SpanIs s i start end names
+  span-is {t} {n} {k} {start} {end} {names} e n-is k-is se ee names-is =
+      let ne : names ≡ min (told s 0 - i * told s 1) (told s 1) =
+      names-is ∙ ap₂ (λ (a b : ℕ). min (a - i * b) b) (n-is ∙ ap (λ (t : Trailer). t .names) e) (k-is ∙ ap (λ (t : Trailer). t .block) e) in
+      let p : Mapped s = mapped-parts s (ask .map) in
+      let count = blockCount (told s 0) (told s 1) in
+      let many : length (bounds s) ≡ suc count = bounds-long s (told s 2) count in
+      let last : getD (bounds s) (suc i) 0 ≤ getD (bounds s) count 0 = bounds-rise (bounds s) (p .starts) (suc i) count (omega (arith, here)) (omega (arith, many)) in
+      let next : i + 1 ≡ suc i = omega arith in
+      let ee' : end ≡ getD (bounds s) (suc i) 0 = ee ∙ ap (λ (j : ℕ). getD (bounds s) j 0) next in
+      record {
+        order = omega (arith, se, ee', bounds-rise (bounds s) (p .starts) i (suc i) (omega arith) (omega (arith, many, here)));
+        inside = omega (arith, ee', last, bounds-last s (told s 2) count, p .table, p .nodes);
+        few = omega (arith, ne, mapped-high s (ask .map));
+        is = span-at s (told s 1) (told s 0) (bounds s) i (omega (arith, many, here)) ∙ ap₂ (λ (n : ℕ) (l : Bytes). (n, l)) (sym ne) (ap₂ (λ (a b : ℕ). take (b - a) (drop a s)) (sym se) (sym ee'));
+      }
+
+  pub block-is : {start end names : ℕ} → SpanIs s i start end names → getD (cardBlocks s) i Broken ≡ judgedAlone names (take (end - start) (drop start s))
+  block-is {start} {end} {names} k = block-at s i (ask .within) ∙ ap (λ (b : ℕ × Bytes). judgedAlone (b .0) (b .1)) (k .is)
+
+-- whether a block is whole, by what the check of it says
+pub whole-says : (s : Bytes) (start end names : ℕ) → start ≤ end → end ≤ length s → (r : Bool) (name : Bytes) (len : ℕ) → BlockSays s start end names r name len → WholeSays s start end names r
+whole-says s start end names o h true name len says = whole-tells names (take (end - start) (drop start s)) _ (run-alone s start end names h _ says)
+whole-says s start end names o h false name len says = broken (judgedAlone names (take (end - start) (drop start s))) refl
+  where
+    broken : (b : Block) → judgedAlone names (take (end - start) (drop start s)) ≡ b → b ≡ Broken
+    broken (Whole xs) e = absurd (says _ (alone-run s start end names h o xs e))
+    broken Broken e = refl
+
+-- ---- a block's report row
+
+module _ {s : Bytes} {i start end names : ℕ} (ask : BlockAsk s i) (k : SpanIs s i start end names) (r : Bool) (says : WholeSays s start end names r) where
+  -- the block, by what the code found of it
+  pub block-found : getD (cardBlocks s) i Broken ≡ pick r (Whole (decode (take (end - start) (drop start s)))) Broken
+  block-found = block-is ask k ∙ says
+
+  pub row-dropped : not r ≡ true → (0, 0) ≡ reported (getD (cardBlocks s) i Broken)
+  row-dropped h = sym (ap reported (block-found ∙ ap (λ (t : Bool). pick t (Whole (decode (take (end - start) (drop start s)))) Broken) (not-true r h)))
+
+  pub names-found : not r ≡ false → judgedAlone names (take (end - start) (drop start s)) ≡ Whole (decode (take (end - start) (drop start s)))
+  names-found h = says ∙ ap (λ (t : Bool). pick t (Whole (decode (take (end - start) (drop start s)))) Broken) (not-false r h)
+
+  pub block-kept : not r ≡ false → getD (cardBlocks s) i Broken ≡ Whole (decode (take (end - start) (drop start s)))
+  block-kept h = block-is ask k ∙ names-found h
+
+  pub row-kept : not r ≡ false → (1, names) ≡ reported (getD (cardBlocks s) i Broken)
+  row-kept h = sym (ap reported (block-kept h) ∙ ap (λ (n : ℕ). (1, n)) (whole-alone names (take (end - start) (drop start s)) _ (names-found h) .count))

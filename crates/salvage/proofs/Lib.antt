@@ -1,0 +1,3 @@
+-- Laws of salvaging. No contract cites them.
+pub mod Cards
+pub mod Saving

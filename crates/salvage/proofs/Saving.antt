@@ -1,0 +1,267 @@
+-- Laws of the records of a worn card's names in a room.
+--     put-none, put-more        nothing is put; one after the other
+--     put-record                one record
+--     Saving: saving-start, saving-entry, saving-more, saving-done     the loop over a block's names
+--     block-put, block-left     a block that is whole, and one that is broken
+--     Blocks: blocks-start, blocks-more, blocks-done     the loop over the blocks
+--     save-..                   the ways out
+-- Assumes nothing.
+use Prim.Native.Nat.{ℕ, suc, _+_, _-_, _*_, _≤_, _<_}
+use native.Mathlib.Numerals.{add-one}
+use native.Mathlib.Omega.{arith}
+use mathlib.Core.Path.{_≡_, refl, sym, ap, ap₂, _∙_, subst}
+use mathlib.Core.Bool.{Bool, true, false, not}
+use mathlib.Core.List.{List, [], _∷_, _++_, append-assoc, append-nil, map}
+use lib.Dec.{eqb, leb}
+use lib.ListN.{drop, getD, length, length-append, length-drop, length-take, set, take}
+use lib.Seq.{drop-drop, drop-length, getD-drop, take-all, take-suc}
+use borrow.Author.Tests.{eq-eqb, le-leb, lt-leb, ne-eqb, not-true}
+use Rattle.words.specs.Words.{Bytes, pick}
+use Rattle.format.specs.Book.{joined}
+use Rattle.format.specs.Entries.{decode}
+use Rattle.format.specs.Outcomes.{Answer as Numbers, Written, given, numbered, over, refused}
+use Rattle.format.specs.Records.{encode}
+use Rattle.format.specs.Salvage.{Block, Broken, Whole, mapped}
+use Rattle.format.proofs.Records.{encode-append}
+use Rattle.format.proofs.Salvage.{whole-alone}
+use Rattle.answers.specs.Salvage.{cardBlocks, recordsIn, savedRecords}
+use Rattle.answers.proofs.Salvage.{saved-more}
+use Rattle.numbers.proofs.Parts.{none-lent}
+use Rattle.records.specs.Putting.{RecordPut}
+use Rattle.streams.proofs.Alone.{alone-stream}
+use Rattle.shapes.specs.Shapes.{answered, written}
+use Rattle.shapes.specs.declared.Answer.{Answer}
+use Rattle.streams.specs.Streams.{EntryAt, Stream, entryEnd, nameAt}
+use Rattle.entries.specs.Judging.{NameRead}
+use Rattle.entries.proofs.Reading.{stream-next}
+use Rattle.salvage.specs.Cards.{BlockAsk, SpanIs, WholeSays}
+use Rattle.salvage.proofs.Cards.{block-found, block-kept, mapped-is, names-found}
+use Rattle.salvage.specs.Saving.{BytesPut, NamesAsk, NamesPut, savedOf}
+
+-- ---- bytes in a room
+
+pub put-none : (room : Bytes) (at : ℕ) → BytesPut [] room room at at
+put-none room at = record { kept = refl; size = omega arith; put = λ f p xs r e l. r ∙ ap (λ (z : Bytes). over z xs) (sym (append-nil p)) }
+
+pub put-more : {out out' room₀ room room' : Bytes} {at mid end : ℕ} → BytesPut out room₀ room at mid → BytesPut out' room room' mid end → BytesPut (out ++ out') room₀ room' at end
+put-more {out} {out'} {room₀} {room} {room'} {at} {mid} {end} a b = record {
+  kept = b .kept ∙ a .kept;
+  size = omega (arith, a .size, b .size, length-append out out');
+  put = λ f p xs r e l. b .put (omega (arith, a .kept)) (p ++ out) xs (a .put (omega (arith, b .size)) p xs r e l) (omega (arith, length-append p out, a .size)) (l ∙ sym (a .kept)) ∙ ap (λ (z : Bytes). over z xs) (append-assoc p out out');
+}
+
+pub put-record : {list room₀ room : Bytes} {from size at : ℕ} (out : Bytes) → take size (drop from list) ≡ out → length out ≡ size → RecordPut list from size room₀ room at → BytesPut out room₀ room at (at + size)
+put-record {list} {room₀} {room} {from} {size} {at} out e l r = record {
+  kept = r .kept;
+  size = omega arith;
+  put = λ f p xs o s k. r .put f p xs o s k ∙ ap (λ (z : Bytes). over (p ++ z) xs) e;
+}
+
+-- ---- a block's names
+
+-- i names are saved, the last of them stands behind the length byte, and the cursor stands at the next entry
+pub record Saving (s : Bytes) (start m at : ℕ) (room₀ room : Bytes) (o : ℕ) (line : Bytes) (len end i : ℕ) : Type 0 where
+  pub ask : NamesAsk s start m
+  pub long : length line ≡ 201
+  pub short : len ≤ 200
+  pub upto : i ≤ m
+  pub bounded : end ≤ at + 201 * i
+  pub kept : length room ≡ length room₀
+  pub others : (xs : List Bytes) → Stream s start [] xs → length xs ≡ m → Stream s o (take len (drop 1 line)) (drop i xs)
+  pub put : (xs : List Bytes) → Stream s start [] xs → length xs ≡ m → BytesPut (encode (take i xs)) room₀ room at end
+
+pub saving-start : {s : Bytes} {start m at : ℕ} {room line : Bytes} → NamesAsk s start m → length line ≡ 201 → Saving s start m at room room start line 0 at 0
+unfolding encode
+saving-start {s} {start} {m} {at} {room} {line} ask long = record {
+  ask = ask;
+  long = long;
+  short = omega arith;
+  upto = omega arith;
+  bounded = omega arith;
+  kept = refl;
+  others = λ xs t e. t;
+  put = λ xs t e. put-none room at;
+}
+
+module _ {s : Bytes} {start m at : ℕ} {room₀ room : Bytes} {o : ℕ} {line : Bytes} {len end i : ℕ} (w : Saving s start m at room₀ room o line len end i) (h : i < m) where
+  behind : length (drop 1 line) ≡ 200
+  behind = omega (arith, length-drop 1 line, w .long)
+
+  next-of : (xs : List Bytes) → Stream s start [] xs → length xs ≡ m
+      → EntryAt s o (length (take len (drop 1 line))) × (nameAt s o (take len (drop 1 line)) ≡ getD (drop i xs) 0 []) × Stream s (entryEnd s o) (nameAt s o (take len (drop 1 line))) (drop 1 (drop i xs))
+  next-of xs t e = stream-next s o (take len (drop 1 line)) (drop i xs) (omega (arith, length-drop i xs)) (w .others xs t e)
+
+  pub part-long : length (take 200 (drop 1 line)) ≡ 200
+  part-long = omega (arith, length-take 200 (drop 1 line), behind)
+
+  pub saving-entry : EntryAt s o len
+  saving-entry =
+      let z : length (take len (drop 1 line)) ≡ len = omega (arith, length-take len (drop 1 line), behind, w .short) in
+      subst (EntryAt s o) z (next-of (w .ask .names) (w .ask .stream) (w .ask .count) .0)
+
+-- ---- the array that a name is rebuilt in
+
+-- the part behind the length byte came back as ys, and the length byte is set
+pub line-is : (line ys : Bytes) (x : ℕ) → length line ≡ 201 → set (take 1 line ++ (ys ++ drop 200 (drop 1 line))) 0 x ≡ x ∷ ys
+line-is [] ys x h = absurd (omega arith)
+line-is (a ∷ l) ys x h =
+    let whole : length l ≡ 200 = omega arith in
+    ap (λ (z : Bytes). x ∷ (ys ++ z)) (ap (λ (n : ℕ). drop n l) (sym whole) ∙ drop-length l) ∙ ap (λ (z : Bytes). x ∷ z) (append-nil ys)
+
+module _ {s : Bytes} {start m at : ℕ} {room₀ room : Bytes} {o : ℕ} {line : Bytes} {len end i : ℕ} (w : Saving s start m at room₀ room o line len end i) (h : i < m)
+    {next len' : ℕ} {ys : Bytes} (r : NameRead s o (take len (take 200 (drop 1 line))) next len' ys) where
+  abbrev new : Bytes
+  new = set (take 1 line ++ (ys ++ drop 200 (drop 1 line))) 0 len'
+
+  new-is : new ≡ len' ∷ ys
+  new-is = line-is line ys len' (w .long)
+
+  -- whatever the length byte is
+  pub new-long : (x : ℕ) → length (set (take 1 line ++ (ys ++ drop 200 (drop 1 line))) 0 x) ≡ 201
+  new-long x = ap length (line-is line ys x (w .long)) ∙ omega (arith, r .size)
+
+  pub record-fits : (x : ℕ) → 0 + (len' + 1) ≤ length (set (take 1 line ++ (ys ++ drop 200 (drop 1 line))) 0 x)
+  record-fits x = omega (arith, new-long x, r .room)
+
+  -- the name that is read
+  name-is : take len' ys ≡ nameAt s o (take len (drop 1 line))
+  name-is = r .name-is ∙ ap (λ (l : Bytes). nameAt s o (take len l)) (take-all 200 (drop 1 line) (omega (arith, behind w h)))
+
+  name-size : length (take len' ys) ≡ len'
+  name-size = omega (arith, length-take len' ys, r .size, r .room)
+
+  record-is : (xs : List Bytes) → Stream s start [] xs → length xs ≡ m → take (len' + 1) (drop 0 new) ≡ encode (getD xs i [] ∷ [])
+  unfolding encode
+  record-is xs t e =
+      let number : i + 0 ≡ i = omega arith in
+      let named : take len' ys ≡ getD xs i [] = name-is ∙ next-of w h xs t e .1 ∙ getD-drop i xs 0 [] ∙ ap (λ (j : ℕ). getD xs j []) number in
+      let front : take (suc len') (len' ∷ ys) ≡ length (take len' ys) ∷ (take len' ys ++ []) = ap₂ (λ (n : ℕ) (l : Bytes). n ∷ l) (sym name-size) (sym (append-nil (take len' ys))) in
+      ap₂ (λ (n : ℕ) (l : Bytes). take n l) (add-one len') new-is ∙ front ∙ ap (λ (l : Bytes). length l ∷ (l ++ [])) named
+
+  pub saving-more : {room' : Bytes} → RecordPut new 0 (len' + 1) room room' end → Saving s start m at room₀ room' next new len' (end + (len' + 1)) (i + 1)
+  saving-more {room'} k = record {
+    ask = w .ask;
+    long = new-long len';
+    short = r .room;
+    upto = omega arith;
+    bounded = omega (arith, w .bounded, r .room);
+    kept = k .kept ∙ w .kept;
+    others = λ xs t e. onward xs (next-of w h xs t e .2);
+    put = λ xs t e. one-more xs t e;
+  }
+    where
+      onward : (xs : List Bytes) → Stream s (entryEnd s o) (nameAt s o (take len (drop 1 line))) (drop 1 (drop i xs)) → Stream s next (take len' (drop 1 new)) (drop (i + 1) xs)
+      onward xs t =
+          let left : drop 1 (drop i xs) ≡ drop (i + 1) xs = drop-drop 1 i xs in
+          let held : nameAt s o (take len (drop 1 line)) ≡ take len' (drop 1 new) = sym name-is ∙ ap (λ (l : Bytes). take len' (drop 1 l)) (sym new-is) in
+          subst (λ (n : ℕ). Stream s n (take len' (drop 1 new)) (drop (i + 1) xs)) (sym (r .next-is))
+          (subst (λ (l : Bytes). Stream s (entryEnd s o) l (drop (i + 1) xs)) held (subst (λ (l : List Bytes). Stream s (entryEnd s o) (nameAt s o (take len (drop 1 line))) l) left t))
+
+      one-more : (xs : List Bytes) → Stream s start [] xs → length xs ≡ m → BytesPut (encode (take (i + 1) xs)) room₀ room' at (end + (len' + 1))
+      one-more xs t e =
+          let bytes = record-is xs t e in
+          let size : length (encode (getD xs i [] ∷ [])) ≡ len' + 1 = ap length (sym bytes) ∙ omega (arith, length-take (len' + 1) new, new-long len', r .room) in
+          let all : encode (take i xs) ++ encode (getD xs i [] ∷ []) ≡ encode (take (i + 1) xs) =
+          sym (encode-append (take i xs) (getD xs i [] ∷ [])) ∙ ap encode (sym (take-suc xs i [] (omega arith)) ∙ ap (λ (n : ℕ). take n xs) (sym (add-one i))) in
+          subst (λ (l : Bytes). BytesPut l room₀ room' at (end + (len' + 1))) all (put-more (w .put xs t e) (put-record (encode (getD xs i [] ∷ [])) bytes size k))
+
+pub saving-done : {s : Bytes} {start m at : ℕ} {room₀ room : Bytes} {o : ℕ} {line : Bytes} {len end i : ℕ} → Saving s start m at room₀ room o line len end i → m ≤ i → NamesPut s start m room₀ room at end
+saving-done {s} {start} {m} {at} {room₀} {room} {o} {line} {len} {end} {i} w h = record {
+  kept = w .kept;
+  bounded = omega (arith, w .bounded, w .upto);
+  all = λ xs t e. subst (λ (l : List Bytes). BytesPut (encode l) room₀ room at end) (take-all i xs (omega arith)) (w .put xs t e);
+}
+
+-- ---- the blocks
+
+module _ {s : Bytes} {i start end names : ℕ} (ask : BlockAsk s i) (k : SpanIs s i start end names) (r : Bool) (says : WholeSays s start end names r) where
+  -- a broken block has no records
+  pub block-left : not r ≡ true → (room : Bytes) (at : ℕ) → BytesPut (recordsIn (getD (cardBlocks s) i Broken)) room room at at
+  block-left h room at =
+      let none : recordsIn (getD (cardBlocks s) i Broken) ≡ [] = ap recordsIn (block-found ask k r says ∙ ap (λ (t : Bool). pick t (Whole (decode (take (end - start) (drop start s)))) Broken) (not-true r h)) in
+      subst (λ (l : Bytes). BytesPut l room room at at) (sym none) (put-none room at)
+
+  module _ (h : not r ≡ false) where
+    stands : Stream s start [] (decode (take (end - start) (drop start s)))
+    stands = alone-stream s start end names (k .inside) (k .order) _ (names-found ask k r says h)
+
+    count-is : length (decode (take (end - start) (drop start s))) ≡ names
+    count-is = whole-alone names (take (end - start) (drop start s)) _ (names-found ask k r says h) .count
+
+    pub names-ask : NamesAsk s start names
+    names-ask = record { names = decode (take (end - start) (drop start s)); stream = stands; count = count-is }
+
+    pub block-put : {room₀ room : Bytes} {at to : ℕ} → NamesPut s start names room₀ room at to → BytesPut (recordsIn (getD (cardBlocks s) i Broken)) room₀ room at to
+    block-put {room₀} {room} {at} {to} p =
+        subst (λ (b : Block). BytesPut (recordsIn b) room₀ room at to) (sym (block-kept ask k r says h)) (p .all (decode (take (end - start) (drop start s))) stands count-is)
+
+-- the records of i blocks are put
+pub record Blocks (s room₀ room : Bytes) (count i end : ℕ) : Type 0 where
+  pub upto : i ≤ count
+  pub many : count ≡ length (cardBlocks s)
+  pub few : count ≤ 2000
+  pub bounded : end ≤ 12864 * i
+  pub put : BytesPut (savedRecords (take i (cardBlocks s))) room₀ room 0 end
+
+pub blocks-start : {s : Bytes} {count : ℕ} (room : Bytes) → count ≡ length (cardBlocks s) → count ≤ 2000 → Blocks s room room count 0 0
+unfolding joined
+blocks-start room e f = record { upto = omega arith; many = e; few = f; bounded = omega arith; put = put-none room 0 }
+
+module _ {s room₀ room : Bytes} {count i end : ℕ} (w : Blocks s room₀ room count i end) where
+  pub blocks-ask : mapped s ≡ true → i < count → BlockAsk s i
+  blocks-ask e h = record { map = e; within = omega (arith, w .many) }
+
+  pub blocks-more : i < count → {room' : Bytes} {to : ℕ} → BytesPut (recordsIn (getD (cardBlocks s) i Broken)) room room' end to → to ≤ 12864 * (i + 1) → Blocks s room₀ room' count (i + 1) to
+  blocks-more h {room'} {to} p b = record {
+    upto = omega arith;
+    many = w .many;
+    few = w .few;
+    bounded = b;
+    put = subst (λ (l : Bytes). BytesPut l room₀ room' 0 to) (saved-more (cardBlocks s) i (omega (arith, w .many)) ∙ ap (λ (n : ℕ). savedRecords (take n (cardBlocks s))) (sym (add-one i))) (put-more (w .put) p);
+  }
+
+  pub blocks-done : count ≤ i → BytesPut (savedRecords (cardBlocks s)) room₀ room 0 end
+  blocks-done h = subst (λ (l : List Block). BytesPut (savedRecords l) room₀ room 0 end) (take-all i (cardBlocks s) (omega (arith, w .many))) (w .put)
+
+-- ---- ways out of `save_names`
+
+module _ (s : Bytes) (rows : ℕ) (room : Bytes) where
+  pub save-unmapped : {m : Bool} → m ≡ mapped s → not m ≡ true → (a : Answer) → answered a ≡ numbered 13 0 → written a room ≡ savedOf s rows room
+  unfolding savedOf
+  save-unmapped {m} e h a p = rw (sym e ∙ not-true m h) (ap (λ (n : Numbers). record { answer = n; room = room }) p)
+
+  module _ {m : Bool} (e : m ≡ mapped s) (h : not m ≡ false) {count : ℕ} (c : count ≡ length (cardBlocks s)) {after : Bytes} {size : ℕ}
+      (k : BytesPut (savedRecords (cardBlocks s)) (take (0 - 0) (drop 0 room)) after 0 size) where
+    -- what was counted in an empty part of the room, which is then as it was
+    abbrev back : Bytes
+    back = take 0 room ++ (after ++ drop (0 - 0) (drop 0 room))
+
+    untouched : back ≡ room
+    untouched = none-lent room after (k .kept)
+
+    alone : (a : Answer) {n : Numbers} → answered a ≡ n → record { answer = n; room = room } ≡ savedOf s rows room → written a back ≡ savedOf s rows room
+    alone a p f = ap₂ (λ (n : Numbers) (l : Bytes). record { answer = n; room = l }) p untouched ∙ f
+
+    -- by what the two tests say
+    abbrev tested : Bool → Bool → Written
+    tested same fits =
+        pick same (pick fits (record { answer = given (length (savedRecords (cardBlocks s))) 0; room = over (savedRecords (cardBlocks s)) room }) (record { answer = refused 4; room = room })) (record { answer = refused 12; room = room })
+
+    saved-is : (same fits : Bool) → eqb rows (length (cardBlocks s)) ≡ same → leb (length (savedRecords (cardBlocks s))) (length room) ≡ fits → savedOf s rows room ≡ tested same fits
+    unfolding savedOf
+    saved-is same fits p q = rw (mapped-is s e h, p, q) refl
+
+    pub save-rows : (rows ≡ count → ⊥) → (a : Answer) → answered a ≡ numbered 12 0 → written a back ≡ savedOf s rows room
+    save-rows away a p = alone a p (sym (saved-is false _ (ne-eqb rows (length (cardBlocks s)) (λ z. away (z ∙ sym c))) refl))
+
+    module _ (same : rows ≡ count) where
+      is-same : eqb rows (length (cardBlocks s)) ≡ true
+      is-same = eq-eqb rows (length (cardBlocks s)) (same ∙ c)
+
+      pub save-short : length back < size → (a : Answer) → answered a ≡ numbered 4 0 → written a back ≡ savedOf s rows room
+      save-short f a p = alone a p (sym (saved-is true false is-same (lt-leb (length (savedRecords (cardBlocks s))) (length room) (omega (arith, k .size, ap length untouched)))))
+
+      pub save-put : size ≤ length back → {new : Bytes} {end : ℕ} → BytesPut (savedRecords (cardBlocks s)) back new 0 end → record { answer = given end 0; room = new } ≡ savedOf s rows room
+      save-put f {new} {end} w =
+          ap₂ (λ (n : ℕ) (l : Bytes). record { answer = given n 0; room = l }) (omega (arith, w .size)) (w .put (omega (arith, w .size, k .size)) [] back refl (omega arith) refl ∙ ap (over (savedRecords (cardBlocks s))) untouched)
+          ∙ sym (saved-is true true is-same (le-leb (length (savedRecords (cardBlocks s))) (length room) (omega (arith, k .size, ap length untouched))))

@@ -1,0 +1,15 @@
+-- `salvage::is_whole` meets its contract: it says what the check of a block says.
+-- Assumes nothing.
+use borrow.Author.Needs.{needs}
+use Rattle.salvage.proofs.Cards.{whole-says}
+use Rattle.salvage.proofs.is_whole.Statement.{statement}
+use Rattle.salvage.proofs.is_whole.Tie as tie
+
+returns : tie.Need-returns
+returns c =
+    let asked = c .before .before .before .before in
+    let said = c .before .check-block in
+    whole-says _ _ _ _ (asked .pre .order) (asked .pre .inside) (said .result .ok) _ _ (said .ensures .2)
+
+pub is-whole-spec : {M : Type 1} → statement M
+is-whole-spec = tie.close (tie.spec (λ c. search needs) (λ c κs. search needs) returns)

@@ -1,0 +1,39 @@
+-- A worn card's blocks, as the code asks and tells of them.
+--     Table             the block table lies where the trailer says, and has a bound of number i
+--     BlockAsk          the map makes sense, and there is a block of number i
+--     SpanIs            where block i stands, and how many names it should have
+--     WholeAsk, WholeSays     a span inside the bytes; whether its block, judged alone, is whole
+-- The laws are in proofs/Cards.antt. Assumes nothing: these are definitions.
+use Prim.Native.Nat.{ℕ, _+_, _-_, _*_, _<_, _≤_}
+use mathlib.Core.Path.{_≡_}
+use mathlib.Core.Bool.{Bool, true}
+use mathlib.Core.List.{[]}
+use lib.ListN.{drop, getD, length, take}
+use Rattle.words.specs.Words.{Bytes, pick}
+use Rattle.format.specs.Book.{told, trailerSize}
+use Rattle.format.specs.Entries.{decode}
+use Rattle.format.specs.Salvage.{Broken, Whole, blockCount, judgedAlone, mapped, spans}
+use Rattle.answers.specs.Salvage.{cardBlocks}
+
+pub record Table (s : Bytes) (i : ℕ) : Type 0 where
+  pub within : told s 3 + trailerSize ≤ length s
+  pub size : told s 2 + 2 * blockCount (told s 0) (told s 1) ≡ told s 3
+  pub upto : i ≤ blockCount (told s 0) (told s 1)
+
+pub record BlockAsk (s : Bytes) (i : ℕ) : Type 0 where
+  pub map : mapped s ≡ true
+  pub within : i < length (cardBlocks s)
+
+pub record SpanIs (s : Bytes) (i start end names : ℕ) : Type 0 where
+  pub order : start ≤ end
+  pub inside : end ≤ length s
+  pub few : names ≤ 64
+  pub is : getD (spans s) i (0, []) ≡ (names, take (end - start) (drop start s))
+
+pub record WholeAsk (s : Bytes) (start end : ℕ) : Type 0 where
+  pub order : start ≤ end
+  pub inside : end ≤ length s
+
+-- its names are those that its bytes tell
+abbrev pub WholeSays : Bytes → ℕ → ℕ → ℕ → Bool → Type 0
+WholeSays s start end names r = let span = take (end - start) (drop start s) in judgedAlone names span ≡ pick r (Whole (decode span)) Broken
