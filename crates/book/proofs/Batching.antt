@@ -1,18 +1,15 @@
 -- How a batch goes, by the ways that its parts go. How it opens and what a row gets is in the crate questions.
---     filled, length-filled      the answer rows after i turns: the first i answers are stored, and the rest are as they were; as many as before
+--     noRow, turned              what stands for a row past the last; what turn number i stores
 --     opening-accepts            what an opening that refuses nothing has shown
 --     batch-refused, batch-answered      the call's equation, where the opening refuses and where it doesn't
 -- Assumes nothing.
-use Prim.Native.Nat.{ℕ, zero, suc, _<_, _≤_}
-use native.Mathlib.Nat.{eq-or-lt-of-le, le-of-suc-le-suc, not-suc-le-zero}
+use Prim.Native.Nat.{ℕ}
 use native.Mathlib.Omega.{arith}
-use mathlib.Core.Path.{_≡_, _∙_, ap, ap₂, refl, subst, sym}
+use mathlib.Core.Path.{_≡_, _∙_, ap, ap₂, refl, sym}
 use mathlib.Core.Bool.{Bool, false, true}
 use mathlib.Core.List.{List, map, map-map}
-use mathlib.Core.Logic.{⊎-elim}
 use lib.Dec.{eqb, leb}
-use lib.ListN.{List·getD-map, getD, length, length-map, length-set, set}
-use lib.Seq.{ext-getD, getD-set-other, getD-set-same}
+use lib.ListN.{List·getD-map, getD, length, length-map}
 use borrow.Author.Tests.{eqb-true}
 use Rattle.words.specs.Words.{Bytes, pick, plain}
 use Rattle.words.proofs.Words.{both-true}
@@ -26,42 +23,22 @@ use Rattle.shapes.specs.declared.Row.{Row}
 use Rattle.shapes.proofs.Shapes.{answerOf}
 use Rattle.questions.specs.Asking.{Accepted, openingOf, takesRows}
 use Rattle.questions.specs.declared.Opening.{Opening}
+use Rattle.book.proofs.Filling.{filled, filled-all}
 
--- ---- the answer rows
+-- ---- the rows
 
 -- what stands for a row past the last
 abbrev pub noRow : Row
 noRow = record { kind = 0; start = 0; length = 0 }
-
-module _ (f : Row → Answer) (rows : List Row) (old : List Answer) where
-  abbrev pub filled : ℕ → List Answer
-  filled zero = old
-  filled (suc i) = set (filled i) i (f (getD rows i noRow))
-
-  pub length-filled : (i : ℕ) → length (filled i) ≡ length old
-  length-filled zero = refl
-  length-filled (suc i) = length-set (filled i) i (f (getD rows i noRow)) ∙ length-filled i
-
-  -- each answer that is stored is its row's
-  stored : (i j : ℕ) → j < i → i ≤ length old → getD (filled i) j (f noRow) ≡ f (getD rows j noRow)
-  stored zero j lt le = absurd (not-suc-le-zero lt)
-  stored (suc i) j lt le =
-      let x = f (getD rows i noRow) in
-      ⊎-elim
-      (λ (e : j ≡ i). subst (λ (m : ℕ). getD (filled (suc i)) m (f noRow) ≡ f (getD rows m noRow)) (sym e) (getD-set-same (filled i) i x (f noRow) (omega (arith, length-filled i))))
-      (λ (less : j < i). getD-set-other (filled i) i j x (f noRow) (λ e. omega arith) ∙ stored i j less (omega arith))
-      (eq-or-lt-of-le (le-of-suc-le-suc lt))
-
-  filled-all : length rows ≡ length old → filled (length rows) ≡ map f rows
-  filled-all e =
-      ext-getD (f noRow) (filled (length rows)) (map f rows) (length-filled (length rows) ∙ sym e ∙ sym (length-map rows f))
-      (λ i lt. stored (length rows) i (omega (arith, length-filled (length rows))) (omega arith) ∙ sym (List·getD-map f rows i noRow))
 
 -- ---- the call
 
 -- what `answer_row` gives, and what `open_batch` gives
 abbrev pub gets : Bytes → Bytes → Row → Answer
 gets b buffer row = answerOf (rowAnswer plain (opened plain b) buffer (rowOf row))
+
+abbrev pub turned : Bytes → Bytes → List Row → ℕ → Answer
+turned b buffer rows i = gets b buffer (getD rows i noRow)
 
 abbrev pub opening : Bytes → List Row → List Answer → Opening
 opening b rows old = openingOf b (length rows) (takesRows (length rows) (length old)) (opened plain b)
@@ -99,17 +76,23 @@ module _ (b buffer : Bytes) (rows : List Row) (old : List Answer) where
       go true p NoBook q e = absurd (omega (arith, e))
       go true p (Book k xs) q e = (record { checked = sym (ap (checkOn b) q) }, eqb-true (length rows) (length old) (both-true (leb (length rows) 64) (eqb (length rows) (length old)) p .1))
 
-  pub batch-answered : opening b rows old .answer .code ≡ 0 → batched (opening b rows old .answer) (filled (gets b buffer) rows old (length rows)) ≡ outcome
+  pub batch-answered : opening b rows old .answer .code ≡ 0 → batched (opening b rows old .answer) (filled (turned b buffer rows) old (length rows)) ≡ outcome
   unfolding batchOf openingOf
   batch-answered z = go (takesRows (length rows) (length old)) (opened plain b) refl z ∙ sym decides
     where
-      answers : (o : Opened) → opened plain b ≡ o → map answered (filled (gets b buffer) rows old (length rows)) ≡ map (rowAnswer plain o buffer) (map rowOf rows)
+      all-filled : filled (turned b buffer rows) old (length rows) ≡ map (gets b buffer) rows
+      all-filled =
+          let as-many : length (map (gets b buffer) rows) ≡ length rows = length-map rows (gets b buffer) in
+          ap (filled (turned b buffer rows) old) (sym as-many)
+          ∙ filled-all (turned b buffer rows) old (gets b buffer noRow) (map (gets b buffer) rows) (as-many ∙ opening-accepts z .1) (λ i lt. sym (List·getD-map (gets b buffer) rows i noRow))
+
+      answers : (o : Opened) → opened plain b ≡ o → map answered (filled (turned b buffer rows) old (length rows)) ≡ map (rowAnswer plain o buffer) (map rowOf rows)
       answers o q =
-          ap (map answered) (filled-all (gets b buffer) rows old (opening-accepts z .1)) ∙ map-map answered (gets b buffer) rows
+          ap (map answered) all-filled ∙ map-map answered (gets b buffer) rows
           ∙ ap (λ (x : Opened). map (λ (row : Row). rowAnswer plain x buffer (rowOf row)) rows) q ∙ sym (map-map (rowAnswer plain o buffer) rowOf rows)
 
       go : (t : Bool) (o : Opened) → opened plain b ≡ o → openingOf b (length rows) t o .answer .code ≡ 0
-          → batched (openingOf b (length rows) t o .answer) (filled (gets b buffer) rows old (length rows)) ≡ decided t o
+          → batched (openingOf b (length rows) t o .answer) (filled (turned b buffer rows) old (length rows)) ≡ decided t o
       go false NoBook q e = absurd (omega (arith, e))
       go false (Book k xs) q e = absurd (omega (arith, e))
       go true NoBook q e = absurd (omega (arith, e))

@@ -1,6 +1,8 @@
 -- Laws of the public calls.
 pub mod Building
 pub mod Reading
+pub mod Filling
 pub mod Batching
+pub mod Salvaging
 pub mod Walking
 pub mod Merging

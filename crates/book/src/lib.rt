@@ -3,6 +3,7 @@
 // and Rust; a slice is a pointer and a length. Inner functions, which may ask something, stand in the crates below.
 pub use shapes::Answer;
 pub use shapes::Head;
+pub use shapes::Kept;
 pub use shapes::Row;
 ghost use mathlib.Core.Path.{_≡_};
 ghost use mathlib.Core.List.{map};
@@ -10,7 +11,9 @@ ghost use Rattle.words.specs.Words.{plain};
 ghost use Rattle.answers.specs.Calls.{batch, build, check, question as askedOf, readBack};
 ghost use Rattle.answers.specs.Heads.{headOf, partOf};
 ghost use Rattle.answers.specs.Merging.{judgeLists, mergeLists};
+ghost use Rattle.answers.specs.Salvage.{salvage as salvageOf};
 ghost use Rattle.shapes.specs.Heads.{headed, lentPart};
+ghost use Rattle.shapes.specs.Salvage.{keptRow, salvaged};
 ghost use Rattle.shapes.specs.Shapes.{answered, rowOf, batched, written};
 
 // Builds the book of a list with blocks of so many names, at the front of the room. Refusals: 8; record by record 5, 6, 7; 9; 4.
@@ -200,4 +203,22 @@ pub fn list_step<'a>(
     } else {
         &first[start..end]
     }
+}
+
+// The names of all blocks of a worn card that are whole, as list records at the front of the room, and for each block a row: kept, with so
+// many names, or dropped. Refusals: 13, 12, 4.
+#[no_mangle]
+pub extern "C" fn book_salvage(data: &[u8], room: &mut [u8], report: &mut [Kept]) -> Answer
+    ensures { λ r. ⌜ salvaged r (now (room .exit)) (now (report .exit)) ≡ salvageOf (now («data» .entry)) (now (room .entry)) (map keptRow (now (report .entry))) ⌝ }
+{
+    let saved = salvage::save_names(data, report.len(), room);
+    if saved.code != 0 {
+        return saved;
+    }
+    let mut i = 0;
+    while i < report.len() {
+        report[i] = salvage::judge_block(data, i);
+        i += 1;
+    }
+    saved
 }

@@ -6,7 +6,6 @@
 -- looks into the question rows, copies row i out and shuts them; asks `answer_row`; and stores what it gives at i. Of the book and the
 -- buffer, which are `Copy`, each call is handed a copy. Assumes nothing.
 use mathlib.Core.Path.{_≡_, refl, sym, _∙_, ap, subst}
-use mathlib.Core.Bool.{Bool, true, false, not}
 use mathlib.Core.List.{List, [], _∷_, map}
 use mathlib.Core.WellFounded.{WellFounded, InvImage·wf}
 use Prim.Native.Nat.{ℕ, suc, _+_, _-_, _*_, _<_, _≤_, _^_}
@@ -78,20 +77,14 @@ use Rattle.questions.proofs.answer_row as answers
 use Rattle.questions.proofs.answer_row.Symbol as answers-def
 use Rattle.questions.proofs.answer_row.Symbol.{name as #answer-row}
 use Rattle.questions.proofs.answer_row.Met as answers-thm
-use Rattle.book.proofs.Batching.{batch-answered, batch-refused, filled, gets, length-filled, noRow, opening, opening-accepts}
-use Rattle.book.proofs.Walking.{guards, tests}
+use Rattle.book.proofs.Batching.{batch-answered, batch-refused, gets, noRow, opening, opening-accepts, turned}
+use Rattle.book.proofs.Filling.{filled, length-filled}
+use Rattle.book.proofs.Walking.{guards, not-not, tests, zero-holds}
 use Rattle.book.proofs.book_batch.Key.{name as #book-batch}
 use Rattle.book.proofs.book_batch as f
 use Rattle.book.proofs.book_batch.Statement as stated
 use Rattle.book.proofs.book_batch.Code as code
 use Rattle.book.proofs.book_batch.Code.Mir as mir′
-
-not-not : (t : Bool) → T (not (not t)) → T t
-not-not true h = h
-not-not false h = h
-
-zero-holds : {n : ℕ} → n ≡ 0 → T (eqb n 0)
-zero-holds e = subst (λ (k : ℕ). T (eqb k 0)) (sym e) tt
 
 abbrev stayed : Stays (f.ended .signature .params) (f.ended .kept)
 stayed = (stay-dropped (shrSliceOf (0 ∷ []) tt (plainOf (λ _. u8))) yes, (stay-dropped (shrSliceOf (1 ∷ []) tt (plainOf (λ _. u8))) yes, (stay-dropped (shrSliceOf (2 ∷ []) tt (plainOf (λ _. R.the-row))) yes, (stay-slice (3 ∷ []) tt (plainOf (λ _. P.the-row)), tt))))
@@ -157,7 +150,7 @@ module _ {M : Type 1} (𝓤 : URA M) (H : Heap 𝓤) (A : Atoms 𝓤) (W : Given
   reply = gets (now book) (now qs)
 
   abbrev fill : ℕ → List Answer
-  fill = filled reply rs old
+  fill = filled (turned (now book) (now qs) rs) old
 
   abbrev Post : Val → SProp 𝓤
   Post = walkOf 𝓤 H A f.ended stayed (f.clauses 𝓤 H A mem run) .post ((κs, shs, tt, a, vals), tt)
@@ -300,17 +293,17 @@ module _ {M : Type 1} (𝓤 : URA M) (H : Heap 𝓤) (A : Atoms 𝓤) (W : Given
             -- the test fails: the loop is left, the answer rows are closed at the list that the turns made, and the function returns
             (λ fails. exec ! (𝓣 .C) (𝓣 .Λ) En mir′.t-8 (atRet En Post) $
             assigns ! (of-opd ! (load ! (from ! (fld ! refl (stop !))) (look-in ! 15 (sub ! 0 refl (whole !))))) (from ! (stop !)) (init ! 23 refl (LL.lawful P.the-type P′.the-laws 𝓤 H A W .typed (start .answer) _ is-answer .0)) $
-            move ! (2 ∷ 20 ∷ 21 ∷ 22 ∷ []) $ closes-slice ! tt P.the-row old (fill (t .0)) (length-filled reply rs old (t .0)) ab ao $
+            move ! (2 ∷ 20 ∷ 21 ∷ 22 ∷ []) $ closes-slice ! tt P.the-row old (fill (t .0)) (length-filled (turned (now book) (now qs) rs) old (t .0)) ab ao $
             returns ! (look ! 22 refl) $ forget ! 5 refl $ forget ! 6 refl $ forget ! 7 refl $ forget ! 13 refl $ forget ! 14 refl $ forget ! 15 refl $ forget ! 16 refl $ forget ! 17 refl $ forget ! 22 refl $
             move ! (22 ∷ 26 ∷ 13 ∷ 27 ∷ 14 ∷ 28 ∷ 15 ∷ 29 ∷ 16 ∷ 30 ∷ 17 ∷ 31 ∷ 5 ∷ 32 ∷ 23 ∷ 33 ∷ 24 ∷ 34 ∷ 25 ∷ 35 ∷ 6 ∷ 36 ∷ 7 ∷ 37 ∷ 8 ∷ 38 ∷ 9 ∷ 39 ∷ 10 ∷ 40 ∷ 11 ∷ 41 ∷ 12 ∷ 42 ∷ []) $
             free1 ! $ free1 ! $ free1 ! $ free1 ! $ free1 ! $ free1 ! $ free1 ! $ free1 ! $ free1 ! $ free1 ! $ free1 ! $ free1 ! $ free1 ! $ free1 ! $ free1 ! $ free1 ! $ free1 ! $ free0 ! $
-            keep ! (0 ∷ 1 ∷ 2 ∷ 4 ∷ 5 ∷ 6 ∷ []) $ by ! (exits is-answer (fill (t .0)) (length-filled reply rs old (t .0)) (ap (λ (i : ℕ). batched (start .answer) (fill i)) (le-antisymm (t .1) (nltb→le (t .0) (length rs) fails)) ∙ batch-answered (now book) (now qs) rs old ok)))
+            keep ! (0 ∷ 1 ∷ 2 ∷ 4 ∷ 5 ∷ 6 ∷ []) $ by ! (exits is-answer (fill (t .0)) (length-filled (turned (now book) (now qs) rs) old (t .0)) (ap (λ (i : ℕ). batched (start .answer) (fill i)) (le-antisymm (t .1) (nltb→le (t .0) (length rs) fails)) ∙ batch-answered (now book) (now qs) rs old ok)))
           where
             at : T (ltb (t .0) (length rs)) → t .0 < length rs
             at holds = ltb→lt (t .0) (length rs) holds
 
             within : T (ltb (t .0) (length rs)) → t .0 < length (fill (t .0))
-            within holds = subst (λ (m : ℕ). t .0 < m) (opening-accepts (now book) (now qs) rs old ok .1 ∙ sym (length-filled reply rs old (t .0))) (at holds)
+            within holds = subst (λ (m : ℕ). t .0 < m) (opening-accepts (now book) (now qs) rs old ok .1 ∙ sym (length-filled (turned (now book) (now qs) rs) old (t .0))) (at holds)
 
             next : T (ltb (t .0) (length rs)) → t .0 + 1 < 2 ^ 64
             next holds = omega (arith, room-r .0, at holds)
