@@ -12,17 +12,16 @@ use native.Mathlib.Omega.{arith}
 use mathlib.Core.Path.{_≡_, refl, sym, ap, _∙_, subst}
 use mathlib.Core.Logic.{_↔_}
 use mathlib.Core.Bool.{true}
-use mathlib.Core.List.{List, [], map}
-use lib.ListN.{length, getD, length-map}
-use Rattle.words.specs.Rising.{All, Rises}
-use Rattle.words.specs.Words.{Bytes, InBytes, Lawful, Rule, less, word}
+use mathlib.Core.List.{List, []}
+use lib.ListN.{length, getD}
+use Rattle.words.specs.Rising.{All}
+use Rattle.words.specs.Words.{Bytes, InBytes, Lawful, Rule}
 use Rattle.words.proofs.Lists.{all-at, all-from, all-map₂}
-use Rattle.words.proofs.Rising.{nth-less, nth-word}
 use Rattle.format.specs.Book.{Book, NoBook, Opened, book, fits, opened, told}
 use Rattle.format.specs.Records.{longest, sound}
 use Rattle.format.proofs.Book.{book-length, book-opened, fits-parts, opened-book, parts-fits, read-field}
 use Rattle.format.proofs.Numbers.{all-bytes, bytes-all}
-use Rattle.format.proofs.Records.{from-sound, rising-sizes, sound-few, sound-rises, sound-rising}
+use Rattle.format.proofs.Records.{from-sound, rising-less, rising-sizes, sound-few, sound-rising}
 use Rattle.format.proofs.Small.{book-bytes, names-bytes}
 use Rattle.format.specs.Outcomes.{Answer, checkOf, given, refused}
 use Rattle.answers.specs.Calls.{check}
@@ -34,19 +33,15 @@ module _ (ρ : Rule) (ok : Lawful ρ) where
       let b = book-opened ρ s k xs e in
       let f = fits-parts ρ k xs (b .0) in
       let letters : All (λ x. All (λ c. c < 256) x) xs = names-bytes ρ k xs f (subst InBytes (sym (b .1)) h) in
-      let up : Rises (map (word ρ) xs) = sound-rises ρ ok xs (f .sound) in
       record {
         block = (f .low, f .high);
         few = sound-few ρ xs (f .sound);
         sizes = all-at [] xs (rising-sizes ρ [] xs (sound-rising ρ xs (f .sound)));
         letters = λ i l. all-bytes (getD xs i []) (all-at [] xs letters i l);
-        rises = λ i j l m. subst2 (nth-word ρ xs i) (nth-word ρ xs j) (nth-less (map (word ρ) xs) i j up l (omega (arith, length-map xs (word ρ))));
+        rises = rising-less ρ ok xs (sound-rising ρ xs (f .sound));
         layout = b .1;
         short = omega (arith, ap length (b .1), f .short);
       }
-    where
-      subst2 : {v w x y : List ℕ} → v ≡ x → w ≡ y → less v w ≡ true → less x y ≡ true
-      subst2 e f g = rw (← e, ← f) g
 
   module _ {s : Bytes} {k : ℕ} {xs : List Bytes} (b : BookOf ρ s k xs) where
     all-sizes : All (λ x. (1 ≤ length x) × (length x ≤ longest)) xs

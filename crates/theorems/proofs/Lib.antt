@@ -14,3 +14,4 @@ pub mod Calls
 pub mod Merging
 pub mod Unions
 pub mod Examples
+pub mod Salvage

@@ -2,3 +2,4 @@ pub mod Demands
 pub mod Widths
 pub mod Unions
 pub mod Letters
+pub mod Salvage
