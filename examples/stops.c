@@ -1,10 +1,10 @@
 /*
- * Two operators' lists made one, its three stops in a book, and what can be asked
- * of it.
+ * Two operators' lists made one, its three stops in a book, what can be asked of
+ * it, and what is left of it where it is damaged.
  *
  * The merged list, the book and the first twelve questions are those of document
- * 01, the project's scope document; the widths, the merging and how much of a
- * question is lit are document 02's. Every answer is held to the figures there:
+ * 01, the project's scope document; the widths, the merging, how much of a
+ * question is lit and the salvage are document 02's. Every answer is held to the figures there:
  * where one differs, the program says so and its exit status is 1.
  *
  * run.sh compiles it, links it with the proved library and runs it.
@@ -67,6 +67,22 @@ static const struct lit LIT[] = {
     {"parts inside it", "Caf\303\250", 3},
     {"parts behind it", "Caf\303\251s", 5},
     {"ends inside it", "Caf\303", 4},
+};
+
+struct damage {
+    const char *how;
+    size_t at;
+    uint8_t byte;
+    struct mistrogu_kept report[2];
+    size_t written;
+};
+
+/* Another byte somewhere in the book, and what becomes of its two blocks. */
+static const struct damage DAMAGES[] = {
+    {"the root's symbol is 255", 29, 255, {{1, 2}, {1, 1}}, 25},
+    {"Marina's count is 4", 5, 4, {{0, 0}, {1, 1}}, 14},
+    {"Market Square's length is 12", 11, 12, {{1, 2}, {0, 0}}, 11},
+    {"Marina is Marinb", 9, 'b', {{1, 2}, {1, 1}}, 25},
 };
 
 /* How many answers were not the expected ones. */
@@ -305,6 +321,68 @@ static void light_no_half_letter(void)
     }
 }
 
+/* How many report rows a salvage takes: as many as the trailer tells of blocks. */
+static size_t blocks_of(const uint8_t *data, size_t length)
+{
+    const uint8_t *trailer = data + length - 16;
+    size_t names = trailer[0] + 256u * trailer[1];
+    size_t block = trailer[2] + 256u * trailer[3];
+    return block == 0 ? 0 : (names + block - 1) / block;
+}
+
+/* Prints the names in a run of records. */
+static void print_records(const uint8_t *records, size_t length)
+{
+    size_t at = 0;
+    while (at < length) {
+        printf(" %.*s;", (int)records[at], (const char *)(records + at + 1));
+        at += 1 + (size_t)records[at];
+    }
+    printf("\n");
+}
+
+/* Salvages the book with one byte changed. */
+static void salvage_one(const struct damage *damage, const uint8_t *book, size_t length)
+{
+    uint8_t card[93];
+    uint8_t room[25];
+    struct mistrogu_kept report[2];
+    struct mistrogu_answer salvaged;
+    size_t i;
+
+    memcpy(card, book, sizeof card);
+    card[damage->at] = damage->byte;
+    if (blocks_of(card, length) != COUNT(report)) {
+        printf("WRONG: there are other than two blocks\n");
+        differences++;
+        return;
+    }
+    salvaged = hold(damage->how,
+                    book_salvage(card, length, room, sizeof room, report, COUNT(report)),
+                    0, damage->written, 0);
+    if (salvaged.code != 0)
+        return; /* A refused salvage has written nothing. */
+    for (i = 0; i < COUNT(report); i++) {
+        if (report[i].kept != damage->report[i].kept ||
+            report[i].names != damage->report[i].names) {
+            printf("WRONG: %s: block %zu is reported as (%zu, %zu)\n", damage->how, i,
+                   report[i].kept, report[i].names);
+            differences++;
+        }
+    }
+    printf("  %s:", damage->how);
+    print_records(room, salvaged.first);
+}
+
+/* What is left of the book where one byte is another. */
+static void salvage(const uint8_t *book, size_t length)
+{
+    size_t i;
+    printf("what is left of the book, damaged in one byte\n");
+    for (i = 0; i < COUNT(DAMAGES); i++)
+        salvage_one(&DAMAGES[i], book, length);
+}
+
 /* Holds a room to what it was filled with. */
 static void hold_untouched(const uint8_t *room, size_t length)
 {
@@ -348,6 +426,32 @@ static void be_refused(const uint8_t *list, size_t list_length, const uint8_t *b
     hold_untouched(room, sizeof room);
     if (differences == before)
         printf("eight calls were refused as they had to be\n");
+}
+
+/* The same with a damaged book. */
+static void be_refused_salvage(const uint8_t *book, size_t length)
+{
+    struct mistrogu_kept report[2] = {{77, 78}, {77, 78}};
+    uint8_t room[24];
+    int before = differences;
+
+    memset(room, 0xAA, sizeof room);
+    hold("a card without its first byte",
+         book_salvage(book + 1, length - 1, room, sizeof room, report, 2),
+         MISTROGU_NO_MAP, 0, 0);
+    hold("one report row", book_salvage(book, length, room, sizeof room, report, 1),
+         MISTROGU_BAD_BATCH, 0, 0);
+    hold("a room one byte short",
+         book_salvage(book, length, room, sizeof room, report, 2),
+         MISTROGU_ROOM_TOO_SHORT, 0, 0);
+    hold_untouched(room, sizeof room);
+    if (report[0].kept != 77 || report[0].names != 78 || report[1].kept != 77 ||
+        report[1].names != 78) {
+        printf("WRONG: a refused salvage has changed its report\n");
+        differences++;
+    }
+    if (differences == before)
+        printf("and three salvages\n");
 }
 
 /* The same with two lists. A refused head is the empty part of the first. */
@@ -419,7 +523,9 @@ int main(void)
     ask_one_by_one(book, length);
     ask_in_a_batch(book, length);
     light_no_half_letter();
+    salvage(book, length);
     be_refused(list, list_length, book, length);
+    be_refused_salvage(book, length);
     be_refused_lists(list, list_length);
     return differences == 0 ? 0 : 1;
 }

@@ -6,6 +6,7 @@
 #   host/measure.sh read BOOKFILE POSITION        of book_read at that position of that book
 #   host/measure.sh exact BOOKFILE QUESTION       of book_exact with that question to that book
 #   host/measure.sh place|range|nearest|width ..  of book_place, book_range, book_nearest, book_width, as for exact
+#   host/measure.sh salvage CARDFILE              of book_salvage on that card, into a room that is always long enough
 #   host/measure.sh merge FIRST SECOND            of list_merge on these two lists, into a room as long as both
 #   host/measure.sh judge FIRST SECOND            of list_judge on them
 #   host/measure.sh step FIRST SECOND COUNT COUNT of list_head behind so many records of the first and of the second
@@ -14,10 +15,12 @@
 #   host/measure.sh growth                        of build, check and place, on lists of which one parameter doubles
 #   host/measure.sh worst [SEED]                  of check and place, on shapes that may cost most: the ten dearest of each
 #   host/measure.sh split LISTFILE ODD EVEN       counts nothing, but parts a list into two files, to be merged again
+#   host/measure.sh wear BOOKFILE CARDFILE        counts nothing, but damages every tenth block of a book, to be salvaged
 #
 # A question is a text, or `hex:` and two digits for each byte. `vectors lists FOLDER` and `vectors books FOLDER K` write files to measure
-# with, and `split` two more: the records of that list that have odd numbers, counted from 0, and those that have even ones. The words go
-# to the program `bench`. The archive is the one that MISTROGU_ARCHIVE names, or a new one from archive.sh; reference.sh and small.sh make
+# with, and `split` two more: the records of that list that have odd numbers, counted from 0, and those that have even ones. Of what `wear`
+# writes, a damaged block is broken in its last entry, so all of it is gone through before it is dropped. The words go to the program `bench`.
+# The archive is the one that MISTROGU_ARCHIVE names, or a new one from archive.sh; reference.sh and small.sh make
 # others, to measure in the same way.
 #
 # `questions` makes 100 questions from the book's names, the same ones each time: 20 names, 20 beginnings, 20 extensions, 20 that miss a
@@ -157,6 +160,6 @@ questions) mixed_questions "$@" ;;
 batch) shift && one_batch "$@" ;;
 growth) growth ;;
 worst) shift && worst "$@" ;;
-split) "$bench" "$@" ;;
+split | wear) "$bench" "$@" ;;
 *) one_call "$@" ;;
 esac

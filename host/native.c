@@ -15,6 +15,10 @@ struct row {
     size kind, start, length;
 };
 
+struct kept {
+    size kept, names;
+};
+
 struct head {
     size list, start, length;
 };
@@ -23,6 +27,7 @@ struct answer *written_book_build(struct answer *, const byte *, size, size, byt
 struct answer *written_book_check(struct answer *, const byte *, size);
 struct answer *written_book_read(struct answer *, const byte *, size, size, byte *, size);
 struct answer *written_book_batch(struct answer *, const byte *, size, const byte *, size, const struct row *, size, struct answer *, size);
+struct answer *written_book_salvage(struct answer *, const byte *, size, byte *, size, struct kept *, size);
 struct answer *written_list_merge(struct answer *, const byte *, size, const byte *, size, byte *, size);
 struct head *written_list_head(struct head *, const byte *, size, const byte *, size, size, size);
 
@@ -60,6 +65,11 @@ struct answer book_batch(const byte *book, size book_length, const byte *questio
                          size row_count, struct answer *answers, size answer_count) {
     struct answer given;
     return *written_book_batch(&given, book, book_length, questions, questions_length, rows, row_count, answers, answer_count);
+}
+
+struct answer book_salvage(const byte *data, size data_length, byte *room, size room_length, struct kept *report, size report_count) {
+    struct answer given;
+    return *written_book_salvage(&given, data, data_length, room, room_length, report, report_count);
 }
 
 struct answer list_merge(const byte *first, size first_length, const byte *second, size second_length, byte *room, size room_length) {

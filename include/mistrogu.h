@@ -2,11 +2,11 @@
  * Mistrogu: books of stop names.
  *
  * A book keeps a strictly rising list of names in at most 65,535 bytes. These
- * calls build a book, check it, read its names back and answer questions about
- * them, and merge two lists into one. They are the functions of the archive that
- * `rt staticlib book` writes (target/staticlib/libbook.a), and each of them is
- * proved to do what stands over it here, for any bytes and any numbers: bad
- * input gets a refusal.
+ * calls build a book, check it, read its names back, answer questions about
+ * them, salvage what is left of a damaged one, and merge two lists into one. They
+ * are the functions of the archive that `rt staticlib book` writes
+ * (target/staticlib/libbook.a), and each of them is proved to do what stands over
+ * it here, for any bytes and any numbers: bad input gets a refusal.
  *
  * NAMES, QUESTIONS AND LISTS
  *
@@ -37,8 +37,8 @@
  *   has checked, and whoever can write to a book or a list in the midst of a call
  *   gets the caller's stack. Copy what another guest can write to, or map it so
  *   that it can't (docs/TRUST.md).
- * - What a call writes to (a room, answer rows) overlaps nothing else that is lent
- *   to it. What is only read may overlap.
+ * - What a call writes to (a room, answer rows, report rows) overlaps nothing else
+ *   that is lent to it. What is only read may overlap.
  * - Rows and answers are aligned as C aligns their structs, to 8 bytes. Bytes
  *   have no alignment.
  * - No piece of memory is larger than PTRDIFF_MAX bytes.
@@ -77,6 +77,8 @@ extern "C" {
 #define MISTROGU_LARGEST_BLOCK 64
 /* The most rows of a batch. */
 #define MISTROGU_MOST_ROWS 64
+/* The most bytes that a salvage writes: 2,000 names of 200 bytes, as records. */
+#define MISTROGU_MOST_SALVAGED 402000
 /* Bytes of stack that are enough for book_build, whatever it is given. */
 #define MISTROGU_BUILD_STACK 5760
 /* Bytes of stack that are enough for every other call, whatever it is given. */
@@ -106,8 +108,10 @@ enum mistrogu_refusal {
     MISTROGU_NO_NAMES = 10,
     /* A row's kind is not 1 to 5, or its start plus length is past the buffer. */
     MISTROGU_BAD_ROW = 11,
-    /* The batch has over 64 rows, or unequal numbers of rows. */
-    MISTROGU_BAD_BATCH = 12
+    /* The batch has over 64 rows, or the rows to write to are too many or too few. */
+    MISTROGU_BAD_BATCH = 12,
+    /* The trailer or the block table makes no sense. */
+    MISTROGU_NO_MAP = 13
 };
 
 /* The kinds of question, as a batch row tells them. */
@@ -131,6 +135,12 @@ struct mistrogu_row {
     size_t kind;
     size_t start;
     size_t length;
+};
+
+/* What a salvage reports of a block: (1, its names) kept, (0, 0) dropped. */
+struct mistrogu_kept {
+    size_t kept;
+    size_t names;
 };
 
 /*
@@ -277,6 +287,40 @@ struct mistrogu_answer book_batch(const uint8_t *book, size_t book_length,
                                   const uint8_t *questions, size_t questions_length,
                                   const struct mistrogu_row *rows, size_t row_count,
                                   struct mistrogu_answer *answers, size_t answer_count)
+    MISTROGU_NEVER_NULL;
+
+/*
+ * Salvages the names of a damaged book, block by block, such as one from a worn
+ * card. Where the trailer and the block table make sense, each block is judged
+ * alone, and by nothing but the bytes of its own span: entries have to fill it
+ * exactly, in the proper number, with names of 1 to 200 bytes, strictly rising,
+ * and greatest shared counts. The names of the sound blocks are written as list
+ * records, in order, and each block has a report row: kept, with how many names
+ * were written, or dropped.
+ *
+ * So damage inside of one block's span changes neither verdict nor names of any
+ * other block, and nodes are never looked at. A damaged block that is sound with
+ * other names is kept with those. Names rise inside of a block, and need not rise
+ * from block to block: what is written may be no list.
+ *
+ * The trailer and the block table make sense where there are at most 2,000 names,
+ * in blocks of 1 to 64; where the parts meet without gaps at the places that the
+ * trailer names, and the length and the mark are right; and where the blocks'
+ * starts strictly rise from 0 inside of the entries. Without names there are no
+ * bytes of entries.
+ *
+ * There are as many report rows as blocks. With n the number at data_length - 16
+ * and k the one at data_length - 14, each of two bytes, the low one first, that is
+ * n / k, rounded up, and at most MISTROGU_MOST_NAMES. A room of
+ * MISTROGU_MOST_SALVAGED bytes is always long enough.
+ *
+ * Accepted: (0, bytes written, 0), and every report row is written.
+ * Refused: 13; then 12 where there are other than as many report rows as blocks;
+ * then 4. Neither the room nor a row is written to then.
+ */
+struct mistrogu_answer book_salvage(const uint8_t *data, size_t data_length,
+                                    uint8_t *room, size_t room_length,
+                                    struct mistrogu_kept *report, size_t report_count)
     MISTROGU_NEVER_NULL;
 
 /*

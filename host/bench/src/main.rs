@@ -8,7 +8,7 @@
 //! them alone. In each case the answer is printed, and it has to be the second
 //! program's: a wrong answer is not worth measuring. `bench growth` and `bench
 //! worst` build, check and ask lists of many shapes. `bench split` parts a list
-//! into two, to merge them again.
+//! into two, to merge them again, and `bench wear` damages a book, to salvage it.
 //!
 //! Another call is a module with one function, and one more line in [`CALLS`].
 
@@ -19,6 +19,7 @@ mod checking;
 mod merging;
 mod mixed;
 mod reading;
+mod salvaging;
 mod shaped;
 mod stack;
 
@@ -44,7 +45,7 @@ pub struct Ready {
 }
 
 /// Every call that can be measured.
-const CALLS: [Call; 12] = [
+const CALLS: [Call; 13] = [
     Call {
         name: "build",
         words: "LISTFILE K",
@@ -91,6 +92,11 @@ const CALLS: [Call; 12] = [
         ready: batching::ready,
     },
     Call {
+        name: "salvage",
+        words: "CARDFILE",
+        ready: salvaging::ready,
+    },
+    Call {
         name: "merge",
         words: "LISTFILE LISTFILE",
         ready: merging::merge,
@@ -135,6 +141,7 @@ fn run(words: &[String]) -> Result<String, String> {
         "growth" => shaped::growth(),
         "worst" => shaped::worst(rest),
         "split" => merging::split(rest),
+        "wear" => salvaging::wear(rest),
         _ => {
             let Ready {
                 mut measured,
@@ -183,5 +190,6 @@ fn usage() -> String {
     lines.push("bench growth".to_string());
     lines.push("bench worst [SEED]".to_string());
     lines.push("bench split LISTFILE ODD EVEN".to_string());
+    lines.push("bench wear BOOKFILE CARDFILE".to_string());
     lines.join("\n")
 }

@@ -3,10 +3,11 @@
 //! Every case makes one call of both with the same bytes and numbers, and
 //! compares the answer and all lent bytes and rows; those of the laws of merging
 //! compare what the proved library gives in one order with what it gives in
-//! another, and those of neighbours its answers with the names that it reads back
-//! and with each other. The seed is printed first; the same seed gives the same
-//! cases. A difference is printed with the whole case, and the exit status is
-//! then 1.
+//! another, those of neighbours its answers with the names that it reads back
+//! and with each other, and those of blocks apart what it salvages of two worn
+//! books that differ in one block. The seed is printed first; the same seed gives
+//! the same cases. A difference is printed with the whole case, and the exit
+//! status is then 1.
 //!
 //! The proved library is called on exactly as much stack as its header says is
 //! enough, and all that is lent to it has a fence before or behind it. Where it
@@ -29,6 +30,7 @@ mod merging;
 mod neighbours;
 mod reading;
 mod records;
+mod salvaging;
 mod shapes;
 mod tally;
 
@@ -50,7 +52,7 @@ pub struct Kind {
 }
 
 /// Every kind of call, as often as the others.
-const KINDS: [Kind; 17] = [
+const KINDS: [Kind; 19] = [
     Kind {
         name: "build",
         run: building::run,
@@ -118,6 +120,14 @@ const KINDS: [Kind; 17] = [
     Kind {
         name: "nested ranges",
         run: neighbours::ranges,
+    },
+    Kind {
+        name: "salvage",
+        run: salvaging::run,
+    },
+    Kind {
+        name: "blocks apart",
+        run: salvaging::apart,
     },
 ];
 

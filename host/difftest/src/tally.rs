@@ -1,11 +1,12 @@
 //! How many cases there were, and what came of them.
 
 use crate::Kind;
-use mistrogu::Refusal;
+use model::refusals::NO_MAP;
 use std::time::Duration;
 
-/// How many codes an answer can have: 0 and the refusals.
-const CODES: usize = 1 + Refusal::ALL.len();
+/// How many codes an answer can have: 0 and the refusals, of which this is the
+/// last.
+const CODES: usize = 1 + NO_MAP;
 
 /// For each kind of call, how often each code was given.
 pub struct Tally {

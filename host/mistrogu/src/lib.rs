@@ -2,9 +2,10 @@
 //!
 //! A **book** keeps a strictly rising list of names in at most 65,535 bytes. The
 //! calls that build a book, check it, read its names back and answer questions
-//! about them, and that merge two lists, are proved: each does what its text says,
-//! for any bytes and any numbers. This crate gives them types. It needs no heap
-//! and no standard library, and has no unsafe line of its own.
+//! about them, that salvage what is left of a damaged one, and that merge two lists,
+//! are proved: each does what its text says, for any bytes and any numbers. This
+//! crate gives them types. It needs no heap and no standard library, and has no
+//! unsafe line of its own.
 //!
 //! | You want to | Call |
 //! |---|---|
@@ -20,6 +21,7 @@
 //! | have a stop as near as any to what was typed, and how much of that to light | [`nearest`] |
 //! | know how much space the stops that begin with some letters take | [`width`] |
 //! | ask many questions of one book | [`batch`] |
+//! | have what is left of a damaged book | [`salvage`] |
 //!
 //! ```
 //! use mistrogu::{build, check, nearest, range, read, Checked, Nearest};
@@ -53,8 +55,9 @@
 //!
 //! Every call that takes a book checks all of it before anything else, and
 //! nearly all of its time goes there. A [`batch`] does so once for all of its
-//! rows. Every call that takes two lists judges both, and each name of [`heads`]
-//! is such a call. [`STACK`] bytes of stack are enough for a call,
+//! rows. A [`salvage`] takes bytes that need not be a book, and goes over their
+//! blocks alone. Every call that takes two lists judges both, and each name of
+//! [`heads`] is such a call. [`STACK`] bytes of stack are enough for a call,
 //! [`BUILD_STACK`] for [`build`].
 //!
 //! # Linking
@@ -72,16 +75,20 @@ mod batch;
 mod list;
 mod merging;
 mod refusal;
+mod salvage;
 
 use core::ops::Range;
 
 pub use batch::{batch, reply, row, Reply};
 #[doc(inline)]
-pub use format::{Kind, LARGEST_BLOCK, LONGEST_BOOK, LONGEST_NAME, MOST_NAMES, MOST_ROWS};
+pub use format::{
+    Kind, LARGEST_BLOCK, LONGEST_BOOK, LONGEST_NAME, MOST_NAMES, MOST_ROWS, MOST_SALVAGED,
+};
 pub use list::List;
 pub use merging::{heads, judge, merge, Head, Heads};
-pub use proved::{Answer, Row};
+pub use proved::{Answer, Kept, Row};
 pub use refusal::{Refusal, Refused, Which};
+pub use salvage::{blocks_of, salvage, Block, Blocks, Names, Salvaged};
 
 /// The bytes of stack that are enough for [`build`], whatever is lent to it.
 pub const BUILD_STACK: usize = 5760;

@@ -3,7 +3,7 @@
 use core::error::Error;
 use core::fmt;
 
-/// Why a call says no. Each has the number that document 01 gives it.
+/// Why a call says no. Each has the number that documents 01 and 02 give it.
 ///
 /// ```
 /// use mistrogu::Refusal;
@@ -35,13 +35,15 @@ pub enum Refusal {
     NoNames = 10,
     /// A row's kind is not 1 to 5, or its start plus length is past the buffer.
     BadRow = 11,
-    /// The batch has over 64 rows, or unequal numbers of rows.
+    /// The batch has over 64 rows, or the rows to write to are too many or too few.
     BadBatch = 12,
+    /// The trailer or the block table makes no sense.
+    NoMap = 13,
 }
 
 impl Refusal {
     /// Every refusal, in the order of their numbers.
-    pub const ALL: [Refusal; 12] = [
+    pub const ALL: [Refusal; 13] = [
         Refusal::QuestionTooLong,
         Refusal::NoBook,
         Refusal::NoSuchPosition,
@@ -54,9 +56,10 @@ impl Refusal {
         Refusal::NoNames,
         Refusal::BadRow,
         Refusal::BadBatch,
+        Refusal::NoMap,
     ];
 
-    /// Its number, 1 to 12.
+    /// Its number, 1 to 13.
     pub const fn number(self) -> usize {
         self as usize
     }
@@ -68,7 +71,7 @@ impl Refusal {
     ///
     /// assert_eq!(Refusal::from_number(10), Some(Refusal::NoNames));
     /// assert_eq!(Refusal::from_number(0), None);
-    /// assert_eq!(Refusal::from_number(13), None);
+    /// assert_eq!(Refusal::from_number(14), None);
     /// ```
     pub fn from_number(number: usize) -> Option<Self> {
         Self::ALL.get(number.checked_sub(1)?).copied()
@@ -90,7 +93,10 @@ impl Refusal {
             Refusal::BadRow => {
                 "a row's kind is not 1 to 5, or its start plus length is past the buffer"
             }
-            Refusal::BadBatch => "the batch has over 64 rows, or unequal numbers of rows",
+            Refusal::BadBatch => {
+                "the batch has over 64 rows, or the rows to write to are too many or too few"
+            }
+            Refusal::NoMap => "the trailer or the block table makes no sense",
         }
     }
 }

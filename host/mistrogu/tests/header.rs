@@ -57,6 +57,7 @@ fn limits() {
         ("MISTROGU_MOST_NAMES", mistrogu::MOST_NAMES),
         ("MISTROGU_LONGEST_BOOK", mistrogu::LONGEST_BOOK),
         ("MISTROGU_MOST_ROWS", mistrogu::MOST_ROWS),
+        ("MISTROGU_MOST_SALVAGED", mistrogu::MOST_SALVAGED),
         ("MISTROGU_LARGEST_BLOCK", mistrogu::LARGEST_BLOCK),
         ("MISTROGU_BUILD_STACK", mistrogu::BUILD_STACK),
         ("MISTROGU_STACK", mistrogu::STACK),
@@ -82,6 +83,7 @@ fn calls() {
         "book_nearest",
         "book_width",
         "book_batch",
+        "book_salvage",
         "list_merge",
         "list_judge",
     ];

@@ -251,13 +251,13 @@ fn a_merge_is_then_refused_with_7_then_4() {
 }
 
 #[test]
-fn refusals_have_the_numbers_1_to_12() {
+fn refusals_have_the_numbers_1_to_13() {
     for (refusal, number) in Refusal::ALL.into_iter().zip(1..) {
         assert_eq!(refusal.number(), number);
         assert_eq!(Refusal::from_number(number), Some(refusal));
         assert_eq!(refusal.to_string(), refusal.sentence());
     }
-    for number in [0, 13, usize::MAX] {
+    for number in [0, 14, usize::MAX] {
         assert_eq!(Refusal::from_number(number), None);
     }
 }

@@ -1,13 +1,13 @@
 //! As much stack as the header says is enough, and no call touches a byte beside
 //! what is lent to it: every call on every hostile book, and on the deepest,
-//! widest and largest books there are; and those of two lists on their lists, whole
-//! and cut. There are fences around all of it.
+//! widest and largest books there are, whole and worn; and those of two lists on
+//! their lists, whole and cut. There are fences around all of it.
 
 use fenced::apart::{last_lines, run_test, word};
 use fenced::{on_stack, Fence, Fenced};
-use mistrogu::{BUILD_STACK, LONGEST_BOOK, LONGEST_NAME, STACK};
+use mistrogu::{blocks_of, BUILD_STACK, LONGEST_BOOK, LONGEST_NAME, MOST_SALVAGED, STACK};
 use model::{book_of, write_list};
-use proved::{Answer, Row};
+use proved::{Answer, Kept, Row};
 use vectors::hostile::{kinds, DEEPER_THAN_ANY};
 use vectors::lists::{self, Names};
 
@@ -103,6 +103,43 @@ fn batch(book: &[u8], questions: &Fenced<u8>, fence: Fence) -> Answer {
     })
 }
 
+/// Salvages what is left of these bytes, into a room that is always long enough, and
+/// where there is something left into one that is just so long, and one byte shorter.
+fn salvage(lent: &Lent, fence: Fence) -> Answer {
+    let data = Fenced::of(&lent.bytes, fence);
+    let blocks = blocks_of(&data).unwrap_or(0);
+    let salvage = |space: usize| {
+        say("salvage", &lent.about);
+        let mut room = Fenced::of(&vec![0; space], fence);
+        let mut report = Fenced::of(&vec![Kept::default(); blocks], fence);
+        on_stack(STACK, || {
+            proved::book_salvage(&data, &mut room, &mut report)
+        })
+    };
+    let salvaged = salvage(MOST_SALVAGED);
+    if salvaged.first > 0 {
+        assert_eq!(salvage(salvaged.first), salvaged);
+        assert_eq!(salvage(salvaged.first - 1).code, 4);
+    }
+    salvaged
+}
+
+/// A book of which every hundredth byte of the entries is another.
+fn worn(lent: &Lent) -> Lent {
+    let mut bytes = lent.bytes.clone();
+    let told = bytes.len() - 12;
+    let entries = usize::from(u16::from_le_bytes([bytes[told], bytes[told + 1]]));
+    for byte in bytes[..entries].iter_mut().step_by(100) {
+        *byte = byte.wrapping_add(1);
+    }
+    let about = format!("{}, worn", lent.about);
+    Lent {
+        about,
+        bytes,
+        code: 2,
+    }
+}
+
 /// Builds a book of these bytes, be they a list or not.
 fn build(lent: &Lent, fence: Fence) -> Answer {
     say("build", &lent.about);
@@ -115,6 +152,7 @@ fn build(lent: &Lent, fence: Fence) -> Answer {
 fn call_with_all(fence: Fence) {
     for lent in hostile_books() {
         call_with_book(&lent, fence);
+        assert_eq!(salvage(&lent, fence).code, 0, "only nodes are hostile");
         assert_ne!(build(&lent, fence).code, 0);
     }
     for (about, names) in extreme_lists() {
@@ -123,7 +161,13 @@ fn call_with_all(fence: Fence) {
             bytes,
             code: 0,
         };
-        call_with_book(&lent(book_of(16, &names)), fence);
+        let book = lent(book_of(16, &names));
+        call_with_book(&book, fence);
+        call_with_book(&worn(&book), fence);
+        for card in [&book, &worn(&book)] {
+            assert_eq!(salvage(card, fence).code, 0);
+        }
+        assert_eq!(salvage(&lent(write_list(&names)), fence).code, 13);
         assert_eq!(build(&lent(write_list(&names)), fence).code, 0);
     }
 }

@@ -1,5 +1,5 @@
 //! The public calls that have to do with a book; those of two lists stand in
-//! `merging`.
+//! `merging`, and that of a worn card in `salvage`.
 //!
 //! Renders what document 01 says below the table of refusals: in which order
 //! each call looks for a refusal, what stands beside the code, and what is
@@ -51,7 +51,7 @@ pub(crate) fn accepted(first: usize, second: usize) -> Answer {
 }
 
 /// A refusal; the numbers beside it are 0.
-fn refused(code: usize) -> Answer {
+pub(crate) fn refused(code: usize) -> Answer {
     refused_record(code, 0)
 }
 

@@ -1,11 +1,11 @@
 //! The second program of Mistrogu.
 //!
 //! Everything that document 01 asks for, with what document 02's change requests
-//! 1 (width), 2 (merging) and 3 (nearest's number) add to it or change of it, done
-//! over a plain sorted list of byte strings. Nothing here is fast and nothing is
-//! meant to be. A reader with the documents in the other hand should be able to
-//! believe each function at sight, because test vectors for the proved library
-//! come from this crate. It shares no line with that library.
+//! 1 (width), 2 (merging), 3 (nearest's number) and 5 (worn cards) add to it or
+//! change of it, done over a plain sorted list of byte strings. Nothing here is
+//! fast and nothing is meant to be. A reader with the documents in the other hand
+//! should be able to believe each function at sight, because test vectors for the
+//! proved library come from this crate. It shares no line with that library.
 //!
 //! Where to look:
 //!
@@ -19,6 +19,7 @@
 //! | [`refusals`] | the numbers given back when a call says no |
 //! | [`calls`] | the public calls, each with its refusals in their order |
 //! | [`merging`] | the calls of two lists: merge, judge and step (document 02) |
+//! | [`salvage`] | the names of those blocks of a worn card that are sound (document 02) |
 //! | [`programs`] | what the building and the listing program write |
 //!
 //! The running example is the list Mar, Marina, Market Square.
@@ -34,6 +35,7 @@ pub mod open;
 pub mod programs;
 pub mod questions;
 pub mod refusals;
+pub mod salvage;
 pub mod tree;
 
 pub use calls::{
@@ -45,3 +47,4 @@ pub use merging::{list_head, list_judge, list_merge, list_step, Head};
 pub use names::{read_list, write_list};
 pub use open::open;
 pub use programs::{listing, make_book};
+pub use salvage::{book_salvage, Kept};

@@ -1,7 +1,8 @@
-//! The twelve refusals, by number.
+//! The thirteen refusals, by number.
 //!
-//! Renders the table of document 01, "Numbers given back when a call says no".
-//! The order in which a call looks for them stands with the call, in `calls`.
+//! Renders the table of document 01, "Numbers given back when a call says no",
+//! with the number that document 02, change request 5, adds. The order in which a
+//! call looks for them stands with the call.
 
 /// The question has more than 200 bytes.
 pub const QUESTION_TOO_LONG: usize = 1;
@@ -25,5 +26,8 @@ pub const BOOK_TOO_LONG: usize = 9;
 pub const NEAREST_OF_NONE: usize = 10;
 /// A batch row has an unknown kind, or its span leaves the question buffer.
 pub const BAD_ROW: usize = 11;
-/// A batch has more than 64 rows, or not as many answer rows as questions.
+/// A batch has more than 64 rows, or not as many answer rows as questions; or a
+/// worn card has not as many blocks as there are report rows.
 pub const BAD_ROW_COUNT: usize = 12;
+/// The trailer and block table of a worn card make no sense.
+pub const NO_MAP: usize = 13;

@@ -38,6 +38,16 @@ pub struct Row {
     pub length: usize,
 }
 
+/// A report row of a salvage, as the archive lays it out.
+#[repr(C)]
+#[derive(Clone, Copy, Debug, PartialEq, Eq, Default)]
+pub struct Kept {
+    /// 1 where the block is kept, 0 where it is dropped.
+    pub kept: usize,
+    /// How many names of it are written.
+    pub names: usize,
+}
+
 /// A head of two lists: a name without its length byte, as a part of the list
 /// that it stands in, as the archive lays it out.
 #[repr(C)]
@@ -147,6 +157,26 @@ pub fn book_batch(book: &[u8], questions: &[u8], rows: &[Row], answers: &mut [An
             rows.len(),
             answers.as_mut_ptr(),
             answers.len(),
+        )
+    }
+}
+
+/// Salvages the names of a damaged book's sound blocks into the room, as list
+/// records: (0, how many bytes are written, 0), and each report row says what
+/// became of its block; or refusal 13, 12 or 4, and then the room and the rows are
+/// as they were.
+pub fn book_salvage(data: &[u8], room: &mut [u8], report: &mut [Kept]) -> Answer {
+    // SAFETY: each pointer comes with the length of its own slice, and the struct
+    // is laid out as the archive's. The room and the rows are borrowed for this
+    // call alone, so they overlap neither the data nor each other.
+    unsafe {
+        raw::book_salvage(
+            data.as_ptr(),
+            data.len(),
+            room.as_mut_ptr(),
+            room.len(),
+            report.as_mut_ptr(),
+            report.len(),
         )
     }
 }

@@ -11,7 +11,7 @@
 //! Every pointer must be good for as many items as the length after it says, and
 //! what is written to may overlap nothing else.
 
-use crate::{Answer, Head, Row};
+use crate::{Answer, Head, Kept, Row};
 
 extern "C" {
     /// Builds a book from list records.
@@ -77,6 +77,15 @@ extern "C" {
         rows_len: usize,
         answers: *mut Answer,
         answers_len: usize,
+    ) -> Answer;
+    /// Salvages the names of a damaged book.
+    pub fn book_salvage(
+        data: *const u8,
+        data_len: usize,
+        room: *mut u8,
+        room_len: usize,
+        report: *mut Kept,
+        report_len: usize,
     ) -> Answer;
     /// Merges two lists.
     pub fn list_merge(

@@ -4,6 +4,7 @@ use crate::asking::Sound;
 use crate::building::{judge, Noted};
 use crate::checking::check;
 use crate::merging::{self, Pair};
+use crate::salvaging::{self, Judged};
 use crate::{LARGEST_BLOCK, LONGEST_BOOK, LONGEST_NAME, MOST_NAMES};
 
 /// What every call gives back, and what an answer row of a batch holds.
@@ -28,6 +29,16 @@ pub struct Row {
     pub start: usize,
     /// How many bytes the question has.
     pub length: usize,
+}
+
+/// A report row of a salvage.
+#[derive(Clone, Copy, Debug, PartialEq, Eq, Default)]
+#[repr(C)]
+pub struct Kept {
+    /// 1 where the block is kept, 0 where it is dropped.
+    pub kept: usize,
+    /// How many names of it are written.
+    pub names: usize,
 }
 
 /// A head of two lists: in which it stands, 1 or 2, where its first byte is
@@ -196,6 +207,25 @@ pub fn book_batch(book: &[u8], questions: &[u8], rows: &[Row], answers: &mut [An
         };
     }
     accepted(rows.len(), 0)
+}
+
+/// Salvages a damaged book: how many bytes of list records are written. Refusals:
+/// 13, 12, 4.
+pub fn book_salvage(data: &[u8], room: &mut [u8], report: &mut [Kept]) -> Answer {
+    let Some(parts) = salvaging::map(data) else {
+        return refused(13, 0);
+    };
+    if report.len() != parts.blocks() {
+        return refused(12, 0);
+    }
+    // SAFETY: the map gave these parts.
+    let judged = unsafe { Judged::new(data, parts) };
+    if room.len() < judged.length() {
+        return refused(4, 0);
+    }
+    // SAFETY: the room is long enough, and there is a row for each block.
+    unsafe { judged.write(room, report) };
+    accepted(judged.length(), 0)
 }
 
 /// Both lists, if they are lists. Refusals: 5 and 6 of the first, then of the

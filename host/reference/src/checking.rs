@@ -37,8 +37,14 @@ pub fn check(book: &[u8]) -> Option<Parts> {
 }
 
 /// What the trailer tells, if its numbers agree with each other and with the
-/// length.
+/// length. Without names there is nothing but the trailer.
 fn trailer(book: &[u8]) -> Option<Parts> {
+    let parts = numbers(book)?;
+    (parts.names > 0 || book.len() == TRAILER).then_some(parts)
+}
+
+/// The same of bytes that may have more than the trailer without names.
+pub(crate) fn numbers(book: &[u8]) -> Option<Parts> {
     if !(TRAILER..=LONGEST_BOOK).contains(&book.len()) {
         return None;
     }
@@ -61,16 +67,14 @@ fn trailer(book: &[u8]) -> Option<Parts> {
     let blocks = parts.names.div_ceil(parts.block);
     let agree =
         parts.blocks_at + 2 * blocks == parts.nodes_at && parts.nodes_at + NODE * parts.nodes == at;
-    // Without names there is nothing but the trailer.
-    let some = parts.names > 0 || at == 0;
-    (agree && some).then_some(parts)
+    agree.then_some(parts)
 }
 
 /// An entry: the shared count as stored, and the rest of the name.
 #[derive(Clone, Copy)]
-struct Entry<'book> {
-    stored: usize,
-    rest: &'book [u8],
+pub(crate) struct Entry<'book> {
+    pub stored: usize,
+    pub rest: &'book [u8],
 }
 
 impl<'book> Entry<'book> {
@@ -81,7 +85,7 @@ impl<'book> Entry<'book> {
     ///
     /// The limit lies inside.
     #[inline(always)]
-    unsafe fn at(book: &'book [u8], at: usize, limit: usize) -> Option<Entry<'book>> {
+    pub unsafe fn at(book: &'book [u8], at: usize, limit: usize) -> Option<Entry<'book>> {
         if at + 2 > limit {
             return None;
         }
@@ -99,7 +103,7 @@ impl<'book> Entry<'book> {
     ///
     /// It stands there.
     #[inline(always)]
-    unsafe fn standing(book: &'book [u8], at: usize) -> Entry<'book> {
+    pub unsafe fn standing(book: &'book [u8], at: usize) -> Entry<'book> {
         Entry {
             stored: byte(book, at),
             rest: part(book, at + 2, byte(book, at + 1)),
@@ -108,7 +112,7 @@ impl<'book> Entry<'book> {
 
     /// The name's length.
     #[inline(always)]
-    fn length(self) -> usize {
+    pub fn length(self) -> usize {
         self.stored + self.rest.len()
     }
 
@@ -122,7 +126,7 @@ impl<'book> Entry<'book> {
     /// What another name shares with the name before, if that is stored and the
     /// name is above: both say that the next byte is above.
     #[inline(always)]
-    unsafe fn share_of_other(self, before: &[u8]) -> Option<usize> {
+    pub unsafe fn share_of_other(self, before: &[u8]) -> Option<usize> {
         let shared = self.stored;
         let rises = shared == before.len()
             || shared < before.len() && byte(before, shared) < byte(self.rest, 0);

@@ -2,7 +2,7 @@
 //! that measures that one measures this one as well. reference.sh makes the
 //! archive.
 
-use crate::{Answer, Head, Row};
+use crate::{Answer, Head, Kept, Row};
 use core::slice::{from_raw_parts, from_raw_parts_mut};
 
 #[no_mangle]
@@ -81,6 +81,22 @@ unsafe extern "C" fn book_batch(
         from_raw_parts(questions, space),
         from_raw_parts(rows, count),
         from_raw_parts_mut(answers, places),
+    )
+}
+
+#[no_mangle]
+unsafe extern "C" fn book_salvage(
+    data: *const u8,
+    length: usize,
+    room: *mut u8,
+    space: usize,
+    report: *mut Kept,
+    rows: usize,
+) -> Answer {
+    crate::book_salvage(
+        from_raw_parts(data, length),
+        from_raw_parts_mut(room, space),
+        from_raw_parts_mut(report, rows),
     )
 }
 

@@ -16,6 +16,7 @@
 //! | [`building`] | a list judged, then the four parts of its book |
 //! | [`checking`] | whether bytes are a book |
 //! | [`asking`] | a name read back and the five questions, of a book that passed |
+//! | [`salvaging`] | the blocks of a damaged book, judged alone and written |
 //! | [`merging`] | two lists judged, then gone through side by side |
 //! | [`bytes`] | bytes and numbers at an offset, without a test |
 
@@ -31,10 +32,12 @@ pub mod checking;
 mod exported;
 pub mod merging;
 pub mod records;
+pub mod salvaging;
 
 pub use calls::{
     book_batch, book_build, book_check, book_exact, book_nearest, book_place, book_range,
-    book_read, book_width, list_head, list_judge, list_merge, Answer, Head, Row,
+    book_read, book_salvage, book_width, list_head, list_judge, list_merge, Answer, Head, Kept,
+    Row,
 };
 
 /// A name has 1 to 200 bytes, a question up to 200.

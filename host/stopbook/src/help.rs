@@ -2,7 +2,7 @@
 
 /// Where no command is given.
 pub const NO_COMMAND: &str =
-    "give a command: build, merge, list, ask, check, tree; see: stopbook --help";
+    "give a command: build, merge, list, ask, check, salvage, tree; see: stopbook --help";
 
 /// The help of the tool.
 pub const TOOL: &str = "\
@@ -13,6 +13,7 @@ stopbook: books of stop names, built, checked, listed and asked by the proved li
   stopbook list BOOK [--from N] [--count N]        print its names with their numbers
   stopbook ask BOOK [KIND QUESTION]                ask it: exact, place, range, nearest, width
   stopbook check BOOK                              say whether it is a book
+  stopbook salvage CARD [-o TEXT]                  write the names left of a damaged book
   stopbook tree BOOK [--svg FILE | --dot FILE]     draw its tree
 
   stopbook COMMAND --help                          more on a command, with an example
@@ -23,7 +24,7 @@ word is an option. Names print as text; a backslash, control characters and byte
 are no UTF-8 print as \\ and two hex digits for each byte.
 
 Exit status: 0 done; 1 refused, or not found where that is the question; 2 wrong usage,
-or a file that cannot be read or written.
+or a file that cannot be read or written; 3 salvaged, and some names are lost.
 ";
 
 /// The help of `build`.
@@ -117,6 +118,28 @@ bytes it has. The exit status is 1 where they are none.
 Example:
 
   stopbook check stops.book
+";
+
+/// The help of `salvage`.
+pub const SALVAGE: &str = "\
+stopbook salvage CARD [-o TEXT]
+
+Writes the names that are left of a damaged book, such as one from a worn card, a name on
+each line, as `stopbook list --plain` prints them; `stopbook build` makes a book from them.
+Each block is judged alone, so damage in one block costs no name of another, and the nodes
+do not count. Standard error has the number of each block that is lost, from 0, how many
+names it had, and between which names they stood; and where a block is not above the one
+before it: then one of the two has other names than it had. Where the trailer or the block
+table makes no sense, nothing is written.
+
+  -o TEXT, --output TEXT   where the names go; without it standard output
+
+The exit status is 3 where blocks are lost, and 1 where nothing can be salvaged.
+
+Examples:
+
+  stopbook salvage worn.book -o left.txt
+  stopbook salvage worn.book | stopbook build - -o mended.book
 ";
 
 /// The help of `tree`.

@@ -2,16 +2,21 @@
 //!
 //! Here stands what no call of the library gives: the numbers of the trailer,
 //! the stored counts of the entries, and the node table. It is meant for bytes
-//! that the library has accepted. Given others, a function gives `None` or
+//! that the library has accepted, and the trailer for those that it has salvaged,
+//! too. Given others, a function gives `None` or
 //! numbers without meaning, and never fails.
 
 use crate::text::grouped;
 use format::{MARK, NODE, TRAILER};
 use mistrogu::LONGEST_BOOK;
 
-/// The numbers of a trailer but for n and k, which the check gives.
+/// The numbers of a trailer.
 #[derive(Clone, Copy, Debug, PartialEq, Eq)]
 pub struct Trailer {
+    /// How many names there are.
+    pub names: usize,
+    /// How many of them a block has.
+    pub block: usize,
     /// Where the block table starts.
     pub blocks_at: usize,
     /// Where the node table starts.
@@ -49,6 +54,8 @@ fn number(bytes: &[u8], at: usize) -> Option<usize> {
 pub fn trailer(bytes: &[u8]) -> Option<Trailer> {
     let at = bytes.len().checked_sub(TRAILER)?;
     Some(Trailer {
+        names: number(bytes, at)?,
+        block: number(bytes, at + 2)?,
         blocks_at: number(bytes, at + 4)?,
         nodes_at: number(bytes, at + 6)?,
         nodes: number(bytes, at + 8)?,
@@ -108,7 +115,9 @@ pub fn why_no_book(bytes: &[u8]) -> String {
     } else if told != length {
         format!("its trailer tells of {told} bytes, and it has {length}; copy it again, whole")
     } else {
-        "its parts do not fit together, so it was damaged; build it again".to_string()
+        "its parts do not fit together, so it was damaged; build it again, or see what \
+         stopbook salvage finds"
+            .to_string()
     }
 }
 
@@ -128,6 +137,8 @@ pub mod tests {
     #[test]
     fn the_trailer_of_document_01_is_read() {
         let expected = Trailer {
+            names: 3,
+            block: 2,
             blocks_at: 25,
             nodes_at: 29,
             nodes: 4,

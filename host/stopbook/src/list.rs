@@ -2,8 +2,9 @@
 
 use crate::args::{Shape, Words};
 use crate::book::Book;
+use crate::lines::Lines;
 use crate::outcome::{Failure, Outcome, Status, Streams};
-use crate::text::{counted, is_line, shown};
+use crate::text::{counted, shown};
 use crate::{help, Command};
 use std::ops::Range;
 
@@ -54,25 +55,12 @@ fn span(book: &Book, from: Option<usize>, count: Option<usize>) -> Result<Range<
 
 /// Only the names. A name that no line of text can hold is escaped, and told.
 fn list_plain(book: &mut Book, positions: Range<usize>, streams: &mut Streams) -> Outcome {
-    let mut escaped = 0;
+    let mut lines = Lines::default();
     for position in positions {
-        let name = book.name(position)?;
-        if is_line(name) {
-            streams.out.write_all(name)?;
-        } else {
-            escaped += 1;
-            streams.out.write_all(shown(name).as_bytes())?;
-        }
-        streams.out.write_all(b"\n")?;
+        lines.push(book.name(position)?);
     }
-    if escaped > 0 {
-        let count = counted(escaped, "name");
-        let source = book.source();
-        streams.note(&format!(
-            "{source}: {count} with bytes that are no line of text, shown as \\ and hex digits; \
-             a book built from this list would differ"
-        ));
-    }
+    streams.out.write_all(lines.text())?;
+    lines.tell_escaped(book.source(), streams);
     Ok(Status::Done)
 }
 

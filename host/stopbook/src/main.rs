@@ -2,8 +2,9 @@
 //!
 //! Every answer comes from the proved library, by way of the crate `mistrogu`.
 //! What this program adds is text: it reads lines, writes sentences and draws
-//! trees. Only what no call gives (the stored counts, the node table) is read
-//! from the bytes of a book, after the library has accepted them.
+//! trees. Only what no call gives (the stored counts, the node table, how many
+//! names a lost block had) is read from the bytes of a book, after the library has
+//! accepted or salvaged them.
 //!
 //! | Module | What it has |
 //! |---|---|
@@ -13,13 +14,15 @@
 //! | [`files`] | files, standard input and standard output |
 //! | [`text`] | bytes as text, numbers as text |
 //! | [`light`] | the lit part of a name |
+//! | [`lines`] | names as lines of a text |
+//! | [`loss`] | what is lost of a damaged book, in sentences |
 //! | [`layout`] | document 01's layout, read from an accepted book |
 //! | [`book`] | a book that was read and accepted |
 //! | [`names`] | a file with a name on each line |
 //! | [`reading`] | such a file read, and what is wrong with its lines told |
 //! | [`size`] | how long the book of some names will be |
 //! | [`progress`] | how far a long reading is |
-//! | [`build`], [`merge`], [`list`], [`ask`], [`check`], [`tree`] | the commands |
+//! | [`build`], [`merge`], [`list`], [`ask`], [`check`], [`salvage`], [`tree`] | the commands |
 
 #![forbid(unsafe_code)]
 #![warn(missing_docs)]
@@ -33,12 +36,15 @@ mod files;
 mod help;
 mod layout;
 mod light;
+mod lines;
 mod list;
+mod loss;
 mod merge;
 mod names;
 mod outcome;
 mod progress;
 mod reading;
+mod salvage;
 mod size;
 mod text;
 mod tree;
@@ -64,12 +70,13 @@ pub struct Command {
 }
 
 /// Every command, in the order of the help.
-const COMMANDS: [Command; 6] = [
+const COMMANDS: [Command; 7] = [
     build::COMMAND,
     merge::COMMAND,
     list::COMMAND,
     ask::COMMAND,
     check::COMMAND,
+    salvage::COMMAND,
     tree::COMMAND,
 ];
 

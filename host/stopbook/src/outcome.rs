@@ -10,6 +10,8 @@ pub enum Status {
     Done,
     /// It was a question, and the answer is no.
     No,
+    /// It is done, as far as that can be: some names are lost.
+    Lost,
 }
 
 /// Why a command could not be carried out.
@@ -72,6 +74,7 @@ pub fn report(outcome: Outcome, streams: &mut Streams) -> u8 {
     let (text, code) = match outcome {
         Ok(Status::Done) | Err(Failure::Closed) => return 0,
         Ok(Status::No) => return 1,
+        Ok(Status::Lost) => return 3,
         Err(Failure::Refused(text)) => (text, 1),
         Err(Failure::Usage(text) | Failure::File(text)) => (text, 2),
     };
@@ -100,6 +103,7 @@ mod tests {
     fn each_end_has_its_exit_status() {
         assert_eq!(reported(Ok(Status::Done)), (0, String::new()));
         assert_eq!(reported(Ok(Status::No)), (1, String::new()));
+        assert_eq!(reported(Ok(Status::Lost)), (3, String::new()));
         assert_eq!(reported(Err(Failure::Closed)), (0, String::new()));
         let refused = reported(Err(Failure::refused("a")));
         assert_eq!(refused, (1, "stopbook: a\n".to_string()));

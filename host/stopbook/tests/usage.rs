@@ -6,7 +6,7 @@ use common::{Folder, EXAMPLE};
 use std::io::Read;
 use std::process::{Command, Stdio};
 
-const COMMANDS: [&str; 6] = ["build", "merge", "list", "ask", "check", "tree"];
+const COMMANDS: [&str; 7] = ["build", "merge", "list", "ask", "check", "salvage", "tree"];
 
 #[test]
 fn the_help_names_every_command_and_every_exit_status() {
@@ -17,7 +17,9 @@ fn the_help_names_every_command_and_every_exit_status() {
         for command in COMMANDS {
             assert!(ran.out().contains(&format!("stopbook {command} ")));
         }
-        assert!(ran.out().contains("Exit status: 0"));
+        for status in ["Exit status: 0 ", "; 1 ", "; 2 ", "; 3 "] {
+            assert!(ran.out().contains(status), "{status}");
+        }
     }
 }
 
@@ -43,7 +45,7 @@ fn the_version_is_that_of_the_crate() {
 #[test]
 fn wrong_usage_has_exit_status_2_and_says_where_to_look() {
     let folder = Folder::with("mar.book", EXAMPLE);
-    let cases: [(&[&str], &str); 13] = [
+    let cases: [(&[&str], &str); 16] = [
         (&[], "give a command"),
         (&["bild", "x"], "bild is no command"),
         (&["help", "bild"], "bild is no command"),
@@ -55,6 +57,12 @@ fn wrong_usage_has_exit_status_2_and_says_where_to_look() {
         (&["merge", "-", "-"], "standard input can be read once"),
         (&["list"], "give one book"),
         (&["check", "a", "b"], "give one book"),
+        (&["salvage"], "give one damaged book"),
+        (&["salvage", "a", "b"], "give one damaged book"),
+        (
+            &["salvage", "mar.book", "-o", "a", "--output", "b"],
+            "give one",
+        ),
         (
             &["list", "mar.book", "--form", "1"],
             "there is no option --form",
@@ -66,7 +74,7 @@ fn wrong_usage_has_exit_status_2_and_says_where_to_look() {
             .run(words)
             .assert_fails(2, &["stopbook: ", text, "--help"]);
     }
-    for command in ["list", "check", "tree", "ask"] {
+    for command in ["list", "check", "salvage", "tree", "ask"] {
         folder
             .run(&[command, "gone"])
             .assert_fails(2, &["gone cannot be read"]);

@@ -395,7 +395,7 @@ fn spoil_node(random: &mut Random, nodes: &mut Vec<Node>) {
 }
 
 /// Spoils one entry, or the order or number of entries.
-fn spoil_entry(random: &mut Random, pieces: &mut Pieces) {
+pub(crate) fn spoil_entry(random: &mut Random, pieces: &mut Pieces) {
     let entries = &mut pieces.entries;
     if entries.is_empty() {
         return;
@@ -415,7 +415,7 @@ fn spoil_entry(random: &mut Random, pieces: &mut Pieces) {
 }
 
 /// Spoils one number of the trailer, or gives it the old mark.
-fn spoil_number(random: &mut Random, trailer: &mut Trailer) {
+pub(crate) fn spoil_number(random: &mut Random, trailer: &mut Trailer) {
     let number = match random.below(7) {
         0 => &mut trailer.names,
         1 => &mut trailer.block,
@@ -429,7 +429,7 @@ fn spoil_number(random: &mut Random, trailer: &mut Trailer) {
 }
 
 /// A number near this one, or any of two bytes.
-fn near(random: &mut Random, number: usize) -> usize {
+pub(crate) fn near(random: &mut Random, number: usize) -> usize {
     match random.below(6) {
         0 => random.below(65_536),
         1 => random.below(4),

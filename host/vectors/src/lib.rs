@@ -4,7 +4,8 @@
 //! that a program must print when it reads the file, makes the calls and tells
 //! what came of them: one line for each case. The proved library is run on the
 //! sets by a program of its own, without a heap, so the files are flat runs of
-//! bytes and the text is plain numbers.
+//! bytes and the text is plain numbers; on some it is run by a test of the linked
+//! archive.
 //!
 //! Where to look:
 //!
@@ -17,12 +18,14 @@
 //! | [`asking`] | the sets of the five questions, likewise |
 //! | [`batching`] | the set of `book_batch`, likewise |
 //! | [`merging`] | the set of the calls of two lists, likewise |
+//! | [`salvaging`] | the set of `book_salvage`, likewise |
 //! | [`checksum`] | two small numbers that stand for many |
 //! | [`lists`] | lists of names by their shape |
 //! | [`questions`] | questions by how they stand to a list's names |
 //! | [`batches`] | a buffer of questions, and rows that point into it |
 //! | [`pieces`] | a book in pieces, to be put together wrongly |
 //! | [`damage`] | ways to spoil a list or a book |
+//! | [`wear`] | ways in which a card with a book on it wears |
 //! | [`hostile`] | books that are none, by their node tables |
 //! | [`growth`] | lists of which one parameter doubles |
 //! | [`worst`] | lists and questions that cost most |
@@ -30,7 +33,7 @@
 //! | [`random`] | numbers that look random |
 //!
 //! Another call is one more module with a type that is a
-//! [`Call`](sets::Call), and one more line in [`SETS`].
+//! [`Call`](sets::Call), and one more line in [`SETS`] or [`TESTED_SETS`].
 
 #![forbid(unsafe_code)]
 #![warn(missing_docs)]
@@ -51,12 +54,14 @@ pub mod questions;
 pub mod random;
 pub mod reading;
 pub mod rooms;
+pub mod salvaging;
 pub mod sets;
+pub mod wear;
 pub mod worst;
 
 use sets::Files;
 
-/// Every set, in the order in which a program runs them.
+/// Every set that a program runs, in its order.
 pub const SETS: [&dyn Files; 7] = [
     &building::SET,
     &checking::SET,
@@ -66,6 +71,9 @@ pub const SETS: [&dyn Files; 7] = [
     &batching::SET,
     &merging::SET,
 ];
+
+/// Every set that no such program runs, but a test of the linked archive.
+pub const TESTED_SETS: [&dyn Files; 1] = [&salvaging::SET];
 
 /// What a program that runs every set must print: the sets' texts, one after
 /// the other.

@@ -162,6 +162,15 @@ pub fn long(count: usize) -> Names {
         .collect()
 }
 
+/// So many names of 200 bytes, up to 64,000, that share all but their last two:
+/// few bytes of entries make most bytes of records.
+pub fn alike(count: usize) -> Names {
+    let pairs = pairs(count).into_iter();
+    pairs
+        .map(|pair| [vec![b'n'; LONGEST_NAME - 2], pair].concat())
+        .collect()
+}
+
 /// Bytes to put behind a name. They differ from name to name, so that a byte
 /// in a wrong place shows.
 fn tail(number: usize, length: usize) -> Vec<u8> {

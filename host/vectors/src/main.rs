@@ -8,7 +8,7 @@ use vectors::hostile;
 use vectors::lists::{self, Names};
 use vectors::sets::Files;
 use vectors::worst;
-use vectors::SETS;
+use vectors::{SETS, TESTED_SETS};
 
 const USAGE: &str = "\
 vectors SET FOLDER       write FOLDER/SET.cases and FOLDER/SET.expected
@@ -45,13 +45,18 @@ fn main() -> ExitCode {
 
 /// What can be asked of this program.
 fn usage() -> String {
-    let names: Vec<&str> = SETS.iter().map(|set| set.name()).collect();
+    let names: Vec<&str> = all_sets().map(|set| set.name()).collect();
     format!("{USAGE} {}", names.join(", "))
+}
+
+/// Every set there is.
+fn all_sets() -> impl Iterator<Item = &'static dyn Files> {
+    SETS.into_iter().chain(TESTED_SETS)
 }
 
 /// Does something with the set of this name.
 fn with_set(name: &str, act: impl Fn(&dyn Files) -> io::Result<()>) -> Result<(), String> {
-    match SETS.into_iter().find(|set| set.name() == name) {
+    match all_sets().find(|set| set.name() == name) {
         None => Err(usage()),
         Some(set) => act(set).map_err(|error| format!("{name}: {error}")),
     }

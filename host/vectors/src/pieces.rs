@@ -7,6 +7,7 @@
 use crate::lists::Names;
 use format::{MARK, NODE, TRAILER};
 use model::layout::{block_table, node_table, stored_count};
+use std::ops::Range;
 
 /// The numbers of a node.
 pub type Node = [usize; NODE / 2];
@@ -123,6 +124,18 @@ impl Pieces {
         self.trailer.node_table = self.trailer.block_table + 2 * self.starts.len();
         self.trailer.nodes = self.nodes.len();
         self.trailer.length = self.trailer.node_table + NODE * self.nodes.len() + TRAILER;
+    }
+
+    /// Where the entries of each block stand, as block table and trailer say. The
+    /// starts have to rise.
+    pub fn spans(&self) -> Vec<Range<usize>> {
+        let ends = self
+            .starts
+            .iter()
+            .skip(1)
+            .chain([&self.trailer.block_table]);
+        let spans = self.starts.iter().zip(ends);
+        spans.map(|(&start, &end)| start..end).collect()
     }
 
     /// The bytes, as the pieces say.

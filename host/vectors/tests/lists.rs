@@ -9,7 +9,7 @@ use vectors::random::Random;
 
 #[test]
 fn the_fixed_lists_are_sound() {
-    let shapes: [(&str, Names); 12] = [
+    let shapes: [(&str, Names); 13] = [
         ("example", lists::example()),
         ("stops", lists::stops()),
         ("longest first", lists::longest_of_three(0)),
@@ -22,6 +22,7 @@ fn the_fixed_lists_are_sound() {
         ("mirror", lists::mirror(b'a', b'b', 200)),
         ("binary", lists::binary(2000)),
         ("long", lists::long(2000)),
+        ("alike", lists::alike(2000)),
     ];
     for (shape, names) in shapes.into_iter().chain(lists::lettered()) {
         assert!(is_sound_list(&names), "{shape}");

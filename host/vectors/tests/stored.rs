@@ -1,13 +1,14 @@
 //! The stored vectors are what the second program writes today.
 //!
 //! They stand in the program crate that runs the proved library on them: each
-//! set's cases in its data folder, all expected lines in its file `stdout`.
+//! set's cases in its data folder, all expected lines in its file `stdout`. Those
+//! that a test of the linked archive runs stand beside that test.
 
 use model::{book_of, listing, make_book, write_list};
 use std::fs;
 use std::path::{Path, PathBuf};
 use vectors::sets::LONGEST_FILE;
-use vectors::{expected_of_all, lists, SETS};
+use vectors::{expected_of_all, lists, SETS, TESTED_SETS};
 
 /// The folder of a program.
 fn program_folder(name: &str) -> PathBuf {
@@ -39,8 +40,18 @@ fn the_stored_vectors_are_what_the_second_program_writes_today() {
 }
 
 #[test]
+fn the_vectors_beside_the_linked_archive_are_what_the_second_program_writes_today() {
+    let folder = Path::new(env!("CARGO_MANIFEST_DIR")).join("../proved/tests/data");
+    for set in TESTED_SETS {
+        let file = |ending: &str| folder.join(format!("{}.{ending}", set.name()));
+        assert_stored(&file("cases"), &set.case_file());
+        assert_stored(&file("expected"), set.expected().as_bytes());
+    }
+}
+
+#[test]
 fn every_file_is_small_enough() {
-    for set in SETS {
+    for set in SETS.into_iter().chain(TESTED_SETS) {
         let length = set.case_file().len();
         assert!(length < LONGEST_FILE, "{}: {length}", set.name());
     }

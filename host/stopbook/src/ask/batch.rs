@@ -63,11 +63,11 @@ fn ask_reader(
     Ok(worse(status, ask_waiting(book, &waiting, limit, streams)?))
 }
 
-/// `No` where one of the two is.
+/// The first of the two that is not `Done`.
 fn worse(one: Status, other: Status) -> Status {
     match one {
         Status::Done => other,
-        Status::No => Status::No,
+        no => no,
     }
 }
 
