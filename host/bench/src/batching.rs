@@ -82,7 +82,7 @@ fn prepare(words: &[String]) -> Result<Prepared, String> {
         return Err("a batch needs the name of a book file".to_string());
     };
     let book = read_file(file)?;
-    let names = open(&book).map_or_else(Names::new, |(_, names)| names);
+    let names = open(&book).map_or_else(Names::new, |(_, _, names)| names);
     let batch = mixed_batch(&names);
     let rows = batch.rows();
     let mut expected_rows = vec![Answer::default(); rows.len()];

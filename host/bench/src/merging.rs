@@ -3,7 +3,7 @@
 
 use crate::{read_file, read_number, Ready};
 use model::names::read_names;
-use model::{list_head, list_judge, list_merge, write_list};
+use model::{list_head, list_judge, list_merge, write_list, Rule};
 use std::fs;
 use vectors::lists::Names;
 
@@ -70,7 +70,7 @@ pub fn split(words: &[String]) -> Result<String, String> {
         return Err("split needs the names of a list file and of two new ones".to_string());
     };
     let list = read_file(file)?;
-    let names = read_names(&list, usize::MAX);
+    let names = read_names(Rule::Plain, &list, usize::MAX);
     let names =
         names.map_err(|(code, record)| format!("{file}: record {record}: refusal {code}"))?;
     let mut lines = Vec::new();

@@ -24,21 +24,22 @@ pub fn run(words: &[String]) -> Result<String, String> {
         return Err("questions needs the name of a book file".to_string());
     };
     let book = read_file(file)?;
-    let (_, names) = open(&book).ok_or_else(|| format!("{file} is no book"))?;
+    let (kind, _, names) = open(&book).ok_or_else(|| format!("{file} is no book"))?;
     // The second program's calls open the book each time, which takes long
     // under a profiler; so its questions are asked of the names, and the tree
     // for nearest is made once.
-    let root = tree(&names).ok_or_else(|| format!("{file} has no names"))?;
+    let rule = kind.rule();
+    let root = tree(rule, &names).ok_or_else(|| format!("{file} has no names"))?;
 
     let checked = shown(checking::measured_check(&book), book_check(&book))?;
     let mut lines = vec![format!("check {checked}")];
     for question in questions(&names) {
         let pairs = [
-            exact(&names, &question),
-            place(&names, &question),
-            range(&names, &question),
-            nearest_from(&root, &names, &question),
-            width(&names, &question),
+            exact(rule, &names, &question),
+            place(rule, &names, &question),
+            range(rule, &names, &question),
+            nearest_from(rule, &root, &names, &question),
+            width(rule, &names, &question),
         ];
         for (kind, (first, second)) in Kind::ALL.into_iter().zip(pairs) {
             let expected = Answer {

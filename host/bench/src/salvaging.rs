@@ -53,7 +53,7 @@ pub fn wear(words: &[String]) -> Result<String, String> {
 /// end, so that all of it is gone through: its last entry tells of a rest that no
 /// name has. And how many blocks that are.
 fn worn(mut book: Vec<u8>) -> Option<(Vec<u8>, usize)> {
-    let (block, names) = model::open(&book)?;
+    let (_, block, names) = model::open(&book)?;
     let mut damaged = 0;
     for first in (0..names.len()).step_by(EVERY * block) {
         let last = names.len().min(first + block) - 1;
@@ -74,12 +74,12 @@ fn measured_salvage(data: &[u8], room: &mut [u8], report: &mut [Kept]) -> proved
 mod tests {
     use super::{blocks_of, worn};
     use format::MOST_SALVAGED;
-    use model::{book_of, book_salvage, Kept};
+    use model::{book_of, book_salvage, BookKind, Kept};
     use vectors::lists;
 
     /// Which blocks of a worn book are kept.
     fn kept(block: usize, names: &lists::Names) -> (Vec<bool>, usize) {
-        let (card, damaged) = worn(book_of(block, names)).unwrap();
+        let (card, damaged) = worn(book_of(BookKind::Plain, block, names)).unwrap();
         let mut report = vec![Kept::default(); blocks_of(&card)];
         let salvaged = book_salvage(&card, &mut vec![0; MOST_SALVAGED], &mut report);
         assert_eq!(salvaged.code, 0);
@@ -101,7 +101,10 @@ mod tests {
     #[test]
     fn blocks_are_those_that_the_trailer_tells_of() {
         for (names, blocks) in [(0, 0), (1, 1), (2, 1), (3, 2), (600, 300)] {
-            assert_eq!(blocks_of(&book_of(2, &lists::pairs(names))), blocks);
+            assert_eq!(
+                blocks_of(&book_of(BookKind::Plain, 2, &lists::pairs(names))),
+                blocks
+            );
         }
         assert_eq!(blocks_of(&[0; 15]), 0);
         assert_eq!(blocks_of(&[0; 16]), 0);

@@ -10,6 +10,7 @@ use compare::steps::{Step, Subject, LIBRARY, MODEL, REFERENCE, ROWS, SORTED};
 use format::{Kind, LONGEST_BOOK, LONGEST_NAME, MOST_NAMES};
 use model::questions::nearest_from;
 use model::tree::tree;
+use model::{BookKind, Rule};
 use vectors::lists::Names;
 
 /// How many positions are read back.
@@ -44,10 +45,10 @@ impl Data {
     pub fn make() -> &'static Data {
         let names = stations();
         let questions = questions(&names);
-        let root = tree(&names).expect("there are names");
+        let root = tree(Rule::Plain, &names).expect("there are names");
         let answers = Kind::ALL.map(|kind| {
             let answer = |question: &Vec<u8>| match kind {
-                Kind::Nearest => accepted(nearest_from(&root, &names, question)),
+                Kind::Nearest => accepted(nearest_from(Rule::Plain, &root, &names, question)),
                 _ => accepted(ask_names(&names, kind, question)),
             };
             questions.iter().map(answer).collect()
@@ -64,7 +65,7 @@ impl Data {
         Box::leak(Box::new(Data {
             list: model::write_list(&names),
             lists: [model::write_list(first), model::write_list(second)],
-            book: model::book_of(BLOCK, &names),
+            book: model::book_of(BookKind::Plain, BLOCK, &names),
             positions: positions(&names, READS),
             parts,
             names,
@@ -107,11 +108,13 @@ pub fn of_model(answer: model::Answer) -> Numbers {
 /// A question to the second program, with the names at hand.
 fn ask_names(names: &Names, kind: Kind, question: &[u8]) -> (usize, usize) {
     match kind {
-        Kind::Exact => model::questions::exact(names, question),
-        Kind::Place => model::questions::place(names, question),
-        Kind::Range => model::questions::range(names, question),
-        Kind::Nearest => model::questions::nearest(names, question).unwrap_or_default(),
-        Kind::Width => model::questions::width(names, question),
+        Kind::Exact => model::questions::exact(Rule::Plain, names, question),
+        Kind::Place => model::questions::place(Rule::Plain, names, question),
+        Kind::Range => model::questions::range(Rule::Plain, names, question),
+        Kind::Nearest => {
+            model::questions::nearest(Rule::Plain, names, question).unwrap_or_default()
+        }
+        Kind::Width => model::questions::width(Rule::Plain, names, question),
     }
 }
 

@@ -107,7 +107,7 @@ fn measure(folder: &Path, words: &[String]) -> Result<(), String> {
     let about = About {
         names: data.names.len(),
         list: data.list.len(),
-        nodes: node_count(&data.names),
+        nodes: node_count(model::Rule::Plain, &data.names),
         questions: data.questions.len(),
         merged: data.parts.each_ref().map(Vec::len),
         rounds: timing::ROUNDS,

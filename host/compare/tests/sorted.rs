@@ -5,7 +5,7 @@ use compare::sorted::Sorted;
 use compare::stations;
 use model::questions::{exact, nearest, nearest_from, place, range, width};
 use model::tree::tree;
-use model::write_list;
+use model::{write_list, Rule};
 use vectors::lists::{self, Names};
 use vectors::questions::{about_letters, around_all};
 
@@ -14,16 +14,16 @@ fn hold_to_the_model(names: &Names, questions: &Names) {
     let list = write_list(names);
     let mut starts = [0; 2000];
     let sorted = Sorted::build(&list, &mut starts).unwrap();
-    let root = tree(names);
+    let root = tree(Rule::Plain, names);
     for question in questions {
         let nearest = root
             .as_ref()
-            .map(|root| nearest_from(root, names, question));
-        assert_eq!(sorted.exact(question), exact(names, question));
-        assert_eq!(sorted.place(question), place(names, question));
-        assert_eq!(sorted.range(question), range(names, question));
+            .map(|root| nearest_from(Rule::Plain, root, names, question));
+        assert_eq!(sorted.exact(question), exact(Rule::Plain, names, question));
+        assert_eq!(sorted.place(question), place(Rule::Plain, names, question));
+        assert_eq!(sorted.range(question), range(Rule::Plain, names, question));
         assert_eq!(sorted.nearest(question), nearest, "{question:?}");
-        assert_eq!(sorted.width(question), width(names, question));
+        assert_eq!(sorted.width(question), width(Rule::Plain, names, question));
     }
 }
 
@@ -38,7 +38,10 @@ fn all_questions_of_the_mix_get_the_models_answers() {
     let list = write_list(&names);
     let sorted = Sorted::build(&list, &mut starts).unwrap();
     for question in questions.iter().step_by(20) {
-        assert_eq!(sorted.nearest(question), nearest(&names, question));
+        assert_eq!(
+            sorted.nearest(question),
+            nearest(Rule::Plain, &names, question)
+        );
     }
 }
 

@@ -4,7 +4,7 @@ use crate::lent::lend;
 use crate::shapes::any_names;
 use fenced::Fenced;
 use format::MOST_NAMES;
-use model::book_of;
+use model::{book_of, BookKind};
 use vectors::damage::{spoil_book, spoil_names};
 use vectors::hostile;
 use vectors::lists::{self, Names};
@@ -29,11 +29,15 @@ fn laid_out_book(random: &mut Random, block: usize) -> (Vec<u8>, Names) {
     let book = match random.below(12) {
         0 => {
             spoil_names(random, &mut names);
-            book_of(block, &names)
+            book_of(BookKind::Plain, block, &names)
         }
-        1 => book_of(*random.one_of(&[0, 65, 66, 128, 256, 257]), &names),
-        2..=5 => spoil_book(random, block, &names),
-        _ => book_of(block, &names),
+        1 => book_of(
+            BookKind::Plain,
+            *random.one_of(&[0, 65, 66, 128, 256, 257]),
+            &names,
+        ),
+        2..=5 => spoil_book(random, BookKind::Plain, block, &names),
+        _ => book_of(BookKind::Plain, block, &names),
     };
     (book, names)
 }
@@ -49,7 +53,7 @@ fn hostile_book(random: &mut Random, block: usize) -> (Vec<u8>, Names) {
         2..=5 => kind.with_names(random.between(4, 500)),
         _ => {
             let names = several_names(random, block);
-            hostile::any(random, block, &names)
+            hostile::any(random, BookKind::Plain, block, &names)
         }
     };
     (book.bytes(), book.made_of)

@@ -8,7 +8,7 @@ use crate::shapes::any_names;
 use fenced::{on_stack, Fenced};
 use format::{LONGEST_BOOK, LONGEST_NAME, LONGEST_QUESTION, MOST_NAMES};
 use mistrogu::{Refusal, STACK};
-use model::book_of;
+use model::{book_of, BookKind};
 use proved::Answer;
 use vectors::lists::{self, Names};
 use vectors::questions::any_question;
@@ -176,7 +176,7 @@ fn any_sound_book(random: &mut Random) -> (Fenced<u8>, Names) {
             0 => half_letters(random),
             _ => any_names(random, block),
         };
-        let book = book_of(block, &names);
+        let book = book_of(BookKind::Plain, block, &names);
         if (1..=MOST_NAMES).contains(&names.len()) && book.len() <= LONGEST_BOOK {
             return (lend(random, &book), names);
         }

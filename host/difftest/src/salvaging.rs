@@ -8,6 +8,7 @@ use crate::shapes::any_names;
 use fenced::{on_stack, Fenced};
 use format::{LONGEST_BOOK, MOST_NAMES};
 use mistrogu::STACK;
+use model::BookKind;
 use proved::Kept;
 use vectors::lists::{self, Names};
 use vectors::pieces::Pieces;
@@ -103,7 +104,7 @@ fn any_worn(random: &mut Random) -> Fenced<u8> {
 /// A book in pieces, with all its nodes or, so that it is short, with none.
 fn any_pieces(random: &mut Random) -> Pieces {
     let block = any_block(random);
-    let mut pieces = Pieces::of(block, &any_own_names(random, block));
+    let mut pieces = Pieces::of(BookKind::Plain, block, &any_own_names(random, block));
     if random.once_in(2) {
         pieces.nodes.clear();
         pieces.settle_trailer();
@@ -182,7 +183,7 @@ fn pieces_that_fit(random: &mut Random) -> Pieces {
     }
     match pieces.entries.len() {
         1..=MOST_NAMES if pieces.trailer.length <= LONGEST_BOOK => pieces,
-        _ => Pieces::of(2, &lists::example()),
+        _ => Pieces::of(BookKind::Plain, 2, &lists::example()),
     }
 }
 

@@ -1,7 +1,7 @@
 //! Random lists of names, of many shapes.
 
 use format::{LONGEST_NAME, MOST_NAMES};
-use model::book_of;
+use model::{book_of, BookKind};
 use vectors::lists::{self, Names};
 use vectors::random::Random;
 use vectors::worst::{self, Comb};
@@ -158,7 +158,7 @@ fn as_large_as_can_be(random: &mut Random, block: usize) -> Names {
         1 => lists::pairs(count),
         _ => lists::random(random, b"abcdefgh", count, 4, 20),
     };
-    if book_of(block, &names).len() > wanted {
+    if book_of(BookKind::Plain, block, &names).len() > wanted {
         return names;
     }
     lists::with_book_length(&names, block, wanted)

@@ -1,5 +1,5 @@
 //! The numbers of documents 01 and 02 that the crates here share: the limits, the
-//! sizes of a book's parts, and the kinds of question.
+//! sizes of a book's parts, the kinds of book and the kinds of question.
 //!
 //! Two crates have their own and take nothing from here: the second program,
 //! which the others are held to, and the reference, which is compiled alone.
@@ -28,8 +28,66 @@ pub const MOST_SALVAGED: usize = MOST_NAMES * (1 + LONGEST_NAME);
 pub const NODE: usize = 12;
 /// The bytes of a trailer, so the fewest of a book.
 pub const TRAILER: usize = 16;
-/// The last four bytes of a book.
-pub const MARK: [u8; 4] = [0x4E, 0x42, 0x4B, 0x32];
+
+/// A kind of book, told by its last four bytes.
+#[derive(Clone, Copy, Debug, PartialEq, Eq, Hash)]
+pub enum BookKind {
+    /// Every byte is a letter of its own.
+    Plain,
+    /// Capitals, bytes 65 to 90, are the same letters as the bytes 32 higher.
+    Folded,
+}
+
+impl BookKind {
+    /// Every kind.
+    pub const ALL: [BookKind; 2] = [BookKind::Plain, BookKind::Folded];
+
+    /// The last four bytes of a book of this kind.
+    pub const fn mark(self) -> [u8; 4] {
+        match self {
+            BookKind::Plain => *b"NBK2",
+            BookKind::Folded => *b"NBF2",
+        }
+    }
+
+    /// The kind whose mark these bytes end in, if there is one. That alone makes
+    /// them no book.
+    ///
+    /// ```
+    /// use format::BookKind;
+    ///
+    /// assert_eq!(BookKind::of_marked(b"NBF2"), Some(BookKind::Folded));
+    /// assert_eq!(BookKind::of_marked(b"NBK1"), None);
+    /// ```
+    pub fn of_marked(bytes: &[u8]) -> Option<Self> {
+        let mut kinds = Self::ALL.into_iter();
+        kinds.find(|kind| bytes.ends_with(&kind.mark()))
+    }
+
+    /// A byte as a book of this kind compares it: bytes that are the same letter
+    /// become the same byte, and letters keep their order.
+    ///
+    /// ```
+    /// use format::BookKind;
+    ///
+    /// assert_eq!(BookKind::Folded.compared(b'M'), b'm');
+    /// assert_eq!(BookKind::Plain.compared(b'M'), b'M');
+    /// ```
+    pub const fn compared(self, byte: u8) -> u8 {
+        match self {
+            BookKind::Plain => byte,
+            BookKind::Folded => byte.to_ascii_lowercase(),
+        }
+    }
+
+    /// Its name, as a word.
+    pub const fn name(self) -> &'static str {
+        match self {
+            BookKind::Plain => "plain",
+            BookKind::Folded => "folded",
+        }
+    }
+}
 
 /// A kind of question, with the number that a batch row tells it by.
 #[derive(Clone, Copy, Debug, PartialEq, Eq, PartialOrd, Ord, Hash)]

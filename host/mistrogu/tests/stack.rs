@@ -6,7 +6,7 @@
 use fenced::apart::{last_lines, run_test, word};
 use fenced::{on_stack, Fence, Fenced};
 use mistrogu::{blocks_of, BUILD_STACK, LONGEST_BOOK, LONGEST_NAME, MOST_SALVAGED, STACK};
-use model::{book_of, write_list};
+use model::{book_of, write_list, BookKind};
 use proved::{Answer, Kept, Row};
 use vectors::hostile::{kinds, DEEPER_THAN_ANY};
 use vectors::lists::{self, Names};
@@ -161,7 +161,7 @@ fn call_with_all(fence: Fence) {
             bytes,
             code: 0,
         };
-        let book = lent(book_of(16, &names));
+        let book = lent(book_of(BookKind::Plain, 16, &names));
         call_with_book(&book, fence);
         call_with_book(&worn(&book), fence);
         for card in [&book, &worn(&book)] {

@@ -3,10 +3,12 @@
 //!
 //! Renders what document 01 says below the table of refusals: in which order
 //! each call looks for a refusal, what stands beside the code, and what is
-//! then in the lent room or rows. Every call takes any bytes and any numbers.
+//! then in the lent room or rows. Every call takes any bytes and any numbers. Only
+//! building is told the kind of book; all other calls go by the book's mark.
 
+use crate::kinds::BookKind;
 use crate::layout::{book_of, LARGEST_BLOCK, LONGEST_BOOK};
-use crate::names::{read_list, LONGEST_NAME};
+use crate::names::{read_list, Rule, LONGEST_NAME};
 use crate::open::open;
 use crate::questions::{exact, nearest, place, range, width, Kind};
 use crate::refusals::{
@@ -82,34 +84,45 @@ pub(crate) fn write_out(output: &[u8], room: &mut [u8]) -> Answer {
     }
 }
 
-/// Builds a book. Refusals, in this order: 8; of each record in turn 5, 6 and 7;
-/// 9; 4.
+/// Builds a plain book. Refusals, in this order: 8; of each record in turn 5, 6
+/// and 7; 9; 4.
 pub fn book_build(list: &[u8], block: usize, room: &mut [u8]) -> Answer {
+    build_kind(BookKind::Plain, list, block, room)
+}
+
+/// Builds a folded book. Refusals as for a plain one; 6 goes by symbols, so it is
+/// also given to a name that is equal to the one before once both are folded.
+pub fn book_build_folded(list: &[u8], block: usize, room: &mut [u8]) -> Answer {
+    build_kind(BookKind::Folded, list, block, room)
+}
+
+/// Builds a book of this kind.
+pub fn build_kind(kind: BookKind, list: &[u8], block: usize, room: &mut [u8]) -> Answer {
     if !(1..=LARGEST_BLOCK).contains(&block) {
         return refused(BAD_BLOCK_SIZE);
     }
-    let names = match read_list(list) {
+    let names = match read_list(kind.rule(), list) {
         Err((code, record)) => return refused_record(code, record),
         Ok(names) => names,
     };
-    let book = book_of(block, &names);
+    let book = book_of(kind, block, &names);
     if book.len() > LONGEST_BOOK {
         return refused(BOOK_TOO_LONG);
     }
     write_out(&book, room)
 }
 
-/// Checks a book: n and k. Refusal: 2.
+/// Checks a book of any kind: n and k. Refusal: 2.
 pub fn book_check(book: &[u8]) -> Answer {
     match open(book) {
         None => refused(NO_BOOK),
-        Some((block, names)) => accepted(names.len(), block),
+        Some((_, block, names)) => accepted(names.len(), block),
     }
 }
 
 /// Reads a name back by its position. Refusals: 2, 3, 4.
 pub fn book_read(book: &[u8], position: usize, room: &mut [u8]) -> Answer {
-    let Some((_, names)) = open(book) else {
+    let Some((_, _, names)) = open(book) else {
         return refused(NO_BOOK);
     };
     let Some(name) = names.get(position) else {
@@ -150,21 +163,22 @@ pub fn book_width(book: &[u8], question: &[u8]) -> Answer {
 fn ask_book(book: &[u8], kind: Kind, question: &[u8]) -> Answer {
     match open(book) {
         None => refused(NO_BOOK),
-        Some((_, names)) => ask_names(&names, kind, question),
+        Some((book_kind, _, names)) => ask_names(book_kind.rule(), &names, kind, question),
     }
 }
 
-/// A question to the names of a book that was checked. Refusals: 1, 10.
-fn ask_names(names: &[Vec<u8>], kind: Kind, question: &[u8]) -> Answer {
+/// A question to the names of a book that was checked, by its rule. Refusals: 1,
+/// 10.
+fn ask_names(rule: Rule, names: &[Vec<u8>], kind: Kind, question: &[u8]) -> Answer {
     if question.len() > LONGEST_QUESTION {
         return refused(QUESTION_TOO_LONG);
     }
     let numbers = match kind {
-        Kind::Exact => Some(exact(names, question)),
-        Kind::Place => Some(place(names, question)),
-        Kind::Range => Some(range(names, question)),
-        Kind::Nearest => nearest(names, question),
-        Kind::Width => Some(width(names, question)),
+        Kind::Exact => Some(exact(rule, names, question)),
+        Kind::Place => Some(place(rule, names, question)),
+        Kind::Range => Some(range(rule, names, question)),
+        Kind::Nearest => nearest(rule, names, question),
+        Kind::Width => Some(width(rule, names, question)),
     };
     match numbers {
         // Only nearest can be without an answer, and only without names.
@@ -179,19 +193,19 @@ pub fn book_batch(book: &[u8], questions: &[u8], rows: &[Row], answers: &mut [An
     if rows.len() > MOST_ROWS || rows.len() != answers.len() {
         return refused(BAD_ROW_COUNT);
     }
-    let Some((_, names)) = open(book) else {
+    let Some((book_kind, _, names)) = open(book) else {
         return refused(NO_BOOK);
     };
     for (row, answer) in rows.iter().zip(answers) {
-        *answer = ask_row(&names, questions, *row);
+        *answer = ask_row(book_kind.rule(), &names, questions, *row);
     }
     accepted(rows.len(), 0)
 }
 
 /// The answer of one batch row. Refusals: 11, then those of `ask_names`.
-fn ask_row(names: &[Vec<u8>], questions: &[u8], row: Row) -> Answer {
+fn ask_row(rule: Rule, names: &[Vec<u8>], questions: &[u8], row: Row) -> Answer {
     match (Kind::of_number(row.kind), span(questions, row)) {
-        (Some(kind), Some(question)) => ask_names(names, kind, question),
+        (Some(kind), Some(question)) => ask_names(rule, names, kind, question),
         _ => refused(BAD_ROW),
     }
 }

@@ -1,14 +1,17 @@
 //! The bytes of a book.
 //!
 //! Renders document 01, "Layout of a book": entries, block table, node table,
-//! trailer, one behind the other without gaps. The size of a node and the mark
-//! are those of document 02, change request 1.
+//! trailer, one behind the other without gaps. The size of a node is that of
+//! document 02, change request 1; the kinds of book are those of change request 7.
+//! A kind has a say in the nodes, which go by symbols, and in the mark. The
+//! entries go by bytes whatever the kind, so that spelling comes back unchanged.
 //!
 //! No limit is applied here. A number that does not fit its one or two bytes
 //! is cut to the low ones; for a list and block size that a build accepts, and
 //! a book of at most 65,535 bytes, that never happens.
 
-use crate::names::{leading_equal, low_byte};
+use crate::kinds::BookKind;
+use crate::names::{leading_equal, low_byte, Rule};
 use crate::tree::{tree, Node};
 
 /// The longest book.
@@ -19,15 +22,13 @@ pub const LARGEST_BLOCK: usize = 64;
 pub const TRAILER_LENGTH: usize = 16;
 /// The length of a node: six numbers of two bytes.
 pub const NODE_LENGTH: usize = 12;
-/// The last four bytes of every book.
-pub const MARK: [u8; 4] = [0x4E, 0x42, 0x4B, 0x32];
 
-/// The book of these names with this block size.
-pub fn book_of(block: usize, names: &[Vec<u8>]) -> Vec<u8> {
+/// The book of this kind of these names with this block size.
+pub fn book_of(kind: BookKind, block: usize, names: &[Vec<u8>]) -> Vec<u8> {
     let entries = entries(block, names);
     let block_table = block_table(block, names);
-    let node_table = node_table(names);
-    let trailer = trailer(block, names, entries.len(), block_table.len());
+    let node_table = node_table(kind.rule(), names);
+    let trailer = trailer(kind, block, names, entries.len(), block_table.len());
     [entries, block_table, node_table, trailer].concat()
 }
 
@@ -53,6 +54,9 @@ fn entry(block: usize, names: &[Vec<u8>], position: usize) -> Vec<u8> {
 
 /// The shared count as stored: all leading bytes that the name has in common
 /// with the one before, but 0 for the first name of a block.
+///
+/// Bytes are counted and not symbols: marina after MAR has the count 0, also where
+/// the two are folded.
 pub fn stored_count(block: usize, names: &[Vec<u8>], position: usize) -> usize {
     if starts_block(block, position) {
         0
@@ -80,9 +84,9 @@ pub fn block_table(block: usize, names: &[Vec<u8>]) -> Vec<u8> {
 }
 
 /// Part 3: every node of the tree, twelve bytes each; none without names.
-pub fn node_table(names: &[Vec<u8>]) -> Vec<u8> {
+pub fn node_table(rule: Rule, names: &[Vec<u8>]) -> Vec<u8> {
     let mut bytes = Vec::new();
-    if let Some(root) = tree(names) {
+    if let Some(root) = tree(rule, names) {
         write_node(&root, &mut bytes);
     }
     bytes
@@ -102,18 +106,19 @@ fn write_node(node: &Node, bytes: &mut Vec<u8>) {
 }
 
 /// How many nodes the book of these names has: the trailer's number m.
-pub fn node_count(names: &[Vec<u8>]) -> usize {
-    tree(names).map_or(0, |root| root.nodes)
+pub fn node_count(rule: Rule, names: &[Vec<u8>]) -> usize {
+    tree(rule, names).map_or(0, |root| root.nodes)
 }
 
 /// Part 4: six numbers and the mark.
 fn trailer(
+    kind: BookKind,
     block: usize,
     names: &[Vec<u8>],
     entries_length: usize,
     block_table_length: usize,
 ) -> Vec<u8> {
-    let nodes = node_count(names);
+    let nodes = node_count(kind.rule(), names);
     let block_table_start = entries_length;
     let node_table_start = block_table_start + block_table_length;
     let book_length = node_table_start + NODE_LENGTH * nodes + TRAILER_LENGTH;
@@ -125,7 +130,7 @@ fn trailer(
     bytes.extend(two_bytes(node_table_start));
     bytes.extend(two_bytes(nodes));
     bytes.extend(two_bytes(book_length));
-    bytes.extend(MARK);
+    bytes.extend(kind.mark());
     bytes
 }
 

@@ -1,8 +1,8 @@
 //! The second program of Mistrogu.
 //!
 //! Everything that document 01 asks for, with what document 02's change requests
-//! 1 (width), 2 (merging), 3 (nearest's number) and 5 (worn cards) add to it or
-//! change of it, done over a plain sorted list of byte strings. Nothing here is
+//! 1 (width), 2 (merging), 3 (nearest's number), 5 (worn cards) and 7 (folded
+//! books) add to it or change of it, done over a plain sorted list of byte strings. Nothing here is
 //! fast and nothing is meant to be. A reader with the documents in the other hand
 //! should be able to believe each function at sight, because test vectors for the
 //! proved library come from this crate. It shares no line with that library.
@@ -11,7 +11,8 @@
 //!
 //! | Module | Part of document 01 |
 //! |---|---|
-//! | [`names`] | names, symbols, order, list records |
+//! | [`names`] | names, symbols by either rule, order, list records |
+//! | [`kinds`] | the kinds of book: mark and symbol rule (document 02) |
 //! | [`tree`] | which nodes a list of names has |
 //! | [`layout`] | the bytes of a book |
 //! | [`open`](mod@open) | which runs of bytes are a book |
@@ -28,6 +29,7 @@
 #![warn(missing_docs)]
 
 pub mod calls;
+pub mod kinds;
 pub mod layout;
 pub mod merging;
 pub mod names;
@@ -39,12 +41,13 @@ pub mod salvage;
 pub mod tree;
 
 pub use calls::{
-    book_batch, book_build, book_check, book_exact, book_nearest, book_place, book_range,
-    book_read, book_width, Answer, Row,
+    book_batch, book_build, book_build_folded, book_check, book_exact, book_nearest, book_place,
+    book_range, book_read, book_width, build_kind, Answer, Row,
 };
+pub use kinds::BookKind;
 pub use layout::book_of;
 pub use merging::{list_head, list_judge, list_merge, list_step, Head};
-pub use names::{read_list, write_list};
+pub use names::{read_list, write_list, Rule};
 pub use open::open;
 pub use programs::{listing, make_book};
 pub use salvage::{book_salvage, Kept};

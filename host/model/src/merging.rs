@@ -2,10 +2,11 @@
 //!
 //! Renders document 02, change request 2. A merged list is a set of names,
 //! written as records; a step looks at one name of each list. Every call takes
-//! any bytes and any numbers, and judges both lists before all else.
+//! any bytes and any numbers, and judges both lists before all else. Merging goes
+//! by the plain rule alone.
 
 use crate::calls::{accepted, refused_in_list, write_out, Answer};
-use crate::names::{is_less, read_names, write_list, MOST_NAMES};
+use crate::names::{is_less, read_names, write_list, Rule, MOST_NAMES};
 use crate::refusals::TOO_MANY_NAMES;
 use std::collections::BTreeSet;
 
@@ -63,7 +64,9 @@ pub fn list_head(first: &[u8], second: &[u8], passed_first: usize, passed_second
         (None, None) => EMPTY_PART,
         (Some(_), None) => head_of(1, &first, passed_first),
         (None, Some(_)) => head_of(2, &second, passed_second),
-        (Some(one), Some(other)) if is_less(other, one) => head_of(2, &second, passed_second),
+        (Some(one), Some(other)) if is_less(Rule::Plain, other, one) => {
+            head_of(2, &second, passed_second)
+        }
         (Some(_), Some(_)) => head_of(1, &first, passed_first),
     }
 }
@@ -89,7 +92,7 @@ fn read_both(first: &[u8], second: &[u8]) -> Result<[Vec<Vec<u8>>; 2], Answer> {
 /// The names of one of the two lists. It may have as many as its bytes hold:
 /// only the merged list has a limit.
 fn read_one(number: usize, list: &[u8]) -> Result<Vec<Vec<u8>>, Answer> {
-    let names = read_names(list, usize::MAX);
+    let names = read_names(Rule::Plain, list, usize::MAX);
     names.map_err(|(code, record)| refused_in_list(code, record, number))
 }
 

@@ -1,27 +1,32 @@
 //! Which runs of bytes are a book.
 //!
-//! Renders demand 3, to which refusal 2 of document 01 points: bytes are a
-//! book exactly when the layout yields them for some sound list and some block
-//! size from 1 to 64, within 65,535 bytes.
+//! Renders demand 3, to which refusal 2 of document 01 points, as document 02,
+//! change request 7, reads it: bytes are a book exactly when the layout yields them
+//! for some kind, some list that is sound for that kind and some block size from 1
+//! to 64, within 65,535 bytes.
 //!
 //! The check does not look at each field on its own. It reads from the bytes
-//! the only list and block size they could be the book of, lays that book out
-//! anew, and compares every byte. Whatever layout rule was broken shows there.
+//! the only kind, list and block size they could be the book of, lays that book
+//! out anew, and compares every byte. Whatever layout rule was broken shows there.
 
+use crate::kinds::BookKind;
 use crate::layout::{book_of, LARGEST_BLOCK, LONGEST_BOOK, TRAILER_LENGTH};
 use crate::names::is_sound_list;
 
-/// The block size and the names of a book, or nothing where it is no book.
-pub fn open(book: &[u8]) -> Option<(usize, Vec<Vec<u8>>)> {
+/// The kind, the block size and the names of a book, or nothing where it is no
+/// book.
+pub fn open(book: &[u8]) -> Option<(BookKind, usize, Vec<Vec<u8>>)> {
+    let kind = BookKind::of_marked(book)?;
     let trailer = book.len().checked_sub(TRAILER_LENGTH)?;
     let count = number_at(book, trailer)?;
     let block = number_at(book, trailer + 2)?;
     let names = read_entries(book, count)?;
 
-    let allowed =
-        book.len() <= LONGEST_BOOK && (1..=LARGEST_BLOCK).contains(&block) && is_sound_list(&names);
-    if allowed && book == book_of(block, &names) {
-        Some((block, names))
+    let allowed = book.len() <= LONGEST_BOOK
+        && (1..=LARGEST_BLOCK).contains(&block)
+        && is_sound_list(kind.rule(), &names);
+    if allowed && book == book_of(kind, block, &names) {
+        Some((kind, block, names))
     } else {
         None
     }

@@ -15,13 +15,14 @@ pub const LONGEST_INPUT: usize = 65_536;
 /// The block size of the building program.
 pub const PROGRAM_BLOCK: usize = 16;
 
-/// The listing program: all that it prints for these bytes.
+/// The listing program: all that it prints for these bytes, whatever kind of book
+/// they are.
 pub fn listing(book: &[u8]) -> Vec<u8> {
-    let Some((block, names)) = open(book) else {
+    let Some((kind, block, names)) = open(book) else {
         return format!("refused {NO_BOOK}\n").into_bytes();
     };
     let count = names.len();
-    let nodes = node_count(&names);
+    let nodes = node_count(kind.rule(), &names);
     let length = book.len();
     let mut text = format!("names {count} block {block} nodes {nodes} bytes {length}\n");
     for position in 0..count {
@@ -56,8 +57,8 @@ fn printed(name: &[u8]) -> String {
     text
 }
 
-/// The building program: the book that goes to standard output, or the line
-/// that goes to standard error. Never something to both.
+/// The building program: the plain book that goes to standard output, or the
+/// line that goes to standard error. Never something to both.
 ///
 /// The room has the length of the longest book, so 4 never comes. The record
 /// is printed with every refusal, as 0 where the refusal has none.

@@ -3,9 +3,10 @@
 //! Renders document 01, "Questions", and of document 02 width and nearest's
 //! number, change requests 1 and 3. Exact, place, range and width go through all
 //! names. Only nearest needs the tree, because document 01 says by the tree which
-//! of several equally near names it gives.
+//! of several equally near names it gives. All of them go by symbols, so each takes
+//! the rule of the names' book (change request 7).
 
-use crate::names::{is_less, leading_equal, symbols};
+use crate::names::{begins_with, is_less, is_same, shared_symbols, symbols, Rule};
 use crate::tree::{tree, Node};
 
 /// The five kinds of question.
@@ -37,10 +38,11 @@ impl Kind {
     }
 }
 
-/// Where the question itself is a name: its position and a 1. Else two zeros.
-pub fn exact(names: &[Vec<u8>], question: &[u8]) -> (usize, usize) {
+/// Where the question itself is a name, by its symbols: its position and a 1.
+/// Else two zeros.
+pub fn exact(rule: Rule, names: &[Vec<u8>], question: &[u8]) -> (usize, usize) {
     for (position, name) in names.iter().enumerate() {
-        if name == question {
+        if is_same(rule, name, question) {
             return (position, 1);
         }
     }
@@ -48,27 +50,27 @@ pub fn exact(names: &[Vec<u8>], question: &[u8]) -> (usize, usize) {
 }
 
 /// The count of names before the question, and a 0.
-pub fn place(names: &[Vec<u8>], question: &[u8]) -> (usize, usize) {
-    let less = names.iter().filter(|name| is_less(name, question)).count();
-    (less, 0)
+pub fn place(rule: Rule, names: &[Vec<u8>], question: &[u8]) -> (usize, usize) {
+    let less = names.iter().filter(|name| is_less(rule, name, question));
+    (less.count(), 0)
 }
 
 /// The question's place, and the count of names that have it as their front.
-pub fn range(names: &[Vec<u8>], question: &[u8]) -> (usize, usize) {
-    let (less, _) = place(names, question);
+pub fn range(rule: Rule, names: &[Vec<u8>], question: &[u8]) -> (usize, usize) {
+    let (less, _) = place(rule, names, question);
     let beginning = names
         .iter()
-        .filter(|name| name.starts_with(question))
+        .filter(|name| begins_with(rule, name, question))
         .count();
     (less, beginning)
 }
 
 /// The greatest length among the names that have the question as their front,
 /// and a 0. Where there is no such name the greatest length is 0.
-pub fn width(names: &[Vec<u8>], question: &[u8]) -> (usize, usize) {
+pub fn width(rule: Rule, names: &[Vec<u8>], question: &[u8]) -> (usize, usize) {
     let mut greatest = 0;
     for name in names {
-        if name.starts_with(question) {
+        if begins_with(rule, name, question) {
             greatest = greatest.max(name.len());
         }
     }
@@ -77,21 +79,22 @@ pub fn width(names: &[Vec<u8>], question: &[u8]) -> (usize, usize) {
 
 /// The first name of the node that the question leads to, and how many leading
 /// bytes of the question to light there; nothing where there are no names.
-pub fn nearest(names: &[Vec<u8>], question: &[u8]) -> Option<(usize, usize)> {
-    let root = tree(names)?;
-    Some(nearest_from(&root, names, question))
+pub fn nearest(rule: Rule, names: &[Vec<u8>], question: &[u8]) -> Option<(usize, usize)> {
+    let root = tree(rule, names)?;
+    Some(nearest_from(rule, &root, names, question))
 }
 
 /// The same where the root of the names' tree is at hand.
-pub fn nearest_from(root: &Node, names: &[Vec<u8>], question: &[u8]) -> (usize, usize) {
-    let position = node_reached(root, question).first;
-    let shared = leading_equal(&names[position], question);
+pub fn nearest_from(rule: Rule, root: &Node, names: &[Vec<u8>], question: &[u8]) -> (usize, usize) {
+    let position = node_reached(rule, root, question).first;
+    let shared = shared_symbols(rule, &names[position], question);
     (position, lit(question, shared))
 }
 
 /// How many leading bytes of a question to light where it shares so many with a
 /// name: the greatest L, not above the shared bytes, that is 0, or the
 /// question's length, or a place where the question's byte is not 128 to 191.
+/// Which bytes are shared goes by symbols; where to cut, by the question's bytes.
 ///
 /// In UTF-8 the bytes 128 to 191 are those inside a character. Cafè shares 4
 /// bytes with Café, the first one of è among them, and 3 are lit.
@@ -113,8 +116,8 @@ fn is_outside(question: &[u8], place: usize) -> bool {
 }
 
 /// Goes down from the root for as long as a child fits the question.
-pub fn node_reached<'tree>(root: &'tree Node, question: &[u8]) -> &'tree Node {
-    let wanted = symbols(question);
+pub fn node_reached<'tree>(rule: Rule, root: &'tree Node, question: &[u8]) -> &'tree Node {
+    let wanted = symbols(rule, question);
     let mut node = root;
     while let Some(child) = fitting_child(node, &wanted) {
         node = child;

@@ -14,7 +14,7 @@ pub const NO_SUCH_POSITION: usize = 3;
 pub const ROOM_TOO_SHORT: usize = 4;
 /// A list record has length 0, a length above 200, or not all of its bytes.
 pub const BAD_RECORD: usize = 5;
-/// A name is not above the one before it.
+/// A name is not above the one before it, by the symbols of the list's book.
 pub const NOT_RISING: usize = 6;
 /// A list has a name more than the 2,000 allowed.
 pub const TOO_MANY_NAMES: usize = 7;
@@ -29,5 +29,6 @@ pub const BAD_ROW: usize = 11;
 /// A batch has more than 64 rows, or not as many answer rows as questions; or a
 /// worn card has not as many blocks as there are report rows.
 pub const BAD_ROW_COUNT: usize = 12;
-/// The trailer and block table of a worn card make no sense.
+/// The trailer and block table of a worn card make no sense, or it is marked as
+/// another kind of book than the plain one.
 pub const NO_MAP: usize = 13;

@@ -3,11 +3,13 @@
 //! Renders document 02, change request 5. The trailer and the block table are a
 //! map of the entries. Where the map makes sense, each block is judged by its own
 //! bytes and the number of names it ought to have, and by nothing else. Node
-//! records are never looked at.
+//! records are never looked at. Salvage goes by the plain rule, and a folded mark
+//! makes no sense to it (change request 7).
 
 use crate::calls::{refused, write_out, Answer};
-use crate::layout::{LARGEST_BLOCK, MARK, NODE_LENGTH, TRAILER_LENGTH};
-use crate::names::{is_sound_list, leading_equal, write_list, MOST_NAMES};
+use crate::kinds::BookKind;
+use crate::layout::{LARGEST_BLOCK, NODE_LENGTH, TRAILER_LENGTH};
+use crate::names::{is_sound_list, leading_equal, write_list, Rule, MOST_NAMES};
 use crate::refusals::{BAD_ROW_COUNT, NO_MAP};
 
 /// A row of the report: what became of a block.
@@ -73,11 +75,12 @@ struct Block<'data> {
 /// a map.
 fn read_map(data: &[u8]) -> Option<Vec<Block<'_>>> {
     let trailer_start = data.len().checked_sub(TRAILER_LENGTH)?;
-    let (numbers, mark) = data[trailer_start..].split_at(TRAILER_LENGTH - MARK.len());
+    let plain_mark = BookKind::Plain.mark();
+    let (numbers, mark) = data[trailer_start..].split_at(TRAILER_LENGTH - plain_mark.len());
     let [names, block, block_table, node_table, nodes, length] = read_numbers(numbers)[..] else {
         return None;
     };
-    if mark != MARK || length != data.len() {
+    if mark != plain_mark || length != data.len() {
         return None;
     }
     if names > MOST_NAMES || !(1..=LARGEST_BLOCK).contains(&block) {
@@ -140,7 +143,7 @@ fn sound_names(block: &Block) -> Option<Vec<Vec<u8>>> {
     let entries = cut_into_entries(block.span)?;
     let names = names_of(&entries)?;
     let sound = names.len() == block.names
-        && is_sound_list(&names)
+        && is_sound_list(Rule::Plain, &names)
         && has_greatest_counts(&entries, &names);
     sound.then_some(names)
 }

@@ -5,7 +5,7 @@
 //! 02's. `layout` writes the tree down as a table; `questions` goes down in it
 //! for the nearest name.
 
-use crate::names::{leading_equal, symbols};
+use crate::names::{leading_equal, symbols, Rule};
 
 /// A node with its own row of children.
 ///
@@ -28,9 +28,10 @@ pub struct Node {
     pub children: Vec<Node>,
 }
 
-/// The root for all names, or nothing where there are no names.
-pub fn tree(names: &[Vec<u8>]) -> Option<Node> {
-    let strings: Vec<Vec<usize>> = names.iter().map(|name| symbols(name)).collect();
+/// The root for all names, or nothing where there are no names. The tree is one
+/// of symbols, so the rule says which names part, and where.
+pub fn tree(rule: Rule, names: &[Vec<u8>]) -> Option<Node> {
+    let strings: Vec<Vec<usize>> = names.iter().map(|name| symbols(rule, name)).collect();
     if strings.is_empty() {
         return None;
     }

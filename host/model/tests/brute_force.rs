@@ -3,27 +3,58 @@
 //!
 //! The comparisons here use nothing of the model but its calls. They take the
 //! usual order of byte vectors in place of symbols, and groups of names that
-//! shrink in place of a tree.
+//! shrink in place of a tree. A folded book is looked at in small letters: names
+//! and question are both put into these, and then it is the plain look.
 
 mod common;
 
-use common::{all_strings, built, shared, whole_letters, yes, Random, FILLING, UNSET};
-use model::{
-    book_batch, book_check, book_exact, book_nearest, book_place, book_range, book_read,
-    book_width, open, read_list, write_list, Answer, Row,
+use common::{
+    all_strings, built, built_as, marked_as, no_record, shared, whole_letters, yes, Random,
+    FILLING, UNSET,
 };
-use std::collections::BTreeSet;
+use model::{
+    book_batch, book_build_folded, book_check, book_exact, book_nearest, book_place, book_range,
+    book_read, book_width, build_kind, open, read_list, write_list, Answer, BookKind, Row,
+};
+use std::collections::BTreeMap;
 
 /// Few different bytes, so that names share much; the two extremes are in.
 const ALPHABET: [u8; 4] = [0, b'a', b'b', 255];
 
-/// A rising list of random names; duplicates fall away.
-fn random_list(random: &mut Random, most: usize, bytes: &[u8], longest: usize) -> Vec<Vec<u8>> {
+/// Letters of both cases, and the bytes just outside of them: 64, 91, 96, 123.
+const CASES: [u8; 8] = *b"aAbB@[`{";
+
+/// Bytes as a book of this kind looks at them.
+fn looked_at(kind: BookKind, bytes: &[u8]) -> Vec<u8> {
+    match kind {
+        BookKind::Plain => bytes.to_vec(),
+        BookKind::Folded => bytes.to_ascii_lowercase(),
+    }
+}
+
+/// The names as a book of this kind looks at them.
+fn all_looked_at(kind: BookKind, names: &[Vec<u8>]) -> Vec<Vec<u8>> {
+    names.iter().map(|name| looked_at(kind, name)).collect()
+}
+
+/// The names in the order of this kind; of those that it can't tell apart, the
+/// last one alone.
+fn in_order(kind: BookKind, names: impl IntoIterator<Item = Vec<u8>>) -> Vec<Vec<u8>> {
+    let names = names.into_iter().map(|name| (looked_at(kind, &name), name));
+    names.collect::<BTreeMap<_, _>>().into_values().collect()
+}
+
+/// A list of random names that rises in a book of this kind; duplicates fall away.
+fn random_list(
+    kind: BookKind,
+    random: &mut Random,
+    most: usize,
+    bytes: &[u8],
+    longest: usize,
+) -> Vec<Vec<u8>> {
     let wanted = random.below(most + 1);
-    let names: BTreeSet<Vec<u8>> = (0..wanted)
-        .map(|_| random.string(bytes, 1, longest))
-        .collect();
-    names.into_iter().collect()
+    let names = (0..wanted).map(|_| random.string(bytes, 1, longest));
+    in_order(kind, names)
 }
 
 fn direct_exact(names: &[Vec<u8>], question: &[u8]) -> Answer {
@@ -122,12 +153,20 @@ fn ask_all(book: &[u8], questions: &[Vec<u8>]) -> Vec<[Answer; 5]> {
     all
 }
 
-/// Check, reading back and the list of records all give the same names again.
-fn assert_round_trip(names: &[Vec<u8>], block: usize, seed: u64) -> Vec<u8> {
-    assert_eq!(read_list(&write_list(names)).as_deref(), Ok(names));
-    let book = built(names, block);
+/// Check, reading back and the list of records all give the same names again,
+/// with their spelling.
+fn assert_round_trip(kind: BookKind, names: &[Vec<u8>], block: usize, seed: u64) -> Vec<u8> {
+    assert_eq!(
+        read_list(kind.rule(), &write_list(names)).as_deref(),
+        Ok(names)
+    );
+    let book = built_as(kind, names, block);
     assert_eq!(book_check(&book), yes(names.len(), block), "seed {seed}");
-    assert_eq!(open(&book), Some((block, names.to_vec())), "seed {seed}");
+    assert_eq!(
+        open(&book),
+        Some((kind, block, names.to_vec())),
+        "seed {seed}"
+    );
     for (position, name) in names.iter().enumerate() {
         let mut room = vec![FILLING; name.len() + 1];
         let answer = book_read(&book, position, &mut room);
@@ -138,19 +177,23 @@ fn assert_round_trip(names: &[Vec<u8>], block: usize, seed: u64) -> Vec<u8> {
     book
 }
 
-/// Everything about one list.
-fn try_list(names: &[Vec<u8>], block: usize, questions: &[Vec<u8>], seed: u64) {
-    let book = assert_round_trip(names, block, seed);
+/// Everything about the book of this kind of one list.
+fn try_list(kind: BookKind, names: &[Vec<u8>], block: usize, questions: &[Vec<u8>], seed: u64) {
+    let book = assert_round_trip(kind, names, block, seed);
     let answers = ask_all(&book, questions);
+    let looked_names = all_looked_at(kind, names);
     for (question, five) in questions.iter().zip(&answers) {
-        let expected = direct_answers(names, question);
+        let looked_question = looked_at(kind, question);
+        let expected = direct_answers(&looked_names, &looked_question);
         assert_eq!(
             *five, expected,
-            "seed {seed} names {names:?} question {question:?}"
+            "{kind:?} seed {seed} names {names:?} question {question:?}"
         );
-        let counts = names.iter().map(|name| shared(name, question));
+        let counts = looked_names
+            .iter()
+            .map(|name| shared(name, &looked_question));
         if let Some(greatest) = counts.clone().max() {
-            let reached = shared(&names[five[3].first], question);
+            let reached = shared(&looked_names[five[3].first], &looked_question);
             assert_eq!(reached, greatest, "seed {seed} {question:?}");
             let lit = counts.map(|count| whole_letters(question, count)).max();
             assert_eq!(Some(five[3].second), lit, "seed {seed} {question:?}");
@@ -190,10 +233,95 @@ fn short_names_and_every_short_question() {
     assert_eq!(questions.len(), 1 + 4 + 16 + 64);
     for seed in 0..1500 {
         let mut random = Random::from_seed(seed);
-        let names = random_list(&mut random, 9, &ALPHABET, 4);
+        let names = random_list(BookKind::Plain, &mut random, 9, &ALPHABET, 4);
         let block = 1 + random.below(5);
-        try_list(&names, block, &questions, seed);
+        try_list(BookKind::Plain, &names, block, &questions, seed);
     }
+}
+
+#[test]
+fn short_names_and_questions_in_both_cases_for_both_kinds() {
+    let questions = all_strings(&CASES, 3);
+    for seed in 50_000..50_300 {
+        let mut random = Random::from_seed(seed);
+        let block = 1 + random.below(5);
+        for kind in BookKind::ALL {
+            let names = random_list(kind, &mut random, 9, &CASES, 4);
+            try_list(kind, &names, block, &questions, seed);
+        }
+    }
+}
+
+#[test]
+fn every_folded_list_of_up_to_three_short_names_in_both_cases() {
+    // 20 names over a, A, b and B; lists that do not rise once folded fall away.
+    let questions = all_strings(b"aAbB", 2);
+    let names = in_order(BookKind::Plain, questions[1..].to_vec());
+    for (at, first) in names.iter().enumerate() {
+        for (between, second) in names.iter().enumerate().skip(at) {
+            for third in &names[between..] {
+                let chosen = [first, second, third].map(Clone::clone);
+                let list = in_order(BookKind::Folded, chosen);
+                try_list(BookKind::Folded, &list, 1 + at % 3, &questions, at as u64);
+            }
+        }
+    }
+}
+
+#[test]
+fn every_folded_pair_of_names_around_the_letters() {
+    let names = all_strings(b"@AZ[`az{", 2);
+    let questions = all_strings(b"@AZ[`az{", 1);
+    for first in &names[1..] {
+        for second in &names[1..] {
+            let list = [first.clone(), second.clone()];
+            let mut room = [0; 100];
+            let answer = book_build_folded(&write_list(&list), 2, &mut room);
+            let [one, other] = [first, second].map(|name| name.to_ascii_lowercase());
+            if one < other {
+                assert_eq!(answer.code, 0, "{list:?}");
+                try_list(BookKind::Folded, &list, 2, &questions, 0);
+            } else {
+                assert_eq!(answer, no_record(6, 1), "{list:?}");
+            }
+        }
+    }
+}
+
+#[test]
+fn letters_of_several_bytes_are_cut_alike_in_both_kinds() {
+    // Capitals with and without accents, and bytes that go on with a letter.
+    let bytes = b"aAE\xC3\x89\xA9";
+    let questions = all_strings(bytes, 3);
+    for seed in 60_000..60_300 {
+        let mut random = Random::from_seed(seed);
+        for kind in BookKind::ALL {
+            let names = random_list(kind, &mut random, 7, bytes, 4);
+            try_list(kind, &names, 2, &questions, seed);
+        }
+    }
+}
+
+#[test]
+fn under_the_other_mark_a_book_is_one_just_where_it_is_that_kind_s_of_its_names() {
+    let (mut taken, mut refused) = (0, 0);
+    for seed in 70_000..72_000 {
+        let mut random = Random::from_seed(seed);
+        let block = 1 + random.below(3);
+        for (kind, other) in [
+            (BookKind::Plain, BookKind::Folded),
+            (BookKind::Folded, BookKind::Plain),
+        ] {
+            let names = random_list(kind, &mut random, 4, b"aAbc", 3);
+            let swapped = marked_as(other, &built_as(kind, &names, block));
+            let mut room = vec![FILLING; swapped.len() + 100];
+            let answer = build_kind(other, &write_list(&names), block, &mut room);
+            let is_book = answer.code == 0 && room[..answer.first] == swapped;
+            assert_eq!(book_check(&swapped).code == 0, is_book, "{names:?}");
+            *(if is_book { &mut taken } else { &mut refused }) += 1;
+        }
+    }
+    assert!(taken > 500 && refused > 500, "{taken} {refused}");
 }
 
 #[test]
@@ -202,13 +330,13 @@ fn two_bytes_only_so_that_trees_are_deep() {
     for seed in 10_000..11_500 {
         let mut random = Random::from_seed(seed);
         let two = [random.one_of(&ALPHABET), random.one_of(&ALPHABET)];
-        let names = random_list(&mut random, 12, &two, 7);
+        let names = random_list(BookKind::Plain, &mut random, 12, &two, 7);
         let mut asked = questions.clone();
         for _ in 0..20 {
             asked.push(random.string(&two, 0, 8));
         }
         let block = 1 + random.below(64);
-        try_list(&names, block, &asked, seed);
+        try_list(BookKind::Plain, &names, block, &asked, seed);
     }
 }
 
@@ -221,16 +349,17 @@ fn every_set_of_names_of_at_most_two_bytes_over_two_letters() {
         let chosen = (0..6).filter(|at| set >> at & 1 == 1);
         let names: Vec<Vec<u8>> = chosen.map(|at: usize| candidates[at].clone()).collect();
         for block in 1..=6 {
-            try_list(&names, block, &questions, set);
+            try_list(BookKind::Plain, &names, block, &questions, set);
         }
     }
 }
 
 #[test]
 fn longer_lists_of_longer_names_and_questions_near_them() {
-    for seed in 20_000..20_012 {
+    for (seed, kind) in (20_000..20_012).zip(BookKind::ALL.into_iter().cycle()) {
         let mut random = Random::from_seed(seed);
-        let names = random_list(&mut random, 60, &ALPHABET, 200);
+        let bytes = [&ALPHABET[..], b"AB"].concat();
+        let names = random_list(kind, &mut random, 60, &bytes, 200);
         let mut questions = vec![vec![]];
         for name in &names {
             let mut changed = name.clone();
@@ -240,17 +369,17 @@ fn longer_lists_of_longer_names_and_questions_near_them() {
             questions.push(name[..random.below(name.len() + 1)].to_vec());
         }
         let block = 1 + random.below(64);
-        try_list(&names, block, &questions, seed);
+        try_list(kind, &names, block, &questions, seed);
     }
 }
 
 #[test]
 fn each_single_call_gives_what_its_batch_row_gives() {
-    let questions = all_strings(&ALPHABET, 2);
-    for seed in 30_000..30_060 {
+    let questions = all_strings(&CASES, 2);
+    for (seed, kind) in (30_000..30_060).zip(BookKind::ALL.into_iter().cycle()) {
         let mut random = Random::from_seed(seed);
-        let names = random_list(&mut random, 9, &ALPHABET, 4);
-        let book = built(&names, 3);
+        let names = random_list(kind, &mut random, 9, &CASES, 4);
+        let book = built_as(kind, &names, 3);
         for (question, five) in questions.iter().zip(ask_all(&book, &questions)) {
             let alone = [
                 book_exact(&book, question),
@@ -268,7 +397,7 @@ fn each_single_call_gives_what_its_batch_row_gives() {
 fn m_is_at_least_n_and_at_most_2n_minus_1() {
     for seed in 40_000..41_000 {
         let mut random = Random::from_seed(seed);
-        let names = random_list(&mut random, 30, &ALPHABET, 5);
+        let names = random_list(BookKind::Plain, &mut random, 30, &ALPHABET, 5);
         let nodes = nodes_in(&built(&names, 4));
         if names.is_empty() {
             assert_eq!(nodes, 0);

@@ -6,20 +6,21 @@ use common::{
     built, many_names, mar_names, names, names_for_book_length, no, yes, Random, BOOK_BY_2,
     BOOK_BY_4, EMPTY_BOOK,
 };
-use model::{book_build, book_check, book_of, open, write_list};
+use model::{book_check, book_of, build_kind, open, write_list, BookKind};
 
 /// Asserts that the bytes are either refused with 2, or are the book of the
 /// names and the block size that are read from them. Tells which.
 fn is_accepted(bytes: &[u8]) -> bool {
     let answer = book_check(bytes);
-    let Some((block, names)) = open(bytes) else {
+    let Some((kind, block, names)) = open(bytes) else {
         assert_eq!(answer, no(2));
         return false;
     };
     assert_eq!(answer, yes(names.len(), block));
     let mut room = vec![0; bytes.len()];
     let list = write_list(&names);
-    assert_eq!(book_build(&list, block, &mut room), yes(bytes.len(), 0));
+    let built = build_kind(kind, &list, block, &mut room);
+    assert_eq!(built, yes(bytes.len(), 0));
     assert_eq!(room, bytes);
     true
 }
@@ -46,10 +47,13 @@ fn accepted_changes(book: &[u8]) -> Vec<usize> {
 #[test]
 fn every_changed_byte_of_blocks_of_2_is_refused_or_makes_another_sound_book() {
     // Free are the letters behind those that the nodes show: na of Marina and
-    // et Square. Mar itself stands in two blocks, so one change parts them.
+    // et Square. Mar itself stands in two blocks, so one change parts them. And
+    // the mark may become the folded one, since no letter here parts from its
+    // capital.
     let mut expected = vec![0; 93];
     expected[8..10].fill(255);
     expected[16..25].fill(255);
+    expected[93 - 2] = 1;
     assert_eq!(accepted_changes(&BOOK_BY_2), expected);
 }
 
@@ -62,13 +66,15 @@ fn every_changed_byte_of_blocks_of_4_is_refused_or_makes_another_sound_book() {
     expected[8..10].fill(255);
     expected[13..22].fill(255);
     expected[88 - 14] = 61;
+    expected[88 - 2] = 1;
     assert_eq!(accepted_changes(&BOOK_BY_4), expected);
 }
 
 #[test]
-fn every_changed_byte_of_the_empty_book_is_refused_but_for_its_k() {
+fn every_changed_byte_of_the_empty_book_is_refused_but_for_its_k_and_its_kind() {
     let mut expected = vec![0; 16];
     expected[2] = 63;
+    expected[14] = 1;
     assert_eq!(accepted_changes(&EMPTY_BOOK), expected);
 }
 
@@ -227,36 +233,51 @@ fn another_block_size_with_the_same_blocks_is_another_book() {
 #[test]
 fn a_block_size_outside_1_to_64_is_refused() {
     for block in [0, 65, 128, 256, 65_535] {
-        assert_eq!(book_check(&book_of(block, &mar_names())), no(2));
-        assert_eq!(book_check(&book_of(block, &[])), no(2));
+        assert_eq!(
+            book_check(&book_of(BookKind::Plain, block, &mar_names())),
+            no(2)
+        );
+        assert_eq!(book_check(&book_of(BookKind::Plain, block, &[])), no(2));
     }
     for block in 1..=64 {
-        assert_eq!(book_check(&book_of(block, &mar_names())), yes(3, block));
+        assert_eq!(
+            book_check(&book_of(BookKind::Plain, block, &mar_names())),
+            yes(3, block)
+        );
     }
 }
 
 #[test]
 fn a_book_of_2001_names_is_refused() {
-    let book = book_of(64, &many_names(2001));
+    let book = book_of(BookKind::Plain, 64, &many_names(2001));
     assert!(book.len() < 65_536);
     assert_eq!(book_check(&book), no(2));
-    let book = book_of(64, &many_names(2000));
+    let book = book_of(BookKind::Plain, 64, &many_names(2000));
     assert_eq!(book_check(&book), yes(2000, 64));
 }
 
 #[test]
 fn a_book_with_a_name_of_201_bytes_is_refused() {
-    assert_eq!(book_check(&book_of(1, &[vec![b'a'; 200]])), yes(1, 1));
-    assert_eq!(book_check(&book_of(1, &[vec![b'a'; 201]])), no(2));
+    assert_eq!(
+        book_check(&book_of(BookKind::Plain, 1, &[vec![b'a'; 200]])),
+        yes(1, 1)
+    );
+    assert_eq!(
+        book_check(&book_of(BookKind::Plain, 1, &[vec![b'a'; 201]])),
+        no(2)
+    );
     // Here the rest has one byte, but the name has 201.
     let list = [vec![b'a'; 200], vec![b'a'; 201]];
-    assert_eq!(book_check(&book_of(2, &list)), no(2));
+    assert_eq!(book_check(&book_of(BookKind::Plain, 2, &list)), no(2));
 }
 
 #[test]
 fn a_book_with_an_empty_name_is_refused() {
-    assert_eq!(book_check(&book_of(1, &[vec![]])), no(2));
-    assert_eq!(book_check(&book_of(2, &names(&["", "Mar"]))), no(2));
+    assert_eq!(book_check(&book_of(BookKind::Plain, 1, &[vec![]])), no(2));
+    assert_eq!(
+        book_check(&book_of(BookKind::Plain, 2, &names(&["", "Mar"]))),
+        no(2)
+    );
 }
 
 #[test]
@@ -267,7 +288,7 @@ fn a_book_with_equal_or_falling_names_is_refused() {
         names(&["Mar", "Market Square", "Marina"]),
     ] {
         for block in [1, 2, 64] {
-            assert_eq!(book_check(&book_of(block, &list)), no(2));
+            assert_eq!(book_check(&book_of(BookKind::Plain, block, &list)), no(2));
         }
     }
 }
@@ -275,10 +296,18 @@ fn a_book_with_equal_or_falling_names_is_refused() {
 #[test]
 fn a_book_of_65536_bytes_is_refused() {
     for block in [1, 16] {
-        let longest = book_of(block, &names_for_book_length(65_535, block));
+        let longest = book_of(
+            BookKind::Plain,
+            block,
+            &names_for_book_length(65_535, block),
+        );
         assert_eq!(longest.len(), 65_535);
         assert_eq!(book_check(&longest), yes(320, block));
-        let longer = book_of(block, &names_for_book_length(65_536, block));
+        let longer = book_of(
+            BookKind::Plain,
+            block,
+            &names_for_book_length(65_536, block),
+        );
         assert_eq!(longer.len(), 65_536);
         assert_eq!(book_check(&longer), no(2));
     }

@@ -9,7 +9,7 @@ use common::{
 };
 use model::{
     book_batch, book_build, book_check, book_exact, book_nearest, book_of, book_place, book_range,
-    book_read, book_width, read_list, write_list, Answer, Row,
+    book_read, book_width, read_list, write_list, Answer, BookKind, Row, Rule,
 };
 
 #[test]
@@ -132,7 +132,7 @@ fn a_book_of_65535_bytes_is_built_checked_and_read() {
 fn a_book_of_65536_bytes_is_refused_with_9() {
     for block in [1, 16] {
         let list = names_for_book_length(65_536, block);
-        assert_eq!(book_of(block, &list).len(), 65_536);
+        assert_eq!(book_of(BookKind::Plain, block, &list).len(), 65_536);
         for room_length in [0, 65_535, 65_536, 70_000] {
             assert_build_refused(&write_list(&list), block, room_length, no(9));
         }
@@ -181,7 +181,7 @@ fn a_row_of_kind_5_is_answered_and_one_of_kind_6_is_refused_with_11() {
 #[test]
 fn equal_neighbours_are_refused_with_6() {
     assert_build_refused(b"\x03Mar\x03Mar", 2, 200, no_record(6, 1));
-    assert_eq!(read_list(b"\x01a\x01b\x01b\x01c"), Err((6, 2)));
+    assert_eq!(read_list(Rule::Plain, b"\x01a\x01b\x01b\x01c"), Err((6, 2)));
 }
 
 #[test]

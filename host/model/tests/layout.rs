@@ -5,12 +5,12 @@ mod common;
 use common::{built, mar_names, names};
 use model::layout::{block_table, entries, node_count, node_table, stored_count};
 use model::tree::{tree, Node};
-use model::{book_check, book_of};
+use model::{book_check, book_of, BookKind, Rule};
 
 /// The six numbers of each node, in the order of the node table.
 fn flat(names: &[Vec<u8>]) -> Vec<[usize; 6]> {
     let mut rows = Vec::new();
-    if let Some(root) = tree(names) {
+    if let Some(root) = tree(Rule::Plain, names) {
         push_flat(&root, &mut rows);
     }
     rows
@@ -137,9 +137,9 @@ fn the_nodes_of_the_worked_example() {
 
 #[test]
 fn the_block_size_does_not_touch_the_node_table() {
-    let book = |block| book_of(block, &mar_names());
-    assert_eq!(book(2)[29..77], node_table(&mar_names())[..]);
-    assert_eq!(book(4)[24..72], node_table(&mar_names())[..]);
+    let book = |block| book_of(BookKind::Plain, block, &mar_names());
+    assert_eq!(book(2)[29..77], node_table(Rule::Plain, &mar_names())[..]);
+    assert_eq!(book(4)[24..72], node_table(Rule::Plain, &mar_names())[..]);
 }
 
 #[test]
@@ -202,7 +202,7 @@ fn a_child_stands_with_its_own_row_before_its_next_sibling() {
 fn children_rise_by_symbol_with_the_end_symbol_first() {
     let mut list = vec![b"M".to_vec()];
     list.extend((0..=255).map(|byte| vec![b'M', byte]));
-    let root = tree(&list).expect("there are names");
+    let root = tree(Rule::Plain, &list).expect("there are names");
     let found: Vec<usize> = root.children.iter().map(|child| child.symbol).collect();
     let expected: Vec<usize> = (0..=256).collect();
     assert_eq!(found, expected);
@@ -219,7 +219,7 @@ fn a_root_may_have_depth_0_and_is_written_with_symbol_0() {
 
 /// The sixth field of the root and of each of its children.
 fn widths(texts: &[&str]) -> (usize, Vec<usize>) {
-    let root = tree(&names(texts)).expect("there are names");
+    let root = tree(Rule::Plain, &names(texts)).expect("there are names");
     let below = root.children.iter().map(|child| child.width).collect();
     (root.width, below)
 }
@@ -256,7 +256,7 @@ fn every_width_is_the_greatest_length_in_the_node_s_stretch_of_names() {
 #[test]
 fn the_deepest_chain_has_a_path_of_201_nodes() {
     let list = deepest_list();
-    let root = tree(&list).expect("there are names");
+    let root = tree(Rule::Plain, &list).expect("there are names");
     assert_eq!(longest_path(&root), 201);
     let book = built(&list, 64);
     assert_eq!(book_check(&book), common::yes(201, 64));
@@ -273,15 +273,15 @@ fn the_deepest_chain_has_every_depth_from_0_to_201() {
 
 #[test]
 fn m_reaches_2n_minus_1_where_every_inner_node_has_two_children() {
-    assert_eq!(node_count(&deepest_list()), 2 * 201 - 1);
-    assert_eq!(node_count(&names(&["Mar"])), 1);
-    assert_eq!(node_count(&names(&["Bar", "Mar"])), 3);
+    assert_eq!(node_count(Rule::Plain, &deepest_list()), 2 * 201 - 1);
+    assert_eq!(node_count(Rule::Plain, &names(&["Mar"])), 1);
+    assert_eq!(node_count(Rule::Plain, &names(&["Bar", "Mar"])), 3);
 }
 
 #[test]
 fn m_is_n_plus_1_where_the_root_has_all_leaves() {
     let list: Vec<Vec<u8>> = (0..=255).map(|byte| vec![byte]).collect();
-    assert_eq!(node_count(&list), 257);
+    assert_eq!(node_count(Rule::Plain, &list), 257);
 }
 
 // Trailer
@@ -309,7 +309,7 @@ fn the_parts_stand_without_gaps() {
     let parts = [
         entries(16, &list),
         block_table(16, &list),
-        node_table(&list),
+        node_table(Rule::Plain, &list),
     ];
     let book = built(&list, 16);
     assert_eq!(book[..book.len() - 16], parts.concat());
@@ -335,9 +335,9 @@ fn laying_out_applies_no_limit_and_takes_every_list() {
     let long = vec![vec![b'a'; 300]];
     for list in [twice, falling, nameless, long] {
         for block in [0, 1, 2, 65, 65_536, usize::MAX] {
-            let book = book_of(block, &list);
+            let book = book_of(BookKind::Plain, block, &list);
             assert_eq!(&book[book.len() - 4..], b"NBK2");
         }
     }
-    assert_eq!(book_of(0, &[]).len(), 16);
+    assert_eq!(book_of(BookKind::Plain, 0, &[]).len(), 16);
 }

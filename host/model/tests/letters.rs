@@ -7,7 +7,7 @@ mod common;
 use common::{all_strings, built, names, shared, whole_letters, yes, UNSET};
 use model::questions::{lit, node_reached};
 use model::tree::tree;
-use model::{book_batch, book_nearest, Answer, Row};
+use model::{book_batch, book_nearest, Answer, Row, Rule};
 
 /// A letter, the two bytes of é, the two of an accent that stands behind its
 /// letter, and what is around 128 and 191: 127, 191 itself and 192.
@@ -23,8 +23,8 @@ fn number(name: &[u8], question: &[u8]) -> usize {
 /// What nearest gave before: the first name of the node that the question leads
 /// to, and how many bytes the two share.
 fn old_nearest(names: &[Vec<u8>], question: &[u8]) -> (usize, usize) {
-    let root = tree(names).expect("there are names");
-    let position = node_reached(&root, question).first;
+    let root = tree(Rule::Plain, names).expect("there are names");
+    let position = node_reached(Rule::Plain, &root, question).first;
     (position, shared(&names[position], question))
 }
 

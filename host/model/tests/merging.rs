@@ -5,7 +5,7 @@
 mod common;
 
 use common::{answer, head, many_names, names, no, yes, EMPTY_PART, FILLING, MAR_LIST};
-use model::{list_head, list_judge, list_merge, list_step, read_list, write_list, Answer};
+use model::{list_head, list_judge, list_merge, list_step, read_list, write_list, Answer, Rule};
 
 /// The list of the second operator: Harbour, Marina, Mill.
 const MILL_LIST: &[u8] = b"\x07Harbour\x06Marina\x04Mill";
@@ -66,7 +66,7 @@ fn assert_lists_refused(first: &[u8], second: &[u8], expected: Answer) {
 fn the_merged_list_has_the_names_of_both_and_strictly_rises() {
     assert_merged(MAR_LIST, MILL_LIST, BOTH_LIST);
     let names = names(&["Harbour", "Mar", "Marina", "Market Square", "Mill"]);
-    assert_eq!(read_list(BOTH_LIST), Ok(names));
+    assert_eq!(read_list(Rule::Plain, BOTH_LIST), Ok(names));
 }
 
 #[test]
@@ -440,9 +440,9 @@ fn a_step_does_not_advance_and_shows_an_equal_head_again_from_the_second() {
 
 #[test]
 fn steps_from_0_and_0_on_show_the_merged_names_and_then_the_empty_part() {
-    let [mine, theirs] = [MAR_LIST, MILL_LIST].map(|list| read_list(list).unwrap());
+    let [mine, theirs] = [MAR_LIST, MILL_LIST].map(|list| read_list(Rule::Plain, list).unwrap());
     let (mut passed_mine, mut passed_theirs) = (0, 0);
-    for name in read_list(BOTH_LIST).unwrap() {
+    for name in read_list(Rule::Plain, BOTH_LIST).unwrap() {
         let shown = list_step(MAR_LIST, MILL_LIST, passed_mine, passed_theirs);
         assert_eq!(shown, name);
         passed_mine += usize::from(mine.get(passed_mine) == Some(&name));

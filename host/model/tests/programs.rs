@@ -3,7 +3,7 @@
 mod common;
 
 use common::{built, mar_names, names, names_for_book_length, BOOK_BY_2, EMPTY_BOOK, MAR_LIST};
-use model::{book_check, book_of, listing, make_book, write_list};
+use model::{book_check, book_of, listing, make_book, write_list, BookKind};
 
 /// The listing as text, for comparing.
 fn listed(book: &[u8]) -> String {
@@ -106,7 +106,7 @@ fn an_escape_does_not_count_in_the_length() {
 #[test]
 fn the_building_program_writes_the_book_with_k_16() {
     let book = make_book(MAR_LIST).expect("a good list");
-    assert_eq!(book, book_of(16, &mar_names()));
+    assert_eq!(book, book_of(BookKind::Plain, 16, &mar_names()));
     // One block, as in the book with k = 4; only k differs.
     let mut expected = common::BOOK_BY_4;
     expected[88 - 14] = 16;

@@ -5,7 +5,7 @@ mod common;
 use common::{built, many_names, mar_names, names, no, yes, BOOK_BY_2, EMPTY_BOOK};
 use model::questions::{node_reached, Kind};
 use model::tree::tree;
-use model::{book_exact, book_nearest, book_place, book_range, book_width, Answer};
+use model::{book_exact, book_nearest, book_place, book_range, book_width, Answer, Rule};
 
 /// All five answers to one question, in the order of the kinds.
 fn all_five(book: &[u8], question: &[u8]) -> [Answer; 5] {
@@ -149,10 +149,10 @@ fn nearest_takes_the_end_symbol_where_the_depth_is_the_question_s_length() {
     // end symbol still leads to the leaf. Both nodes begin with the same name,
     // so only the node itself tells, not the answer.
     let list = names(&["Lar", "Mar", "Marina", "Nar"]);
-    let root = tree(&list).expect("there are names");
-    let leaf = node_reached(&root, b"Mar");
+    let root = tree(Rule::Plain, &list).expect("there are names");
+    let leaf = node_reached(Rule::Plain, &root, b"Mar");
     assert_eq!((leaf.symbol, leaf.depth, leaf.first), (0, 4, 1));
-    let inner = node_reached(&root, b"Ma");
+    let inner = node_reached(Rule::Plain, &root, b"Ma");
     assert_eq!((inner.symbol, inner.depth, inner.first), (78, 3, 1));
     let book = built(&list, 4);
     assert_eq!(book_nearest(&book, b"Mar"), yes(1, 3));

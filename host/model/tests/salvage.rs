@@ -7,7 +7,7 @@ mod common;
 use common::{
     built, many_names, names, no, yes, BOOK_BY_2, BOOK_BY_4, EMPTY_BOOK, FILLING, MAR_LIST,
 };
-use model::{book_of, book_salvage, write_list, Answer, Kept};
+use model::{book_of, book_salvage, write_list, Answer, BookKind, Kept};
 
 /// A report row before a call, so that every change shows.
 const UNSET: Kept = Kept {
@@ -405,7 +405,7 @@ fn n_is_at_most_2000() {
     let by_one = built(&many_names(2000), 1);
     assert_salvaged(&by_one, &write_list(&many_names(2000)), &[kept(1); 2000]);
     // One more, laid out as it should be, and told alone.
-    let more = book_of(64, &many_names(2001));
+    let more = book_of(BookKind::Plain, 64, &many_names(2001));
     assert_refused(&more, 70_000, 32, no(13));
     let at = most.len() - 16;
     assert_refused(&changed(&most, at, &number(2001)), 70_000, 32, no(13));
@@ -419,7 +419,7 @@ fn n_is_at_most_2000() {
 fn k_is_1_to_64() {
     let list = many_names(130);
     for (block, rows) in [(1, 130), (2, 65), (63, 3), (64, 3)] {
-        let (records, report) = salvaged(&book_of(block, &list), rows);
+        let (records, report) = salvaged(&book_of(BookKind::Plain, block, &list), rows);
         assert_eq!(records, write_list(&list));
         assert!(report.iter().all(|row| row.kept == 1));
     }
@@ -432,7 +432,12 @@ fn k_is_1_to_64() {
         (256, 1),
         (257, 1),
     ] {
-        assert_refused(&book_of(block, &list), 70_000, rows, no(13));
+        assert_refused(
+            &book_of(BookKind::Plain, block, &list),
+            70_000,
+            rows,
+            no(13),
+        );
     }
     for block in [0, 65, 255, 256, 65_535] {
         let data = changed(&EMPTY_BOOK, 2, &number(block));

@@ -9,7 +9,7 @@
 mod common;
 
 use common::{all_strings, no, shared, yes, Random, BOOK_BY_2, BOOK_BY_4, FILLING};
-use model::{book_of, book_salvage, write_list, Kept};
+use model::{book_of, book_salvage, write_list, BookKind, Kept};
 use std::collections::{BTreeMap, BTreeSet};
 use std::ops::Range;
 
@@ -275,7 +275,7 @@ fn damage(random: &mut Random, data: &mut [u8], part: Range<usize>) {
 /// A random book with damage in its entries, tables or trailer, or in none.
 fn random_data(random: &mut Random) -> Vec<u8> {
     let names = random_names(random);
-    let mut data = book_of(1 + random.below(6), &names);
+    let mut data = book_of(BookKind::Plain, 1 + random.below(6), &names);
     let end = data.len() - 16;
     let (block_table, node_table) = (number(&data, end + 4), number(&data, end + 6));
     let whole = data.len();

@@ -6,7 +6,7 @@ mod common;
 use common::{built, mar_names, yes, BOOK_BY_2, BOOK_BY_4, EMPTY_BOOK, FILLING, MAR_LIST};
 use model::{
     book_build, book_check, book_exact, book_nearest, book_of, book_place, book_range, book_read,
-    book_width, listing, open,
+    book_width, listing, open, BookKind, Rule,
 };
 
 // A book in full
@@ -14,13 +14,13 @@ use model::{
 #[test]
 fn block_size_2_gives_the_bytes() {
     assert_eq!(built(&mar_names(), 2), BOOK_BY_2);
-    assert_eq!(book_of(2, &mar_names()), BOOK_BY_2);
+    assert_eq!(book_of(BookKind::Plain, 2, &mar_names()), BOOK_BY_2);
 }
 
 #[test]
 fn block_size_4_gives_the_bytes() {
     assert_eq!(built(&mar_names(), 4), BOOK_BY_4);
-    assert_eq!(book_of(4, &mar_names()), BOOK_BY_4);
+    assert_eq!(book_of(BookKind::Plain, 4, &mar_names()), BOOK_BY_4);
 }
 
 #[test]
@@ -44,16 +44,19 @@ fn the_parts_have_the_lengths_that_the_document_counts() {
         model::layout::block_table(2, &mar_names()),
         [0x00, 0x00, 0x0A, 0x00]
     );
-    assert_eq!(model::layout::node_table(&mar_names()).len(), 48);
-    assert_eq!(model::layout::node_count(&mar_names()), 4);
+    assert_eq!(
+        model::layout::node_table(Rule::Plain, &mar_names()).len(),
+        48
+    );
+    assert_eq!(model::layout::node_count(Rule::Plain, &mar_names()), 4);
 }
 
 #[test]
 fn checking_the_two_books_gives_n_and_k() {
     assert_eq!(book_check(&BOOK_BY_2), yes(3, 2));
     assert_eq!(book_check(&BOOK_BY_4), yes(3, 4));
-    assert_eq!(open(&BOOK_BY_2), Some((2, mar_names())));
-    assert_eq!(open(&BOOK_BY_4), Some((4, mar_names())));
+    assert_eq!(open(&BOOK_BY_2), Some((BookKind::Plain, 2, mar_names())));
+    assert_eq!(open(&BOOK_BY_4), Some((BookKind::Plain, 4, mar_names())));
 }
 
 #[test]

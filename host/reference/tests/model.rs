@@ -1,6 +1,6 @@
 //! Held to the second program, on random and on damaged books.
 
-use model::book_of;
+use model::{book_of, BookKind};
 use vectors::damage::{self, spoil_book, spoil_bytes, spoil_names};
 use vectors::lists::{self, Names};
 use vectors::pieces::Pieces;
@@ -95,7 +95,7 @@ fn builds_the_same_books() {
         if random.once_in(4) {
             spoil_bytes(&mut random, &mut list);
         }
-        let length = book_of(block.max(1), &names).len();
+        let length = book_of(BookKind::Plain, block.max(1), &names).len();
         let room = random.between(length.saturating_sub(2), length + 2);
         let (mut one, mut other) = (vec![7; room], vec![7; room]);
         let built = reference::book_build(&list, block, &mut one);
@@ -142,9 +142,11 @@ fn answers_the_same_of_sound_and_of_damaged_books() {
         let names = any_names(&mut random);
         let block = random.between(1, 64);
         let book = match random.below(4) {
-            0 => book_of(block, &names),
-            1 if names.len() > 1 => hostile::any(&mut random, block, &names).bytes(),
-            _ => spoil_book(&mut random, block, &names),
+            0 => book_of(BookKind::Plain, block, &names),
+            1 if names.len() > 1 => {
+                hostile::any(&mut random, BookKind::Plain, block, &names).bytes()
+            }
+            _ => spoil_book(&mut random, BookKind::Plain, block, &names),
         };
         same_answers(&mut random, &book, &names);
     }
@@ -154,7 +156,7 @@ fn answers_the_same_of_sound_and_of_damaged_books() {
 fn refuses_every_change_that_the_second_program_refuses() {
     let mut random = Random::from_seed(3);
     for (block, names) in [(2, lists::example()), (16, lists::stops())] {
-        let pieces = Pieces::of(block, &names);
+        let pieces = Pieces::of(BookKind::Plain, block, &names);
         let book = pieces.bytes();
         let mut spoilt = damage::changed_bytes(&book);
         spoilt.extend(damage::cut_bytes(&book));
@@ -195,7 +197,7 @@ fn refuses_every_hostile_table() {
 #[test]
 fn answers_all_around_every_name() {
     for (block, names) in [(2, lists::example()), (7, lists::stops())] {
-        let book = book_of(block, &names);
+        let book = book_of(BookKind::Plain, block, &names);
         for question in around_all(&names) {
             same_questions(&book, &question);
         }
@@ -210,7 +212,7 @@ fn lights_as_much_of_every_question_about_letters() {
     let longest = [b"a", &[128; 199][..]].concat();
     let lists = lists::lettered().into_iter().map(|(_, names)| names);
     for names in lists.chain([vec![longest]]) {
-        let book = book_of(2, &names);
+        let book = book_of(BookKind::Plain, 2, &names);
         for question in about_letters(&names) {
             same_questions(&book, &question);
         }
@@ -222,7 +224,7 @@ fn answers_a_batch_row_by_row() {
     let mut random = Random::from_seed(4);
     for _ in 0..300 {
         let names = any_names(&mut random);
-        let book = book_of(random.between(1, 64), &names);
+        let book = book_of(BookKind::Plain, random.between(1, 64), &names);
         let batch = batches::any_batch(&mut random, &names);
         let rows = batch.rows();
         let places = batches::any_places(&mut random, rows.len());

@@ -1,6 +1,6 @@
 //! Salvage held to the second program, on sound and on damaged cards.
 
-use model::book_of;
+use model::{book_of, BookKind};
 use reference::{book_salvage, Kept};
 use vectors::damage::spoil_bytes;
 use vectors::hostile;
@@ -71,18 +71,18 @@ fn any_names(random: &mut Random) -> Names {
 /// A card with some names.
 fn any_card(random: &mut Random) -> Vec<u8> {
     let block = random.between(1, 9);
-    book_of(block, &any_names(random))
+    book_of(BookKind::Plain, block, &any_names(random))
 }
 
 #[test]
 fn salvages_sound_cards_alike() {
     let mut random = Random::from_seed(1);
-    hold(&book_of(7, &[]));
+    hold(&book_of(BookKind::Plain, 7, &[]));
     for _ in 0..300 {
         hold(&any_card(&mut random));
     }
-    hold(&book_of(1, &lists::pairs(2000)));
-    hold(&book_of(64, &lists::fan(&[b'a'; 199])));
+    hold(&book_of(BookKind::Plain, 1, &lists::pairs(2000)));
+    hold(&book_of(BookKind::Plain, 64, &lists::fan(&[b'a'; 199])));
 }
 
 #[test]
@@ -108,7 +108,7 @@ fn salvages_damaged_cards_alike() {
 
 #[test]
 fn salvages_one_changed_byte_alike_wherever_it_is() {
-    let card = book_of(2, &lists::stops()[..7]);
+    let card = book_of(BookKind::Plain, 2, &lists::stops()[..7]);
     for at in 0..card.len() {
         for byte in 0..=255 {
             let mut card = card.clone();

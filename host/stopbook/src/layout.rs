@@ -7,7 +7,7 @@
 //! numbers without meaning, and never fails.
 
 use crate::text::grouped;
-use format::{MARK, NODE, TRAILER};
+use format::{BookKind, NODE, TRAILER};
 use mistrogu::LONGEST_BOOK;
 
 /// The numbers of a trailer.
@@ -110,7 +110,7 @@ pub fn why_no_book(bytes: &[u8]) -> String {
         "it was built before nodes had widths, and such books are no longer taken; \
          build it again from its names"
             .to_string()
-    } else if !bytes.ends_with(&MARK) {
+    } else if BookKind::of_marked(bytes).is_none() {
         "it does not end with a book's mark; stopbook build makes a book of names".to_string()
     } else if told != length {
         format!("its trailer tells of {told} bytes, and it has {length}; copy it again, whole")

@@ -29,7 +29,7 @@ use crate::random::Random;
 use crate::rooms::printed_answer;
 use crate::sets::{length_bytes, Call, Case, Set};
 use crate::worst::{dearest_check, dearest_question};
-use model::{book_exact, book_nearest, book_of, book_place, book_range, book_width};
+use model::{book_exact, book_nearest, book_of, book_place, book_range, book_width, BookKind};
 
 /// A question, asked in all five kinds.
 #[derive(Clone)]
@@ -110,7 +110,7 @@ fn of_bytes(why: &str, book: Vec<u8>, questions: Names) -> Cases {
 
 /// Asks these questions of the book of these names.
 fn of_names(why: &str, names: &Names, block: usize, questions: Names) -> Cases {
-    of_bytes(why, book_of(block, names), questions)
+    of_bytes(why, book_of(BookKind::Plain, block, names), questions)
 }
 
 /// Asks all that stands around each of the names.
@@ -397,8 +397,8 @@ fn longest_books() -> Cases {
 /// Bytes that are no book: 2, before 1 and 10. Some changes make another book.
 fn spoilt_books() -> Cases {
     let names = lists::example();
-    let pieces = Pieces::of(2, &names);
-    let bytes = book_of(2, &names);
+    let pieces = Pieces::of(BookKind::Plain, 2, &names);
+    let bytes = book_of(BookKind::Plain, 2, &names);
     let spoilt = [
         changed_bytes(&bytes),
         other_counts(&pieces),
@@ -406,7 +406,7 @@ fn spoilt_books() -> Cases {
         other_widths(&pieces),
         gaps(&pieces),
         old_books(&pieces),
-        changed_bytes(&book_of(9, &Names::new())),
+        changed_bytes(&book_of(BookKind::Plain, 9, &Names::new())),
     ];
     let long = vec![b'M'; 201];
     let questions = [&b"Marina"[..], b"", b"Market", &long, b"Maxim", b"Mar"];
@@ -436,10 +436,10 @@ fn random_books() -> Cases {
         let (purpose, book, asked) = match turn % 8 {
             7 => (
                 "spoilt at random",
-                spoil_book(&mut random, block, &names),
+                spoil_book(&mut random, BookKind::Plain, block, &names),
                 2,
             ),
-            _ => ("random", book_of(block, &names), 12),
+            _ => ("random", book_of(BookKind::Plain, block, &names), 12),
         };
         let questions = (0..asked).map(|_| any_question(&mut random, &names));
         cases.extend(of_bytes(purpose, book, questions.collect()));

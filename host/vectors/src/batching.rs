@@ -36,7 +36,7 @@ use crate::random::Random;
 use crate::rooms::printed_answer;
 use crate::sets::{length_bytes, Call, Case, Set};
 use format::MOST_ROWS;
-use model::{book_batch, book_of, Answer};
+use model::{book_batch, book_of, Answer, BookKind};
 use std::ops::RangeInclusive;
 
 /// A call of `book_batch`.
@@ -143,12 +143,12 @@ fn of_bytes(why: &str, book: Vec<u8>, batches: Vec<Batch>) -> Cases {
 
 /// Asks these batches of the book of these names.
 fn of_names(why: &str, names: &Names, block: usize, batches: Vec<Batch>) -> Cases {
-    of_bytes(why, book_of(block, names), batches)
+    of_bytes(why, book_of(BookKind::Plain, block, names), batches)
 }
 
 /// The book of 93 bytes.
 fn example_book() -> Vec<u8> {
-    book_of(2, &lists::example())
+    book_of(BookKind::Plain, 2, &lists::example())
 }
 
 /// All rows over one buffer, in as many batches as they take.
@@ -318,7 +318,11 @@ fn unequal_numbers() -> Cases {
     [
         with_places("unequal numbers", book, batches.clone()),
         with_places("unequal numbers, no book", spoilt, batches.clone()),
-        with_places("unequal numbers, no names", book_of(3, &[]), batches),
+        with_places(
+            "unequal numbers, no names",
+            book_of(BookKind::Plain, 3, &[]),
+            batches,
+        ),
     ]
     .concat()
 }
@@ -633,7 +637,7 @@ fn large_books() -> Cases {
 /// another book.
 fn spoilt_books() -> Cases {
     let names = lists::example();
-    let pieces = Pieces::of(2, &names);
+    let pieces = Pieces::of(BookKind::Plain, 2, &names);
     let spoilt = [
         changed_bytes(&example_book()),
         other_counts(&pieces),
@@ -674,8 +678,11 @@ fn random_batches() -> Cases {
         };
         let block = random.between(1, 9);
         let (purpose, book) = match turn % 10 {
-            8 => ("spoilt at random", spoil_book(&mut random, block, &names)),
-            _ => ("random", book_of(block, &names)),
+            8 => (
+                "spoilt at random",
+                spoil_book(&mut random, BookKind::Plain, block, &names),
+            ),
+            _ => ("random", book_of(BookKind::Plain, block, &names)),
         };
         let batches = (0..2).map(|_| {
             let batch = any_batch(&mut random, &names);

@@ -26,7 +26,7 @@ use crate::lists::{self, followed, Names};
 use crate::random::Random;
 use crate::rooms::{filled_room, printed_outcome};
 use crate::sets::{length_bytes, word, Call, Case, Set};
-use model::{book_build, book_of, write_list};
+use model::{book_build, book_of, write_list, BookKind};
 
 /// The longest room of a case.
 pub const LONGEST_ROOM: usize = 70_000;
@@ -97,7 +97,7 @@ fn of_names(why: &str, names: &Names, block: u64, room: usize) -> Case<Build> {
 /// A case with these names and a room that has so many bytes more than the
 /// book.
 fn fitting(why: &str, names: &Names, block: u64, spare: usize) -> Case<Build> {
-    let room = book_of(block as usize, names).len() + spare;
+    let room = book_of(BookKind::Plain, block as usize, names).len() + spare;
     of_names(why, names, block, room)
 }
 

@@ -22,7 +22,7 @@ use crate::random::Random;
 use crate::rooms::printed_answer;
 use crate::sets::{Call, Case, Set};
 use format::MOST_NAMES;
-use model::{book_check, book_of};
+use model::{book_check, book_of, BookKind};
 
 /// A call of `book_check`. Nothing goes into it but the book.
 #[derive(Clone)]
@@ -67,7 +67,10 @@ fn of_bytes(why: impl Into<String>, book: impl Into<Vec<u8>>) -> Case<Check> {
 
 /// A case with the layout of these names, whether a book allows them or not.
 fn of_names(why: &str, names: &Names, block: usize) -> Case<Check> {
-    of_bytes(format!("{why}, k {block}"), book_of(block, names))
+    of_bytes(
+        format!("{why}, k {block}"),
+        book_of(BookKind::Plain, block, names),
+    )
 }
 
 /// A case for each spoilt book.
@@ -92,7 +95,7 @@ fn no_names() -> Cases {
     let mut cases: Cases = [1, 2, 16, 64, 0, 65, 256, 258]
         .map(|block| of_names("no names", &names, block))
         .into();
-    let book = book_of(2, &names);
+    let book = book_of(BookKind::Plain, 2, &names);
     cases.extend(of_spoilt("no names", changed_bytes(&book)));
     cases
 }
@@ -120,7 +123,7 @@ fn longest_names() -> Cases {
     let mut cases: Cases = [0, 1, 2]
         .map(|number| of_names("longest name", &lists::longest_of_three(number), 2))
         .into();
-    let middle = Pieces::of(2, &lists::longest_of_three(1));
+    let middle = Pieces::of(BookKind::Plain, 2, &lists::longest_of_three(1));
     cases.extend(of_spoilt("longest in the middle", other_widths(&middle)));
     cases
 }
@@ -170,7 +173,7 @@ fn longest_books() -> Cases {
     let small = lists::binary(lists::MOST_BINARY);
     let fits = lists::with_book_length(&small, 1, 65_535);
     let too_long = lists::with_book_length(&small, 1, 65_536);
-    let book = book_of(4, &lists::example());
+    let book = book_of(BookKind::Plain, 4, &lists::example());
     let behind = [vec![0; 65_536], book].concat();
     vec![
         of_names("book of 65,535", &fits, 1),
@@ -200,7 +203,7 @@ fn lists_that_are_none() -> Cases {
 
 /// Books cut short, and with bytes before or behind them.
 fn bytes_around_a_book() -> Cases {
-    let book = book_of(2, &lists::example());
+    let book = book_of(BookKind::Plain, 2, &lists::example());
     let mut cases = of_spoilt("cut", cut_bytes(&book));
     cases.push(of_bytes("a byte behind", [&book[..], &[0]].concat()));
     cases.push(of_bytes("a 1 behind", [&book[..], b"1"].concat()));
@@ -231,7 +234,10 @@ fn no_books_at_all() -> Cases {
 /// which are the same in both, in the first alone.
 fn spoilt_example() -> Cases {
     let names = lists::example();
-    let (by_two, by_four) = (Pieces::of(2, &names), Pieces::of(4, &names));
+    let (by_two, by_four) = (
+        Pieces::of(BookKind::Plain, 2, &names),
+        Pieces::of(BookKind::Plain, 4, &names),
+    );
     [
         of_spoilt("93", changed_bytes(&by_two.bytes())),
         of_spoilt("93", other_pieces(&by_two)),
@@ -245,7 +251,7 @@ fn spoilt_example() -> Cases {
 /// spoilt.
 fn spoilt_tree() -> Cases {
     let names = lists::texts(&["a", "ab", "abba", "abbot", "b", "ba", "bad", "c"]);
-    let pieces = Pieces::of(3, &names);
+    let pieces = Pieces::of(BookKind::Plain, 3, &names);
     of_spoilt("small tree", other_pieces(&pieces))
 }
 
@@ -258,14 +264,14 @@ fn spoilt_at_the_end() -> Cases {
         ("100 children", (0..100).map(|byte| vec![byte; 3]).collect()),
     ] {
         for (field, what) in NODE_FIELDS.iter().enumerate() {
-            let mut pieces = Pieces::of(64, &names);
+            let mut pieces = Pieces::of(BookKind::Plain, 64, &names);
             if let Some(node) = pieces.nodes.last_mut() {
                 node[field] += 1;
             }
             let purpose = format!("{purpose}, last node, {what} one more");
             cases.push(of_bytes(purpose, pieces.bytes()));
         }
-        let mut pieces = Pieces::of(64, &names);
+        let mut pieces = Pieces::of(BookKind::Plain, 64, &names);
         pieces.nodes[0][WIDTH] -= 1;
         let purpose = format!("{purpose}, root, width one less");
         cases.push(of_bytes(purpose, pieces.bytes()));
@@ -283,7 +289,7 @@ fn spoilt_at_random() -> Cases {
         let count = random.between(1, 12);
         let names = lists::grown(&mut random, letters, count, 5);
         let block = random.between(1, 6);
-        let book = spoil_book(&mut random, block, &names);
+        let book = spoil_book(&mut random, BookKind::Plain, block, &names);
         cases.push(of_bytes("spoilt at random", book));
     }
     cases

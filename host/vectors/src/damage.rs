@@ -6,8 +6,9 @@
 use crate::lists::Names;
 use crate::pieces::{Node, Pieces, Trailer, DEPTH, FIRST, NAMES, NODE_FIELDS, WIDTH};
 use crate::random::Random;
-use format::{MARK, NODE, TRAILER};
+use format::{NODE, TRAILER};
 use model::names::leading_equal;
+use model::BookKind;
 
 /// Spoils one place in a list of names: a name twice, two neighbours swapped, a
 /// name followed by its own beginning, or a name that is too long.
@@ -296,7 +297,10 @@ pub fn old_books(book: &Pieces) -> Spoilt {
     let marked = changed(book, |pieces| pieces.trailer.mark = OLD_MARK);
     vec![
         ("no widths, old mark".to_string(), without_widths(OLD_MARK)),
-        ("no widths, new mark".to_string(), without_widths(MARK)),
+        (
+            "no widths, new mark".to_string(),
+            without_widths(book.trailer.mark),
+        ),
         ("old mark".to_string(), marked),
     ]
 }
@@ -352,8 +356,8 @@ pub fn other_pieces(book: &Pieces) -> Spoilt {
 
 /// Spoils a book at random: up to three bytes, as a list would be spoilt, or
 /// one of its pieces.
-pub fn spoil_book(random: &mut Random, block: usize, names: &Names) -> Vec<u8> {
-    let mut pieces = Pieces::of(block, names);
+pub fn spoil_book(random: &mut Random, kind: BookKind, block: usize, names: &Names) -> Vec<u8> {
+    let mut pieces = Pieces::of(kind, block, names);
     let settled = random.once_in(2);
     match random.below(8) {
         0 | 1 => spoil_node(random, &mut pieces.nodes),

@@ -4,12 +4,14 @@
 //! check that believes them goes wrong. It goes down further than any book is
 //! deep, goes round in one place, or leaves the table. Symbols, first names,
 //! numbers of nodes and widths are as each node's place says, but where the kind
-//! says otherwise, so that nothing else ends a walk that goes down.
+//! says otherwise, so that nothing else ends a walk that goes down. Nodes are made
+//! of the names as the kind of book compares them, so one way serves all.
 
 use crate::lists::{self, Names};
 use crate::pieces::{Node, Pieces, DEPTH, NAMES, NODES};
 use crate::random::Random;
 use format::{LARGEST_BLOCK, LONGEST_BOOK, LONGEST_NAME, MOST_NAMES};
+use model::BookKind;
 
 /// So many names make a nest that is deeper than any book, and still small.
 pub const DEEPER_THAN_ANY: usize = 240;
@@ -44,33 +46,37 @@ impl Kind {
         }
     }
 
-    /// The book of this kind over these names, at least two.
-    pub fn over(&self, block: usize, names: &Names) -> Pieces {
-        with_nodes(block, names, (self.nodes)(names))
+    /// The book of this kind over these names, at least two, with the mark and the
+    /// symbols of a kind of book.
+    pub fn over(&self, book: BookKind, block: usize, names: &Names) -> Pieces {
+        let nodes = (self.nodes)(&lists::compared(book, names));
+        with_nodes(book, block, names, nodes)
     }
 
-    /// The book of this kind with so many names, at least 4, or with as many as
-    /// there can be.
+    /// The plain book of this kind with so many names, at least 4, or with as many
+    /// as there can be.
     pub fn with_names(&self, count: usize) -> Pieces {
-        self.over(LARGEST_BLOCK, &(self.names)(count))
+        self.over(BookKind::Plain, LARGEST_BLOCK, &(self.names)(count))
     }
 
-    /// The largest book of this kind: with as many names as there can be, which
+    /// The largest plain book of this kind: with as many names as there can be, which
     /// are as long as they can be while this book, and the one with the right
     /// nodes, have at most 65,535 bytes.
     pub fn largest(&self) -> Pieces {
         let names = (self.names)(MOST_NAMES);
-        let right = Pieces::of(LARGEST_BLOCK, &names).trailer.length;
+        let right = Pieces::of(BookKind::Plain, LARGEST_BLOCK, &names)
+            .trailer
+            .length;
         let longer = right.max(self.with_names(MOST_NAMES).trailer.length);
         let more = space_behind(&names).min(LONGEST_BOOK - longer);
         let names = lists::with_book_length(&names, LARGEST_BLOCK, right + more);
-        self.over(LARGEST_BLOCK, &names)
+        self.over(BookKind::Plain, LARGEST_BLOCK, &names)
     }
 }
 
 /// The book of these names, with other nodes.
-fn with_nodes(block: usize, names: &Names, nodes: Vec<Node>) -> Pieces {
-    let mut book = Pieces::of(block, names);
+fn with_nodes(kind: BookKind, block: usize, names: &Names, nodes: Vec<Node>) -> Pieces {
+    let mut book = Pieces::of(kind, block, names);
     book.nodes = nodes;
     book.settle_trailer();
     book
@@ -195,7 +201,7 @@ fn lying_rows() -> Vec<Kind> {
 
 /// The right nodes, with what some of them tell of their number.
 fn lying(names: &Names, is_liar: IsLiar, lie: MakeNumber) -> Vec<Node> {
-    let right = Pieces::of(LARGEST_BLOCK, names).nodes;
+    let right = Pieces::of(BookKind::Plain, LARGEST_BLOCK, names).nodes;
     let mut nodes = right.clone();
     for at in (0..nodes.len()).filter(|&at| is_liar(&right, at)) {
         nodes[at][NODES] = lie(right[at][NODES]);
@@ -277,7 +283,7 @@ fn leaves_under(depth: usize, names: &Names) -> Vec<Node> {
 
 /// The right nodes, with a nest in place of the deepest fork's row.
 fn below_the_deepest(names: &Names) -> Vec<Node> {
-    let mut nodes = Pieces::of(LARGEST_BLOCK, names).nodes;
+    let mut nodes = Pieces::of(BookKind::Plain, LARGEST_BLOCK, names).nodes;
     let is_deepest = |&at: &usize| (nodes[at][NAMES] > 1).then_some(nodes[at][DEPTH]);
     let deepest = (0..nodes.len()).max_by_key(is_deepest).unwrap_or(0);
     let [_, depth, _, of_names, ..] = nodes[deepest];
@@ -306,19 +312,20 @@ fn put_row(
 
 /// Any book of some kind over these names, at least two, or one with a nest of
 /// any steps in place of any fork's row.
-pub fn any(random: &mut Random, block: usize, names: &Names) -> Pieces {
+pub fn any(random: &mut Random, kind: BookKind, block: usize, names: &Names) -> Pieces {
     if random.once_in(2) {
         let kinds = kinds();
-        return random.one_of(&kinds).over(block, names);
+        return random.one_of(&kinds).over(kind, block, names);
     }
-    let mut book = Pieces::of(block, names);
+    let mut book = Pieces::of(kind, block, names);
     let nodes = &book.nodes;
     let forks: Vec<usize> = (0..nodes.len())
         .filter(|&at| nodes[at][NAMES] > 1)
         .collect();
     let fork = *random.one_of(&forks);
     let nest = any_forks(random, nodes[fork]);
-    put_row(&mut book.nodes, fork, names, nest.into_iter());
+    let compared = lists::compared(kind, names);
+    put_row(&mut book.nodes, fork, &compared, nest.into_iter());
     book.settle_trailer();
     book
 }

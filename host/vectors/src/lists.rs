@@ -6,7 +6,7 @@
 
 use crate::random::Random;
 use format::LONGEST_NAME;
-use model::{book_of, write_list};
+use model::{book_of, write_list, BookKind};
 
 /// Names in the order of the list.
 pub type Names = Vec<Vec<u8>>;
@@ -27,10 +27,32 @@ pub fn followed(names: &Names, bytes: &[u8]) -> Vec<u8> {
 }
 
 /// Sorts the names and drops those that are there twice.
-pub fn sorted(mut names: Names) -> Names {
-    names.sort();
-    names.dedup();
+pub fn sorted(names: Names) -> Names {
+    sorted_for(BookKind::Plain, names)
+}
+
+/// Sorts the names as this kind of book does, and drops those that it can't tell
+/// from the one before: of equal names the first one given stays.
+pub fn sorted_for(kind: BookKind, mut names: Names) -> Names {
+    names.sort_by_cached_key(|name| compared_name(kind, name));
+    names.dedup_by_key(|name| compared_name(kind, name));
     names
+}
+
+/// The names as this kind of book compares them, each byte as the one that has
+/// its symbol by the plain rule. In that shape byte strings are told apart, and
+/// stand in order, as their names do in the book.
+pub fn compared(kind: BookKind, names: &Names) -> Names {
+    let names = names.iter();
+    names.map(|name| compared_name(kind, name)).collect()
+}
+
+/// The same of one name, or of a question.
+pub fn compared_name(kind: BookKind, name: &[u8]) -> Vec<u8> {
+    let bytes = name.iter();
+    bytes
+        .map(|&byte| (kind.rule().symbol(byte) - 1) as u8)
+        .collect()
 }
 
 /// Seventy stops as a town might have them: ten places with seven endings. Some
@@ -185,7 +207,7 @@ fn tail(number: usize, length: usize) -> Vec<u8> {
 /// shared counts, order and tree stay. The names have to leave space for it.
 pub fn with_book_length(names: &Names, block: usize, wanted: usize) -> Names {
     let mut names = names.clone();
-    let mut missing = wanted - book_of(block, &names).len();
+    let mut missing = wanted - book_of(BookKind::Plain, block, &names).len();
     // What the last names have no space for goes to earlier ones in the next round.
     while missing > 0 {
         let left = missing;
@@ -201,7 +223,11 @@ pub fn with_book_length(names: &Names, block: usize, wanted: usize) -> Names {
         }
         assert!(missing < left, "too little space");
     }
-    assert_eq!(book_of(block, &names).len(), wanted, "too little space");
+    assert_eq!(
+        book_of(BookKind::Plain, block, &names).len(),
+        wanted,
+        "too little space"
+    );
     names
 }
 

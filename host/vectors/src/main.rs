@@ -98,7 +98,7 @@ fn write_lists(folder: &Path) -> Result<(), String> {
 fn write_books(folder: &Path, block: &str) -> Result<(), String> {
     let block = block.parse().map_err(|error| format!("{block}: {error}"))?;
     for (name, names) in shapes() {
-        let book = model::book_of(block, &names);
+        let book = model::book_of(model::BookKind::Plain, block, &names);
         write_file(folder, &format!("{name}.book"), &book)?;
     }
     Ok(())

@@ -5,8 +5,9 @@
 //! the layout is broken and nothing else tells of it.
 
 use crate::lists::Names;
-use format::{MARK, NODE, TRAILER};
+use format::{NODE, TRAILER};
 use model::layout::{block_table, node_table, stored_count};
+use model::BookKind;
 use std::ops::Range;
 
 /// The numbers of a node.
@@ -72,9 +73,9 @@ pub struct Pieces {
 }
 
 impl Pieces {
-    /// The book of these names with this block size.
-    pub fn of(block: usize, names: &Names) -> Pieces {
-        let nodes = numbers(&node_table(names));
+    /// The book of this kind of these names with this block size.
+    pub fn of(kind: BookKind, block: usize, names: &Names) -> Pieces {
+        let nodes = numbers(&node_table(kind.rule(), names));
         let nodes = nodes
             .chunks(NODE_FIELDS.len())
             .map(|node| node.try_into().unwrap());
@@ -85,7 +86,7 @@ impl Pieces {
             nodes: nodes.collect(),
             trailer: Trailer {
                 block,
-                mark: MARK,
+                mark: kind.mark(),
                 ..Trailer::default()
             },
         };

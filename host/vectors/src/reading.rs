@@ -31,7 +31,7 @@ use crate::random::Random;
 use crate::rooms::{filled_room, printed_outcome};
 use crate::sets::{length_bytes, word, Call, Case, Set};
 use format::MOST_NAMES;
-use model::{book_of, book_read};
+use model::{book_of, book_read, BookKind};
 
 /// The longest room of a case.
 pub const LONGEST_ROOM: usize = 1000;
@@ -105,14 +105,14 @@ fn with_rooms(names: &Names, positions: impl IntoIterator<Item = usize>) -> Vec<
 /// Reads these positions of a book.
 fn at_positions(why: &str, names: &Names, block: usize, positions: &[usize]) -> Cases {
     let calls = with_rooms(names, positions.iter().copied());
-    of_bytes(why, book_of(block, names), &calls)
+    of_bytes(why, book_of(BookKind::Plain, block, names), &calls)
 }
 
 /// Reads every position of a book, then one past the last and the largest.
 fn all_positions(why: &str, names: &Names, block: usize) -> Cases {
     let mut calls = with_rooms(names, 0..names.len());
     calls.extend([(names.len() as u64, 300), (u64::MAX, 300)]);
-    of_bytes(why, book_of(block, names), &calls)
+    of_bytes(why, book_of(BookKind::Plain, block, names), &calls)
 }
 
 /// No bytes: 2, before 3 and 4.
@@ -128,7 +128,7 @@ fn worked_example() -> Cases {
     for block in [2, 4] {
         cases.extend(all_positions("worked example", &names, block));
     }
-    let book = book_of(2, &names);
+    let book = book_of(BookKind::Plain, 2, &names);
     let high = [256, 65_536, 1 << 32, (1 << 32) + 2, 1 << 63].map(|position| (position, 30));
     cases.extend(of_bytes("high positions", book.clone(), &high));
     let no_room = [(3, 0), (4, 0), (u64::MAX, 0)];
@@ -142,7 +142,11 @@ fn no_names() -> Cases {
     blocks
         .flat_map(|block| {
             let calls = [(0, 0), (0, 9), (1, 9), (u64::MAX, 9)];
-            of_bytes("no names", book_of(block, &Names::new()), &calls)
+            of_bytes(
+                "no names",
+                book_of(BookKind::Plain, block, &Names::new()),
+                &calls,
+            )
         })
         .collect()
 }
@@ -194,8 +198,16 @@ fn numbers_of_names() -> Cases {
     let past = [(2000, 9), (1999, 2), (65_536, 9)];
     [
         at_positions("2,000 names", &full, 64, &[0, 63, 64, 1023, 1999]),
-        of_bytes("past 2,000 names", book_of(64, &full), &past),
-        of_bytes("2,001 names", book_of(64, &lists::pairs(2001)), &[(0, 9)]),
+        of_bytes(
+            "past 2,000 names",
+            book_of(BookKind::Plain, 64, &full),
+            &past,
+        ),
+        of_bytes(
+            "2,001 names",
+            book_of(BookKind::Plain, 64, &lists::pairs(2001)),
+            &[(0, 9)],
+        ),
     ]
     .concat()
 }
@@ -210,8 +222,8 @@ fn longest_books() -> Cases {
 /// Bytes that are no book: 2, before 3 and 4.
 fn spoilt_books() -> Cases {
     let names = lists::example();
-    let pieces = Pieces::of(2, &names);
-    let bytes = book_of(2, &names);
+    let pieces = Pieces::of(BookKind::Plain, 2, &names);
+    let bytes = book_of(BookKind::Plain, 2, &names);
     let spoilt = [
         changed_bytes(&bytes),
         other_counts(&pieces),
@@ -239,7 +251,7 @@ fn random_books() -> Cases {
         let names = lists::grown(&mut random, letters, 12, 9);
         let block = random.between(1, 6);
         if turn % 4 == 0 {
-            let book = spoil_book(&mut random, block, &names);
+            let book = spoil_book(&mut random, BookKind::Plain, block, &names);
             cases.extend(of_bytes("spoilt at random", book, &[(0, 90), (3, 90)]));
         } else {
             let positions = [0; 3].map(|_| random.below(names.len()));

@@ -36,8 +36,8 @@ use crate::random::Random;
 use crate::rooms::{filled_room, printed_outcome};
 use crate::sets::{length_bytes, Call, Case, Set};
 use crate::wear::WAYS;
-use format::{LONGEST_NAME, MARK, MOST_NAMES, NODE, TRAILER};
-use model::{book_of, book_salvage, Kept};
+use format::{LONGEST_NAME, MOST_NAMES, NODE, TRAILER};
+use model::{book_of, book_salvage, BookKind, Kept};
 
 /// The longest room of a case: for 2,000 records of 200 bytes.
 pub const LONGEST_ROOM: usize = MOST_NAMES * (1 + LONGEST_NAME);
@@ -180,7 +180,7 @@ pub fn records_length(data: &[u8], rows: usize) -> usize {
 
 /// The book of 93 bytes.
 fn example() -> Vec<u8> {
-    book_of(2, &lists::example())
+    book_of(BookKind::Plain, 2, &lists::example())
 }
 
 /// The 93 bytes with others from this one on.
@@ -192,7 +192,7 @@ fn worn_example(at: usize, bytes: &[u8]) -> Vec<u8> {
 
 /// The book of these names without any nodes, which a salvage does not miss.
 fn without_nodes(block: usize, names: &Names) -> Pieces {
-    let mut pieces = Pieces::of(block, names);
+    let mut pieces = Pieces::of(BookKind::Plain, block, names);
     pieces.nodes.clear();
     pieces.settle_trailer();
     pieces
@@ -210,7 +210,7 @@ fn no_bytes() -> Cases {
 fn worked_example() -> Cases {
     [2, 4, 1, 64]
         .map(|block| {
-            let book = book_of(block, &lists::example());
+            let book = book_of(BookKind::Plain, block, &lists::example());
             fitting(format!("worked example, k {block}"), book)
         })
         .into()
@@ -255,10 +255,20 @@ fn order_of_refusals() -> Cases {
 fn no_names() -> Cases {
     let none = Names::new();
     let mut cases: Cases = [1, 2, 64, 0, 65, 256]
-        .map(|block| fitting(format!("no names, k {block}"), book_of(block, &none)))
+        .map(|block| {
+            fitting(
+                format!("no names, k {block}"),
+                book_of(BookKind::Plain, block, &none),
+            )
+        })
         .into();
-    cases.push(of_lengths("no names, a row", book_of(2, &none), 9, 1));
-    let mut pieces = Pieces::of(4, &lists::example());
+    cases.push(of_lengths(
+        "no names, a row",
+        book_of(BookKind::Plain, 2, &none),
+        9,
+        1,
+    ));
+    let mut pieces = Pieces::of(BookKind::Plain, 4, &lists::example());
     pieces.starts.clear();
     pieces.settle_trailer();
     pieces.trailer.names = 0;
@@ -266,7 +276,7 @@ fn no_names() -> Cases {
     pieces.entries.clear();
     pieces.settle_trailer();
     cases.push(fitting("no names, four nodes", pieces.bytes()));
-    let mut empty = Pieces::of(1, &lists::example());
+    let mut empty = Pieces::of(BookKind::Plain, 1, &lists::example());
     empty.entries.clear();
     empty.settle_trailer();
     empty.trailer.names = 3;
@@ -335,7 +345,7 @@ fn first_counts() -> Cases {
     let names = lists::texts(&["Mar", "Mara", "Marb", "Marc", "Mard"]);
     let mut cases = Vec::new();
     for position in [2, 4] {
-        let mut pieces = Pieces::of(2, &names);
+        let mut pieces = Pieces::of(BookKind::Plain, 2, &names);
         pieces.store(position, 3);
         pieces.settle();
         let why = format!("first count 3 of name {position}");
@@ -402,7 +412,7 @@ fn trailers() -> Cases {
         let high = worn_example(at + 1, &[1]);
         cases.push(fitting(format!("{what} 256 more"), high));
     }
-    for (at, byte) in MARK.iter().enumerate() {
+    for (at, byte) in BookKind::Plain.mark().iter().enumerate() {
         let data = worn_example(89 + at, &[byte ^ 1]);
         cases.push(fitting(format!("mark, byte {at}"), data));
     }
@@ -420,12 +430,12 @@ fn other_trailers() -> Cases {
         fitting("all numbers 0", worn_example(77, &[0; 12])),
     ];
     for block in [0, 2, 3, 64, 65] {
-        let mut data = book_of(4, &lists::example());
+        let mut data = book_of(BookKind::Plain, 4, &lists::example());
         data[74] = block;
         cases.push(fitting(format!("k {block} for three names"), data));
     }
     for names in [0, 1, 2, 4, 5] {
-        let mut data = book_of(4, &lists::example());
+        let mut data = book_of(BookKind::Plain, 4, &lists::example());
         data[72] = names;
         cases.push(fitting(format!("n {names} for three names"), data));
     }
@@ -434,7 +444,10 @@ fn other_trailers() -> Cases {
 
 /// A byte between the parts, with the trailer's numbers moved along or not.
 fn parts_apart() -> Cases {
-    of_spoilt("93", gaps(&Pieces::of(2, &lists::example())))
+    of_spoilt(
+        "93",
+        gaps(&Pieces::of(BookKind::Plain, 2, &lists::example())),
+    )
 }
 
 /// The 93 bytes with a byte more or less before or behind them; and so many more
@@ -463,7 +476,7 @@ fn nodes() -> Cases {
         fitting("a node's byte", worn_example(40, &[1])),
     ];
     for count in [0, 1, 3, 5, 6, 100] {
-        let mut pieces = Pieces::of(2, &lists::example());
+        let mut pieces = Pieces::of(BookKind::Plain, 2, &lists::example());
         pieces.nodes.resize(count, [65_535; NODE / 2]);
         pieces.settle_trailer();
         cases.push(fitting(format!("{count} nodes"), pieces.bytes()));
@@ -551,7 +564,7 @@ fn worn_at_random() -> Cases {
             let count = random.between(1, 14);
             let names = lists::grown(&mut random, letters, count, 4);
             let block = random.between(1, 4);
-            let data = (way.worn)(&mut random, Pieces::of(block, &names));
+            let data = (way.worn)(&mut random, Pieces::of(BookKind::Plain, block, &names));
             let why = format!("worn at random, {}", way.how);
             let rows = blocks_told(&data);
             cases.push(match random.below(8) {

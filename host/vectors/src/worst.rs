@@ -9,9 +9,9 @@
 use crate::lists::{sorted, Names};
 use crate::random::Random;
 use format::{LONGEST_BOOK, LONGEST_NAME, MOST_NAMES, NODE, TRAILER};
-use model::book_of;
 use model::layout::stored_count;
 use model::names::leading_equal;
+use model::{book_of, BookKind};
 
 /// A list, a block size and a question.
 #[derive(Clone)]
@@ -29,7 +29,7 @@ pub struct Worst {
 impl Worst {
     /// The book.
     pub fn book(&self) -> Vec<u8> {
-        book_of(self.block, &self.names)
+        book_of(BookKind::Plain, self.block, &self.names)
     }
 
     /// How many of its first names fit a book. No book is made for it: a search

@@ -227,7 +227,7 @@ fn nearest_lights_no_half_letter_in_any_case_and_less_than_is_shared_in_many() {
         }
         if book != case.book {
             book = case.book;
-            names = open(book).expect("an accepted book").1;
+            names = open(book).expect("an accepted book").2;
         }
         less += usize::from(hold_nearest(&names, case.question, position, number));
     }

@@ -353,7 +353,7 @@ fn nearest_lights_no_half_letter_in_any_row_and_less_than_is_shared_in_many() {
         if answer.code != 0 {
             continue;
         }
-        let (_, names) = open(case.book).expect("an accepted book");
+        let (_, _, names) = open(case.book).expect("an accepted book");
         for (row, answer) in case.rows.iter().zip(answers) {
             if row.kind == 4 && answer.code == 0 {
                 let question = &case.questions[row.start..row.start + row.length];

@@ -1,6 +1,6 @@
 //! Batches are what their functions say.
 
-use model::{book_batch, book_of, Answer};
+use model::{book_batch, book_of, Answer, BookKind};
 use std::collections::BTreeSet;
 use vectors::batches::{any_batch, any_places, Batch};
 use vectors::lists::{self, Names};
@@ -19,7 +19,7 @@ fn random_batches_bring_every_refusal_and_any_names_will_do() {
         (lists::stops(), [0, 1, 11].to_vec()),
         (Names::new(), [0, 1, 10, 11].to_vec()),
     ] {
-        let book = book_of(16, &names);
+        let book = book_of(BookKind::Plain, 16, &names);
         let mut random = Random::from_seed(4);
         let (mut calls, mut codes) = (BTreeSet::new(), BTreeSet::new());
         let mut counts = BTreeSet::new();

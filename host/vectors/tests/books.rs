@@ -1,6 +1,6 @@
 //! Books in pieces are books, and spoiling them leads to refusal 2.
 
-use model::{book_check, book_of};
+use model::{book_check, book_of, BookKind};
 use vectors::damage::spoil_book;
 use vectors::lists;
 use vectors::pieces::Pieces;
@@ -16,8 +16,8 @@ fn pieces_are_put_together_as_the_layout_says() {
         (lists::mirror(b'a', b'b', 200), 64),
         (lists::pairs(2000), 1),
     ] {
-        let mut pieces = Pieces::of(block, &names);
-        let book = book_of(block, &names);
+        let mut pieces = Pieces::of(BookKind::Plain, block, &names);
+        let book = book_of(BookKind::Plain, block, &names);
         assert_eq!(pieces.bytes(), book);
         pieces.settle();
         assert_eq!(pieces.bytes(), book);
@@ -30,7 +30,7 @@ fn spoilt_books_are_mostly_refused() {
     for seed in 0..1000 {
         let random = &mut Random::from_seed(seed);
         let names = lists::grown(random, b"abc", 9, 6);
-        let book = spoil_book(random, 4, &names);
+        let book = spoil_book(random, BookKind::Plain, 4, &names);
         accepted += usize::from(book_check(&book).code == 0);
     }
     assert!((20..400).contains(&accepted), "{accepted}");

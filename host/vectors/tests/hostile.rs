@@ -1,7 +1,7 @@
 //! Hostile books are none, and by their nodes alone.
 
 use format::LONGEST_BOOK;
-use model::{book_check, book_of};
+use model::{book_check, book_of, BookKind};
 use vectors::hostile::{any, kinds, Kind, DEEPER_THAN_ANY};
 use vectors::lists;
 use vectors::pieces::Pieces;
@@ -25,7 +25,7 @@ fn all_books() -> Vec<(String, Pieces)> {
 /// The same pieces with the right nodes.
 fn with_right_nodes(book: &Pieces) -> Pieces {
     let mut right = book.clone();
-    right.nodes = Pieces::of(book.trailer.block, &book.made_of).nodes;
+    right.nodes = Pieces::of(BookKind::Plain, book.trailer.block, &book.made_of).nodes;
     right.settle_trailer();
     right
 }
@@ -45,7 +45,11 @@ fn with_the_right_nodes_the_same_pieces_are_a_book() {
     for (how, book) in all_books() {
         let right = with_right_nodes(&book);
         let bytes = right.bytes();
-        assert_eq!(bytes, book_of(book.trailer.block, &book.made_of), "{how}");
+        assert_eq!(
+            bytes,
+            book_of(BookKind::Plain, book.trailer.block, &book.made_of),
+            "{how}"
+        );
         assert_eq!(book_check(&bytes).code, 0, "{how}");
         let front = right.trailer.node_table;
         assert_eq!(bytes[..front], book.bytes()[..front], "{how}");
@@ -78,7 +82,7 @@ fn levels(book: &Pieces) -> usize {
 #[test]
 fn a_walk_that_believes_the_nodes_goes_down_deeper_than_any_book() {
     let deepest = [lists::chain(b'a', 200), lists::texts(&["b"])].concat();
-    assert_eq!(levels(&Pieces::of(64, &deepest)), 200);
+    assert_eq!(levels(&Pieces::of(BookKind::Plain, 64, &deepest)), 200);
     let goes_deep = |kind: &Kind| {
         let books = [kind.with_names(2000), kind.largest()];
         books.iter().all(|book| levels(book) > 400)
@@ -125,7 +129,7 @@ fn books_of_any_kind_over_any_names_are_mostly_refused() {
         let mut names = lists::grown(random, b"abc", count, 6);
         names.extend(lists::texts(&["d", "de"]));
         let block = random.between(1, 64);
-        let book = any(random, block, &names).bytes();
+        let book = any(random, BookKind::Plain, block, &names).bytes();
         accepted += usize::from(book_check(&book).code == 0);
     }
     assert!(accepted < 100, "{accepted}");

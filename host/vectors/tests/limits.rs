@@ -17,11 +17,23 @@ fn the_second_program_has_the_same_limits() {
     ] {
         assert_eq!(shared, own);
     }
-    assert_eq!(format::MARK, layout::MARK);
 }
 
 #[test]
-fn the_second_program_has_the_same_kinds() {
+fn the_second_program_has_the_same_kinds_of_book() {
+    let shared = format::BookKind::ALL.map(|kind| (format!("{kind:?}"), kind.mark()));
+    let own = model::BookKind::ALL.map(|kind| (format!("{kind:?}"), kind.mark()));
+    assert_eq!(shared, own);
+    for (shared, own) in format::BookKind::ALL.iter().zip(model::BookKind::ALL) {
+        for byte in 0..=255u8 {
+            let symbol = usize::from(shared.compared(byte)) + 1;
+            assert_eq!(symbol, own.rule().symbol(byte), "{own:?} {byte}");
+        }
+    }
+}
+
+#[test]
+fn the_second_program_has_the_same_kinds_of_question() {
     for number in 0..=7 {
         let shared = format::Kind::from_number(number).map(|kind| format!("{kind:?}"));
         let own = model::questions::Kind::of_number(number).map(|kind| format!("{kind:?}"));

@@ -2,7 +2,7 @@
 
 use model::names::{is_sound_list, leading_equal};
 use model::tree::tree;
-use model::{book_of, read_list, write_list};
+use model::{book_of, read_list, write_list, BookKind, Rule};
 use vectors::damage::{spoil_bytes, spoil_names};
 use vectors::lists::{self, Names};
 use vectors::random::Random;
@@ -25,7 +25,7 @@ fn the_fixed_lists_are_sound() {
         ("alike", lists::alike(2000)),
     ];
     for (shape, names) in shapes.into_iter().chain(lists::lettered()) {
-        assert!(is_sound_list(&names), "{shape}");
+        assert!(is_sound_list(Rule::Plain, &names), "{shape}");
     }
 }
 
@@ -51,7 +51,10 @@ fn the_random_lists_are_sound_and_the_same_each_time() {
             (flat, lists::grown(random, b"ab", 60, 30))
         };
         let (flat, grown) = make(seed);
-        assert!(is_sound_list(&flat) && is_sound_list(&grown), "seed {seed}");
+        assert!(
+            is_sound_list(Rule::Plain, &flat) && is_sound_list(Rule::Plain, &grown),
+            "seed {seed}"
+        );
         assert_eq!(make(seed), (flat, grown));
     }
 }
@@ -62,7 +65,10 @@ fn names_are_shared_out_to_sound_lists_with_and_without_names_in_both() {
     let (mut apart, mut together) = (0, 0);
     for seed in 0..100 {
         let [one, other] = lists::shared_out(&mut Random::from_seed(seed), &names);
-        assert!(is_sound_list(&one) && is_sound_list(&other), "seed {seed}");
+        assert!(
+            is_sound_list(Rule::Plain, &one) && is_sound_list(Rule::Plain, &other),
+            "seed {seed}"
+        );
         assert!([&one[..], &other]
             .concat()
             .iter()
@@ -76,22 +82,34 @@ fn names_are_shared_out_to_sound_lists_with_and_without_names_in_both() {
 
 #[test]
 fn a_fan_has_the_widest_node_and_a_binary_list_the_most_nodes() {
-    assert_eq!(tree(&lists::fan(b"x")).unwrap().children.len(), 257);
+    assert_eq!(
+        tree(Rule::Plain, &lists::fan(b"x")).unwrap().children.len(),
+        257
+    );
     let most = lists::MOST_BINARY;
-    assert_eq!(tree(&lists::binary(most)).unwrap().nodes, 2 * most - 1);
-    let book = |count| book_of(1, &lists::binary(count)).len();
+    assert_eq!(
+        tree(Rule::Plain, &lists::binary(most)).unwrap().nodes,
+        2 * most - 1
+    );
+    let book = |count| book_of(BookKind::Plain, 1, &lists::binary(count)).len();
     assert!(book(most) <= 65_535 && book(1680) <= 65_535 && book(1681) > 65_535);
 }
 
 #[test]
 fn a_wanted_book_length_is_met_and_changes_no_node_but_leaves() {
     for (names, block) in [(lists::stops(), 7), (lists::binary(100), 1)] {
-        let before = book_of(block, &names).len();
+        let before = book_of(BookKind::Plain, block, &names).len();
         for more in [0, 1, 500] {
             let padded = lists::with_book_length(&names, block, before + more);
-            assert!(is_sound_list(&padded));
-            assert_eq!(book_of(block, &padded).len(), before + more);
-            assert_eq!(tree(&padded).unwrap().nodes, tree(&names).unwrap().nodes);
+            assert!(is_sound_list(Rule::Plain, &padded));
+            assert_eq!(
+                book_of(BookKind::Plain, block, &padded).len(),
+                before + more
+            );
+            assert_eq!(
+                tree(Rule::Plain, &padded).unwrap().nodes,
+                tree(Rule::Plain, &names).unwrap().nodes
+            );
         }
     }
 }
@@ -109,7 +127,9 @@ fn spoiling_leads_to_refusals_5_and_6_and_sometimes_to_none() {
         if seed % 2 == 1 {
             spoil_bytes(random, &mut list);
         }
-        let code = read_list(&list).err().map_or(0, |(code, _)| code);
+        let code = read_list(Rule::Plain, &list)
+            .err()
+            .map_or(0, |(code, _)| code);
         seen[code] += 1;
     }
     assert!(seen[0] > 10 && seen[5] > 10 && seen[6] > 10, "{seen:?}");

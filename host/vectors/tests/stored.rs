@@ -4,7 +4,7 @@
 //! set's cases in its data folder, all expected lines in its file `stdout`. Those
 //! that a test of the linked archive runs stand beside that test.
 
-use model::{book_of, listing, make_book, write_list};
+use model::{book_of, listing, make_book, write_list, BookKind};
 use std::fs;
 use std::path::{Path, PathBuf};
 use vectors::sets::LONGEST_FILE;
@@ -68,7 +68,7 @@ fn the_stored_book_is_what_the_second_program_builds() {
 
 #[test]
 fn the_stored_listings_are_what_the_second_program_prints() {
-    let book = book_of(2, &lists::example());
+    let book = book_of(BookKind::Plain, 2, &lists::example());
     let folder = program_folder("list_book");
     assert_stored(&folder.join("stdin"), &book);
     assert_stored(&folder.join("stdout"), &listing(&book));
@@ -83,8 +83,8 @@ fn the_stored_listings_are_what_the_second_program_prints() {
     let others = [
         vec![],
         b"\x03Mar\x06Marina".to_vec(),
-        book_of(64, &[]),
-        book_of(3, &escaped.map(<[u8]>::to_vec)),
+        book_of(BookKind::Plain, 64, &[]),
+        book_of(BookKind::Plain, 3, &escaped.map(<[u8]>::to_vec)),
     ];
     let today: Vec<u8> = others.iter().flat_map(|bytes| listing(bytes)).collect();
     assert_stored(&program_folder("list_others").join("stdout"), &today);

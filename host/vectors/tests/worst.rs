@@ -1,7 +1,7 @@
 //! Lists that cost most, and those of which one parameter doubles, are lists.
 
 use format::{LONGEST_BOOK, LONGEST_NAME, LONGEST_QUESTION, MOST_NAMES};
-use model::book_of;
+use model::{book_of, BookKind};
 use vectors::growth;
 use vectors::random::Random;
 use vectors::worst::{any, chains, dearest_check, dearest_question, fitting_chains, Comb, Worst};
@@ -21,7 +21,7 @@ fn assert_sound(worst: &Worst) {
 /// As many of the first names fit as it says, and one more does not.
 fn assert_fitting(worst: &Worst) {
     let (what, fitting) = (&worst.what, worst.fitting());
-    let length = |count: usize| book_of(worst.block, &worst.names[..count]).len();
+    let length = |count: usize| book_of(BookKind::Plain, worst.block, &worst.names[..count]).len();
     assert!(length(fitting) <= LONGEST_BOOK, "{what}");
     if fitting < worst.names.len().min(MOST_NAMES) {
         assert!(length(fitting + 1) > LONGEST_BOOK, "{what}");

@@ -4,7 +4,7 @@
 // Each test file is a program of its own and uses only some of these.
 #![allow(dead_code)]
 
-use model::{book_build, write_list, Answer, Head};
+use model::{book_build, build_kind, write_list, Answer, BookKind, Head};
 
 /// The book of Mar, Marina, Market Square with k = 2. Not produced by any
 /// code: each byte is copied from document 01, "A book in full", but for each
@@ -108,11 +108,16 @@ pub const fn head(list: usize, start: usize, length: usize) -> Head {
     }
 }
 
-/// Builds into a room that is large enough for any book, asserts that the room
-/// past the book is untouched, and gives the book.
+/// Builds a plain book into a room that is large enough for any, asserts that the
+/// room past the book is untouched, and gives the book.
 pub fn built(names: &[Vec<u8>], block: usize) -> Vec<u8> {
+    built_as(BookKind::Plain, names, block)
+}
+
+/// The same with a book of this kind.
+pub fn built_as(kind: BookKind, names: &[Vec<u8>], block: usize) -> Vec<u8> {
     let mut room = vec![FILLING; 65_536];
-    let answer = book_build(&write_list(names), block, &mut room);
+    let answer = build_kind(kind, &write_list(names), block, &mut room);
     assert_eq!((answer.code, answer.second), (0, 0), "{answer:?}");
     assert!(room[answer.first..].iter().all(|&byte| byte == FILLING));
     room.truncate(answer.first);
@@ -169,6 +174,11 @@ pub fn names_for_book_length(wanted: usize, block: usize) -> Vec<Vec<u8>> {
     }
     assert_eq!(missing, 0, "320 names of 200 bytes cannot hold so much");
     names
+}
+
+/// The bytes with the mark of this kind in place of their last four.
+pub fn marked_as(kind: BookKind, book: &[u8]) -> Vec<u8> {
+    [&book[..book.len() - 4], &kind.mark()].concat()
 }
 
 /// Every string over these bytes with at most so many of them.
