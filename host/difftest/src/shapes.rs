@@ -161,5 +161,5 @@ fn as_large_as_can_be(random: &mut Random, block: usize) -> Names {
     if book_of(BookKind::Plain, block, &names).len() > wanted {
         return names;
     }
-    lists::with_book_length(&names, block, wanted)
+    lists::with_book_length(BookKind::Plain, &names, block, wanted)
 }

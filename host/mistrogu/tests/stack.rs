@@ -36,7 +36,7 @@ fn hostile_books() -> Vec<Lent> {
 /// Lists of the deepest, the widest and the largest books.
 fn extreme_lists() -> [(&'static str, Names); 6] {
     let deepest = [lists::chain(b'a', 200), lists::texts(&["b"])].concat();
-    let largest = lists::with_book_length(&lists::binary(2000), 16, LONGEST_BOOK);
+    let largest = lists::with_book_length(BookKind::Plain, &lists::binary(2000), 16, LONGEST_BOOK);
     [
         ("chain", deepest),
         ("mirror", lists::mirror(b'a', b'b', 200)),

@@ -1,15 +1,18 @@
 //! A name read back and the five questions, of a book that passed the check.
 
-use crate::bytes::{byte, leading_equal, part, put, two};
+use crate::bytes::{byte, leading_letters, part, put, two};
 use crate::checking::Parts;
+use crate::rules::Rule;
 use crate::{LONGEST_NAME, LONGEST_PATH, NODE};
+use core::marker::PhantomData;
 use core::mem::MaybeUninit;
 
-/// A book that passed the check.
+/// A book that passed the check of its kind.
 #[derive(Clone, Copy)]
-pub struct Sound<'lent> {
+pub struct Sound<'lent, R> {
     book: &'lent [u8],
     parts: Parts,
+    rule: PhantomData<R>,
 }
 
 /// A name that was rebuilt.
@@ -30,7 +33,7 @@ enum Field {
 }
 
 /// The node with the names that share most with a question, how many bytes
-/// they share, and the next symbol of the name that was reached.
+/// they share as letters, and the next symbol of the name that was reached.
 struct Spot {
     node: usize,
     shared: usize,
@@ -39,10 +42,10 @@ struct Spot {
 
 /// Symbol number so and so of a name or a question; 0 at its end.
 #[inline(always)]
-fn symbol_at(name: &[u8], at: usize) -> usize {
+fn symbol_at<R: Rule>(name: &[u8], at: usize) -> usize {
     // SAFETY: where it is read the place lies inside.
     if at < name.len() {
-        unsafe { byte(name, at) + 1 }
+        unsafe { R::symbol(byte(name, at)) }
     } else {
         0
     }
@@ -60,14 +63,18 @@ fn lit(question: &[u8], shared: usize) -> usize {
     at
 }
 
-impl<'lent> Sound<'lent> {
+impl<'lent, R: Rule> Sound<'lent, R> {
     /// The book, to be asked.
     ///
     /// # Safety
     ///
     /// The check gave these parts for it.
-    pub unsafe fn new(book: &'lent [u8], parts: Parts) -> Sound<'lent> {
-        Sound { book, parts }
+    pub unsafe fn new(book: &'lent [u8], parts: Parts) -> Sound<'lent, R> {
+        Sound {
+            book,
+            parts,
+            rule: PhantomData,
+        }
     }
 
     /// How many names there are.
@@ -153,7 +160,7 @@ impl<'lent> Sound<'lent> {
             if question.len() < depth {
                 break;
             }
-            let symbol = symbol_at(question, depth);
+            let symbol = symbol_at::<R>(question, depth);
             let child = self.seek(node, symbol);
             let end = node + self.field(node, Field::Nodes);
             if child >= end || self.field(child, Field::Symbol) != symbol {
@@ -194,7 +201,7 @@ impl<'lent> Sound<'lent> {
         let noted = |at: usize| usize::from(path.get_unchecked(at).assume_init());
         let name = self.name(self.field(last, Field::First));
         let name = part(&name.bytes, 0, name.length);
-        let shared = leading_equal(question, name);
+        let shared = leading_letters::<R>(question, name, 0);
         let mut at = length - 1;
         while at > 0 {
             if self.field(noted(at - 1), Field::Depth) < shared {
@@ -205,7 +212,7 @@ impl<'lent> Sound<'lent> {
         Spot {
             node: noted(at),
             shared,
-            symbol: symbol_at(name, shared),
+            symbol: symbol_at::<R>(name, shared),
         }
     }
 
@@ -216,7 +223,7 @@ impl<'lent> Sound<'lent> {
     /// The spot is this question's.
     #[inline(always)]
     unsafe fn seat(self, question: &[u8], spot: &Spot) -> usize {
-        let symbol = symbol_at(question, spot.shared);
+        let symbol = symbol_at::<R>(question, spot.shared);
         let first = self.field(spot.node, Field::First);
         let past = first + self.field(spot.node, Field::Names);
         if spot.shared < self.field(spot.node, Field::Depth) {
@@ -239,8 +246,8 @@ impl<'lent> Sound<'lent> {
         let (position, name) = unsafe { self.reach(question) };
         // SAFETY: a name lies inside its room.
         let name = unsafe { part(&name.bytes, 0, name.length) };
-        let is_same =
-            name.len() == question.len() && leading_equal(name, question) == question.len();
+        let is_same = name.len() == question.len()
+            && leading_letters::<R>(name, question, 0) == question.len();
         if is_same {
             (position, 1)
         } else {
@@ -304,7 +311,10 @@ impl<'lent> Sound<'lent> {
         unsafe {
             let (position, name) = self.reach(question);
             let name = part(&name.bytes, 0, name.length);
-            Some((position, lit(question, leading_equal(name, question))))
+            Some((
+                position,
+                lit(question, leading_letters::<R>(name, question, 0)),
+            ))
         }
     }
 }

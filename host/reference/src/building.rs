@@ -3,23 +3,29 @@
 use crate::bytes::{byte, part, put, put_two};
 use crate::calls::{refused, Answer};
 use crate::records::judge_record;
-use crate::{LONGEST_NAME, MARK, MOST_NAMES, NODE, TRAILER};
+use crate::rules::Rule;
+use crate::{LONGEST_NAME, MOST_NAMES, NODE, TRAILER};
+use core::marker::PhantomData;
 use core::mem::replace;
 
 /// What judging notes of each name: its length, and what it shares with the one
-/// before.
-pub struct Noted {
+/// before, as letters for the nodes and as bytes for the entries.
+pub struct Noted<R> {
     names: usize,
     lengths: [u8; MOST_NAMES],
     shares: [u8; MOST_NAMES],
+    counts: [u8; MOST_NAMES],
+    rule: PhantomData<R>,
 }
 
-impl Default for Noted {
-    fn default() -> Noted {
+impl<R> Default for Noted<R> {
+    fn default() -> Noted<R> {
         Noted {
             names: 0,
             lengths: [0; MOST_NAMES],
             shares: [0; MOST_NAMES],
+            counts: [0; MOST_NAMES],
+            rule: PhantomData,
         }
     }
 }
@@ -40,25 +46,26 @@ impl Sizes {
 }
 
 /// Judges the records one by one. Refusals: 5, 6, 7, with the record's number.
-pub fn judge(list: &[u8], noted: &mut Noted) -> Result<(), Answer> {
+pub fn judge<R: Rule>(list: &[u8], noted: &mut Noted<R>) -> Result<(), Answer> {
     let mut before: &[u8] = &[];
     let mut at = 0;
     while at < list.len() {
         let count = noted.names;
         // SAFETY: there is a byte.
-        let judged = unsafe { judge_record(list, at, before) };
-        let (name, shared) = judged.map_err(|code| refused(code, count))?;
+        let judged = unsafe { judge_record::<R>(list, at, before) };
+        let record = judged.map_err(|code| refused(code, count))?;
         if count == MOST_NAMES {
             return Err(refused(7, count));
         }
         // SAFETY: there are places for so many names.
         unsafe {
-            *noted.lengths.get_unchecked_mut(count) = name.len() as u8;
-            *noted.shares.get_unchecked_mut(count) = shared as u8;
+            *noted.lengths.get_unchecked_mut(count) = record.name.len() as u8;
+            *noted.shares.get_unchecked_mut(count) = record.letters as u8;
+            *noted.counts.get_unchecked_mut(count) = record.bytes as u8;
         }
         noted.names += 1;
-        before = name;
-        at += 1 + name.len();
+        before = record.name;
+        at += 1 + before.len();
     }
     Ok(())
 }
@@ -92,11 +99,11 @@ unsafe fn innermost(stack: &[Open; MOST_OPEN], count: usize) -> isize {
 
 /// The symbol that leads to a name from a node of this depth.
 #[inline(always)]
-unsafe fn symbol_of(name: &[u8], depth: isize) -> usize {
+unsafe fn symbol_of<R: Rule>(name: &[u8], depth: isize) -> usize {
     if depth == OUTSIDE || depth as usize == name.len() {
         return 0;
     }
-    byte(name, depth as usize) + 1
+    R::symbol(byte(name, depth as usize))
 }
 
 impl Open {
@@ -119,7 +126,7 @@ impl Open {
     }
 }
 
-impl Noted {
+impl<R: Rule> Noted<R> {
     /// Where the parts will stand.
     pub fn sizes(&self, block: usize) -> Sizes {
         let mut open = [0u8; MOST_OPEN];
@@ -136,7 +143,7 @@ impl Noted {
                 if left == 0 {
                     left = block;
                 } else {
-                    entries -= usize::from(shared);
+                    entries -= usize::from(*self.counts.get_unchecked(position));
                 }
                 left -= 1;
                 while depth > 0 && *open.get_unchecked(depth - 1) > shared {
@@ -177,7 +184,7 @@ impl Noted {
         for (place, number) in numbers.into_iter().enumerate() {
             put_two(room, at + 2 * place, number);
         }
-        put(room, at + 12, &MARK);
+        put(room, at + 12, &R::MARK);
     }
 
     /// Writes the entries and the block table.
@@ -192,7 +199,7 @@ impl Noted {
         let mut left = 0;
         for position in 0..self.names {
             let length = usize::from(*self.lengths.get_unchecked(position));
-            let mut stored = usize::from(*self.shares.get_unchecked(position));
+            let mut stored = usize::from(*self.counts.get_unchecked(position));
             if left == 0 {
                 put_two(room, slot, at);
                 slot += 2;
@@ -239,7 +246,7 @@ impl Noted {
                 let above = innermost(&stack, depth);
                 at -= NODE;
                 written += 1;
-                let symbol = symbol_of(name, above.max(shared));
+                let symbol = symbol_of::<R>(name, above.max(shared));
                 node.put(room, at, symbol, position, written);
                 if above <= shared {
                     break;

@@ -1,5 +1,7 @@
 //! Bytes and numbers at an offset, without a test.
 
+use crate::rules::Rule;
+
 /// The byte at this offset.
 ///
 /// # Safety
@@ -65,13 +67,28 @@ pub fn leading_equal(one: &[u8], other: &[u8]) -> usize {
     at
 }
 
-/// Whether a name that shares so many bytes with the one before is above it.
+/// How many leading bytes two names have in common as letters, of which so many
+/// are known to be.
+#[inline(always)]
+pub fn leading_letters<R: Rule>(one: &[u8], other: &[u8], known: usize) -> usize {
+    let least = one.len().min(other.len());
+    let mut at = known;
+    // SAFETY: the place is below both lengths.
+    while at < least && unsafe { R::letter(byte(one, at)) == R::letter(byte(other, at)) } {
+        at += 1;
+    }
+    at
+}
+
+/// Whether a name that shares so many letters with the one before is above it.
 ///
 /// # Safety
 ///
 /// They do share so many.
 #[inline(always)]
-pub unsafe fn is_above(name: &[u8], before: &[u8], shared: usize) -> bool {
+pub unsafe fn is_above<R: Rule>(name: &[u8], before: &[u8], shared: usize) -> bool {
     let goes_on = shared < name.len();
-    goes_on && (shared == before.len() || byte(before, shared) < byte(name, shared))
+    goes_on
+        && (shared == before.len()
+            || R::letter(byte(before, shared)) < R::letter(byte(name, shared)))
 }

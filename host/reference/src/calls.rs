@@ -4,6 +4,7 @@ use crate::asking::Sound;
 use crate::building::{judge, Noted};
 use crate::checking::check;
 use crate::merging::{self, Pair};
+use crate::rules::{Folded, Plain, Rule};
 use crate::salvaging::{self, Judged};
 use crate::{LARGEST_BLOCK, LONGEST_BOOK, LONGEST_NAME, MOST_NAMES};
 
@@ -84,12 +85,23 @@ pub(crate) fn refused(code: usize, first: usize) -> Answer {
     }
 }
 
-/// Builds a book. Refusals: 8; of each record in turn 5, 6 and 7; 9; 4.
+/// Builds a plain book. Refusals: 8; of each record in turn 5, 6 and 7; 9; 4.
 pub fn book_build(list: &[u8], block: usize, room: &mut [u8]) -> Answer {
+    build::<Plain>(list, block, room)
+}
+
+/// Builds a folded book. Refusals as of a plain one, with 6 by letters.
+pub fn book_build_folded(list: &[u8], block: usize, room: &mut [u8]) -> Answer {
+    build::<Folded>(list, block, room)
+}
+
+/// Builds a book of this kind.
+#[inline(always)]
+fn build<R: Rule>(list: &[u8], block: usize, room: &mut [u8]) -> Answer {
     if !(1..=LARGEST_BLOCK).contains(&block) {
         return refused(8, 0);
     }
-    let mut noted = Noted::default();
+    let mut noted = Noted::<R>::default();
     if let Err(answer) = judge(list, &mut noted) {
         return answer;
     }
@@ -106,26 +118,73 @@ pub fn book_build(list: &[u8], block: usize, room: &mut [u8]) -> Answer {
     accepted(length, 0)
 }
 
-/// Checks a book: n and k. Refusal: 2.
+/// Checks a book of either kind: n and k. Refusal: 2.
 pub fn book_check(book: &[u8]) -> Answer {
-    match check(book) {
+    let parts = if Folded::marks(book) {
+        check::<Folded>(book)
+    } else {
+        check::<Plain>(book)
+    };
+    match parts {
         None => refused(2, 0),
         Some(parts) => accepted(parts.names, parts.block),
     }
 }
 
-/// The book, if it is one.
-fn sound(book: &[u8]) -> Option<Sound<'_>> {
-    let parts = check(book)?;
+/// A book of either kind.
+#[derive(Clone, Copy)]
+enum Book<'lent> {
+    Plain(Sound<'lent, Plain>),
+    Folded(Sound<'lent, Folded>),
+}
+
+/// The book, if it is one; its mark says of which kind.
+fn sound(book: &[u8]) -> Option<Book<'_>> {
+    if Folded::marks(book) {
+        sound_as(book).map(Book::Folded)
+    } else {
+        sound_as(book).map(Book::Plain)
+    }
+}
+
+/// The book, if it is one of this kind.
+fn sound_as<R: Rule>(book: &[u8]) -> Option<Sound<'_, R>> {
+    let parts = check::<R>(book)?;
     // SAFETY: the check gave these parts.
     Some(unsafe { Sound::new(book, parts) })
 }
 
+impl Book<'_> {
+    /// A question. Refusals: 1, 10.
+    #[inline(always)]
+    fn ask(self, kind: usize, question: &[u8]) -> Answer {
+        match self {
+            Book::Plain(sound) => ask(sound, kind, question),
+            Book::Folded(sound) => ask(sound, kind, question),
+        }
+    }
+
+    /// Reads a name back. Refusals: 3, 4.
+    #[inline(always)]
+    fn read(self, position: usize, room: &mut [u8]) -> Answer {
+        match self {
+            Book::Plain(sound) => read(sound, position, room),
+            Book::Folded(sound) => read(sound, position, room),
+        }
+    }
+}
+
 /// Reads a name back by its position. Refusals: 2, 3, 4.
 pub fn book_read(book: &[u8], position: usize, room: &mut [u8]) -> Answer {
-    let Some(sound) = sound(book) else {
-        return refused(2, 0);
-    };
+    match sound(book) {
+        None => refused(2, 0),
+        Some(book) => book.read(position, room),
+    }
+}
+
+/// Reads a name of a book that was checked. Refusals: 3, 4.
+#[inline(always)]
+fn read<R: Rule>(sound: Sound<R>, position: usize, room: &mut [u8]) -> Answer {
     if position >= sound.names() {
         return refused(3, 0);
     }
@@ -167,12 +226,12 @@ pub fn book_width(book: &[u8], question: &[u8]) -> Answer {
 fn ask_book(book: &[u8], kind: usize, question: &[u8]) -> Answer {
     match sound(book) {
         None => refused(2, 0),
-        Some(sound) => ask(sound, kind, question),
+        Some(book) => book.ask(kind, question),
     }
 }
 
 /// A question to a book that was checked. Refusals: 1, 10.
-fn ask(sound: Sound, kind: usize, question: &[u8]) -> Answer {
+fn ask<R: Rule>(sound: Sound<R>, kind: usize, question: &[u8]) -> Answer {
     if question.len() > LONGEST_NAME {
         return refused(1, 0);
     }
@@ -195,14 +254,14 @@ pub fn book_batch(book: &[u8], questions: &[u8], rows: &[Row], answers: &mut [An
     if rows.len() > MOST_ROWS || rows.len() != answers.len() {
         return refused(12, 0);
     }
-    let Some(sound) = sound(book) else {
+    let Some(book) = sound(book) else {
         return refused(2, 0);
     };
     for (row, answer) in rows.iter().zip(answers) {
         let end = row.start.checked_add(row.length);
         let question = end.and_then(|end| questions.get(row.start..end));
         *answer = match question {
-            Some(question) if (1..=5).contains(&row.kind) => ask(sound, row.kind, question),
+            Some(question) if (1..=5).contains(&row.kind) => book.ask(row.kind, question),
             _ => refused(11, 0),
         };
     }

@@ -4,8 +4,9 @@
 //! This is the one place where bytes come from nobody knows where, so every
 //! offset is compared before it is used.
 
-use crate::bytes::{byte, is_above, leading_equal, part, put, two};
-use crate::{LARGEST_BLOCK, LONGEST_BOOK, LONGEST_NAME, MARK, MOST_NAMES, NODE, TRAILER};
+use crate::bytes::{byte, is_above, leading_letters, part, put, two};
+use crate::rules::Rule;
+use crate::{LARGEST_BLOCK, LONGEST_BOOK, LONGEST_NAME, MOST_NAMES, NODE, TRAILER};
 use core::mem::replace;
 
 /// What the trailer tells.
@@ -23,28 +24,28 @@ pub struct Parts {
     pub nodes: usize,
 }
 
-/// The parts of a book; nothing where the bytes are none.
-pub fn check(book: &[u8]) -> Option<Parts> {
-    let parts = trailer(book)?;
+/// The parts of a book of this kind; nothing where the bytes are none.
+pub fn check<R: Rule>(book: &[u8]) -> Option<Parts> {
+    let parts = trailer::<R>(book)?;
     let mut shares = [0; MOST_NAMES];
     // SAFETY: the trailer's numbers agree with the length, and there are as
     // many places as names.
     unsafe {
-        entries_stand(book, parts, &mut shares)?;
-        nodes_stand(book, parts, &shares)?;
+        entries_stand::<R>(book, parts, &mut shares)?;
+        nodes_stand::<R>(book, parts, &shares)?;
     }
     Some(parts)
 }
 
 /// What the trailer tells, if its numbers agree with each other and with the
 /// length. Without names there is nothing but the trailer.
-fn trailer(book: &[u8]) -> Option<Parts> {
-    let parts = numbers(book)?;
+fn trailer<R: Rule>(book: &[u8]) -> Option<Parts> {
+    let parts = numbers::<R>(book)?;
     (parts.names > 0 || book.len() == TRAILER).then_some(parts)
 }
 
 /// The same of bytes that may have more than the trailer without names.
-pub(crate) fn numbers(book: &[u8]) -> Option<Parts> {
+pub(crate) fn numbers<R: Rule>(book: &[u8]) -> Option<Parts> {
     if !(TRAILER..=LONGEST_BOOK).contains(&book.len()) {
         return None;
     }
@@ -59,9 +60,7 @@ pub(crate) fn numbers(book: &[u8]) -> Option<Parts> {
         nodes: number(4),
     };
     let limits = parts.names <= MOST_NAMES && (1..=LARGEST_BLOCK).contains(&parts.block);
-    // SAFETY: the same 16 bytes.
-    let is_marked = unsafe { *part(book, at + 12, 4) == MARK };
-    if !limits || number(5) != book.len() || !is_marked {
+    if !limits || number(5) != book.len() || !R::marks(book) {
         return None;
     }
     let blocks = parts.names.div_ceil(parts.block);
@@ -118,29 +117,37 @@ impl<'book> Entry<'book> {
 
     /// What a block's first name shares with the name before, if it is above.
     #[inline(always)]
-    unsafe fn share_of_first(self, before: &[u8]) -> Option<usize> {
-        let shared = leading_equal(before, self.rest);
-        (self.stored == 0 && is_above(self.rest, before, shared)).then_some(shared)
+    unsafe fn share_of_first<R: Rule>(self, before: &[u8]) -> Option<usize> {
+        let shared = leading_letters::<R>(before, self.rest, 0);
+        (self.stored == 0 && is_above::<R>(self.rest, before, shared)).then_some(shared)
     }
 
-    /// What another name shares with the name before, if that is stored and the
-    /// name is above: both say that the next byte is above.
+    /// What another name shares with the name before, if all bytes of it that are
+    /// the same are stored and the name is above. The next byte is another one, and
+    /// by its letter above; where it is the same letter, what follows is looked at.
     #[inline(always)]
-    pub unsafe fn share_of_other(self, before: &[u8]) -> Option<usize> {
-        let shared = self.stored;
-        let rises = shared == before.len()
-            || shared < before.len() && byte(before, shared) < byte(self.rest, 0);
-        rises.then_some(shared)
+    pub unsafe fn share_of_other<R: Rule>(self, before: &[u8]) -> Option<usize> {
+        if self.stored >= before.len() {
+            return (self.stored == before.len()).then_some(self.stored);
+        }
+        let before = before.get_unchecked(self.stored..);
+        let parts = byte(before, 0) != byte(self.rest, 0);
+        let more = leading_letters::<R>(before, self.rest, 0);
+        (parts && is_above::<R>(self.rest, before, more)).then_some(self.stored + more)
     }
 }
 
-/// Whether the entries and the block table are right. Notes what each name
-/// shares with the one before.
+/// Whether the entries and the block table are right. Notes how many letters each
+/// name shares with the one before.
 ///
 /// # Safety
 ///
 /// The trailer's numbers agree with the length.
-unsafe fn entries_stand(book: &[u8], parts: Parts, shares: &mut [u8; MOST_NAMES]) -> Option<()> {
+unsafe fn entries_stand<R: Rule>(
+    book: &[u8],
+    parts: Parts,
+    shares: &mut [u8; MOST_NAMES],
+) -> Option<()> {
     let mut name = [0; LONGEST_NAME];
     let mut length = 0;
     let mut at = 0;
@@ -155,9 +162,9 @@ unsafe fn entries_stand(book: &[u8], parts: Parts, shares: &mut [u8; MOST_NAMES]
             }
             slot += 2;
             left = parts.block;
-            entry.share_of_first(before)?
+            entry.share_of_first::<R>(before)?
         } else {
-            entry.share_of_other(before)?
+            entry.share_of_other::<R>(before)?
         };
         left -= 1;
         *shares.get_unchecked_mut(position) = shared as u8;
@@ -238,14 +245,14 @@ unsafe fn fork(book: &[u8], record: usize, position: usize, open: Open) -> Optio
 ///
 /// # Safety
 ///
-/// The stored count is at most the depth.
+/// The stored count is at most the depth: bytes that are the same are one letter.
 #[inline(always)]
-unsafe fn symbol(entry: Entry, depth: usize) -> Option<usize> {
+unsafe fn symbol<R: Rule>(entry: Entry, depth: usize) -> Option<usize> {
     let at = depth - entry.stored;
     if at == entry.rest.len() {
         return Some(0);
     }
-    (at < entry.rest.len()).then(|| byte(entry.rest, at) + 1)
+    (at < entry.rest.len()).then(|| R::symbol(byte(entry.rest, at)))
 }
 
 /// The root as an open node, if there are several names and it has them all.
@@ -275,7 +282,7 @@ unsafe fn root(book: &[u8], parts: Parts) -> Option<Open> {
 /// # Safety
 ///
 /// The entries stand, and the shares are theirs.
-unsafe fn nodes_stand(book: &[u8], parts: Parts, shares: &[u8; MOST_NAMES]) -> Option<()> {
+unsafe fn nodes_stand<R: Rule>(book: &[u8], parts: Parts, shares: &[u8; MOST_NAMES]) -> Option<()> {
     let record = parts.nodes_at;
     match (parts.names, parts.nodes) {
         (0, _) => Some(()),
@@ -287,7 +294,7 @@ unsafe fn nodes_stand(book: &[u8], parts: Parts, shares: &[u8; MOST_NAMES]) -> O
             (is_root && is_leaf(book, record, byte(book, 1))).then_some(())
         }
         (1, _) => None,
-        _ => below_root(book, root(book, parts)?, record + NODE, shares),
+        _ => below_root::<R>(book, root(book, parts)?, record + NODE, shares),
     }
 }
 
@@ -298,7 +305,7 @@ unsafe fn nodes_stand(book: &[u8], parts: Parts, shares: &[u8; MOST_NAMES]) -> O
 ///
 /// The entries stand, and the stored count is at most the open depth.
 #[inline(always)]
-unsafe fn begins(
+unsafe fn begins<R: Rule>(
     book: &[u8],
     record: usize,
     position: usize,
@@ -306,7 +313,7 @@ unsafe fn begins(
     open: Open,
 ) -> Option<()> {
     let stands = record < usize::from(open.stop)
-        && number(book, record, 0) == symbol(entry, usize::from(open.depth))?
+        && number(book, record, 0) == symbol::<R>(entry, usize::from(open.depth))?
         && number(book, record, 2) == position;
     stands.then_some(())
 }
@@ -321,7 +328,7 @@ unsafe fn begins(
 ///
 /// The entries stand, the shares are theirs, and the first record stands here.
 #[inline(always)]
-unsafe fn below_root(
+unsafe fn below_root<R: Rule>(
     book: &[u8],
     mut open: Open,
     mut record: usize,
@@ -333,7 +340,7 @@ unsafe fn below_root(
         let entry = Entry::standing(book, at);
         // The forks that begin with this name, down to its leaf.
         loop {
-            begins(book, record, position, entry, open)?;
+            begins::<R>(book, record, position, entry, open)?;
             if number(book, record, 3) == 1 {
                 break;
             }

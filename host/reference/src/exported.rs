@@ -21,6 +21,21 @@ unsafe extern "C" fn book_build(
 }
 
 #[no_mangle]
+unsafe extern "C" fn book_build_folded(
+    list: *const u8,
+    length: usize,
+    block: usize,
+    room: *mut u8,
+    space: usize,
+) -> Answer {
+    crate::book_build_folded(
+        from_raw_parts(list, length),
+        block,
+        from_raw_parts_mut(room, space),
+    )
+}
+
+#[no_mangle]
 unsafe extern "C" fn book_check(book: *const u8, length: usize) -> Answer {
     crate::book_check(from_raw_parts(book, length))
 }

@@ -18,6 +18,7 @@
 //! | [`asking`] | a name read back and the five questions, of a book that passed |
 //! | [`salvaging`] | the blocks of a damaged book, judged alone and written |
 //! | [`merging`] | two lists judged, then gone through side by side |
+//! | [`rules`] | the two kinds of book: their marks and their letters |
 //! | [`bytes`] | bytes and numbers at an offset, without a test |
 
 #![no_std]
@@ -32,12 +33,13 @@ pub mod checking;
 mod exported;
 pub mod merging;
 pub mod records;
+pub mod rules;
 pub mod salvaging;
 
 pub use calls::{
-    book_batch, book_build, book_check, book_exact, book_nearest, book_place, book_range,
-    book_read, book_salvage, book_width, list_head, list_judge, list_merge, Answer, Head, Kept,
-    Row,
+    book_batch, book_build, book_build_folded, book_check, book_exact, book_nearest, book_place,
+    book_range, book_read, book_salvage, book_width, list_head, list_judge, list_merge, Answer,
+    Head, Kept, Row,
 };
 
 /// A name has 1 to 200 bytes, a question up to 200.
@@ -52,7 +54,5 @@ pub const LONGEST_BOOK: usize = 65_535;
 pub const NODE: usize = 12;
 /// The last 16 bytes point back.
 pub const TRAILER: usize = 16;
-/// The last four of them.
-pub const MARK: [u8; 4] = *b"NBK2";
 /// A path from the root has at most 202 nodes.
 pub const LONGEST_PATH: usize = 202;

@@ -3,6 +3,7 @@
 use crate::bytes::{byte, is_above, leading_equal, part, put};
 use crate::calls::Head;
 use crate::records::judge_record;
+use crate::rules::Plain;
 use crate::MOST_NAMES;
 
 /// Judges a list, however many names it has: the refusal, 5 or 6, and the
@@ -13,11 +14,10 @@ pub fn judge(list: &[u8]) -> Result<(), (usize, usize)> {
     let mut count = 0;
     while at < list.len() {
         // SAFETY: there is a byte.
-        let judged = unsafe { judge_record(list, at, before) };
-        let (name, _) = judged.map_err(|code| (code, count))?;
-        before = name;
+        let judged = unsafe { judge_record::<Plain>(list, at, before) };
+        before = judged.map_err(|code| (code, count))?.name;
         count += 1;
-        at += 1 + name.len();
+        at += 1 + before.len();
     }
     Ok(())
 }
@@ -68,9 +68,9 @@ fn lesser(one: &[u8], other: &[u8]) -> Lesser {
     unsafe {
         let (one, other) = (one.get_unchecked(1..), other.get_unchecked(1..));
         let shared = leading_equal(one, other);
-        if is_above(other, one, shared) {
+        if is_above::<Plain>(other, one, shared) {
             Lesser::First
-        } else if is_above(one, other, shared) {
+        } else if is_above::<Plain>(one, other, shared) {
             Lesser::Second
         } else {
             Lesser::Both

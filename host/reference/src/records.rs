@@ -1,28 +1,45 @@
 //! List records, judged one by one.
 
-use crate::bytes::{byte, is_above, leading_equal, part};
+use crate::bytes::{byte, is_above, leading_equal, leading_letters, part};
+use crate::rules::Rule;
 use crate::LONGEST_NAME;
 
-/// The name in the record at this offset, and how many bytes it shares with the
-/// name before. Refusals: 5, 6.
+/// A record that is good: its name, how many bytes the name has in common with the
+/// one before, and how many letters.
+#[derive(Clone, Copy)]
+pub struct Record<'lent> {
+    /// The name.
+    pub name: &'lent [u8],
+    /// The bytes in common.
+    pub bytes: usize,
+    /// The letters in common: as many, or more.
+    pub letters: usize,
+}
+
+/// The record at this offset, behind one with this name. Refusals: 5, 6.
 ///
 /// # Safety
 ///
 /// There is a byte.
 #[inline(always)]
-pub unsafe fn judge_record<'lent>(
+pub unsafe fn judge_record<'lent, R: Rule>(
     list: &'lent [u8],
     at: usize,
     before: &[u8],
-) -> Result<(&'lent [u8], usize), usize> {
+) -> Result<Record<'lent>, usize> {
     let length = byte(list, at);
     if length == 0 || length > LONGEST_NAME || length >= list.len() - at {
         return Err(5);
     }
     let name = part(list, at + 1, length);
-    let shared = leading_equal(before, name);
-    if is_above(name, before, shared) {
-        Ok((name, shared))
+    let bytes = leading_equal(before, name);
+    let letters = leading_letters::<R>(before, name, bytes);
+    if is_above::<R>(name, before, letters) {
+        Ok(Record {
+            name,
+            bytes,
+            letters,
+        })
     } else {
         Err(6)
     }

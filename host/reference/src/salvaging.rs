@@ -3,11 +3,12 @@
 use crate::bytes::{part, put, two};
 use crate::calls::Kept;
 use crate::checking::{numbers, Entry, Parts};
+use crate::rules::Plain;
 use crate::{LONGEST_NAME, MOST_NAMES};
 
 /// The parts of a damaged book, if its trailer and its block table make sense.
 pub fn map(data: &[u8]) -> Option<Parts> {
-    let parts = numbers(data)?;
+    let parts = numbers::<Plain>(data)?;
     let mut above = None;
     for block in 0..parts.blocks() {
         // SAFETY: the trailer's numbers agree with the length.
@@ -122,7 +123,7 @@ unsafe fn judge(data: &[u8], start: usize, end: usize, names: usize) -> Option<u
         if number == 0 && entry.stored > 0 {
             return None;
         }
-        entry.share_of_other(part(&name, 0, before))?;
+        entry.share_of_other::<Plain>(part(&name, 0, before))?;
         put(&mut name, entry.stored, entry.rest);
         before = entry.length();
         length += 1 + before;

@@ -1,11 +1,12 @@
 //! Held to the second program, on random and on damaged books.
 
 use model::{book_of, BookKind};
-use vectors::damage::{self, spoil_book, spoil_bytes, spoil_names};
+use vectors::damage::{self, spoil_book, spoil_bytes, spoil_names, swap_mark};
 use vectors::lists::{self, Names};
 use vectors::pieces::Pieces;
 use vectors::questions::{about_letters, any_question, around_all};
 use vectors::random::Random;
+use vectors::spelling::{by_turns, names_respelt, respelt};
 use vectors::{batches, hostile};
 
 type Numbers = (usize, usize, usize);
@@ -18,10 +19,16 @@ fn theirs(answer: model::Answer) -> Numbers {
     (answer.code, answer.first, answer.second)
 }
 
-/// Lists of every shape, small enough for the second program.
-fn any_names(random: &mut Random) -> Names {
+/// Any kind of book.
+fn any_kind(random: &mut Random) -> BookKind {
+    *random.one_of(&BookKind::ALL)
+}
+
+/// Lists of every shape for a book of this kind, small enough for the second
+/// program.
+fn any_names(random: &mut Random, kind: BookKind) -> Names {
     let all = lists::all_bytes();
-    match random.below(9) {
+    let names = match random.below(9) {
         0 => Names::new(),
         1 => lists::random(random, b"ab", 60, 1, 8),
         2 => lists::random(random, &all, 60, 1, 40),
@@ -31,6 +38,19 @@ fn any_names(random: &mut Random) -> Names {
         6 => lists::mirror(b'a', b'b', random.between(1, 200)),
         7 => lists::grown(random, lists::PARTS_OF_LETTERS, 40, 12),
         _ => lists::fan(&random.string(b"ab", 1, 5)),
+    };
+    match random.below(3) {
+        0 => by_turns(&lists::sorted_for(BookKind::Folded, names)),
+        _ => names_respelt(random, kind, &names),
+    }
+}
+
+/// The two builds of this kind.
+type Build<Answer> = fn(&[u8], usize, &mut [u8]) -> Answer;
+fn builds(kind: BookKind) -> (Build<reference::Answer>, Build<model::Answer>) {
+    match kind {
+        BookKind::Plain => (reference::book_build, model::book_build),
+        BookKind::Folded => (reference::book_build_folded, model::book_build_folded),
     }
 }
 
@@ -50,6 +70,7 @@ fn same_answers(random: &mut Random, book: &[u8], names: &Names) {
     );
     assert_eq!(one, other, "the room of a read");
     let question = any_question(random, names);
+    let question = respelt(random, &question);
     same_questions(book, &question);
 }
 
@@ -85,8 +106,9 @@ fn same_questions(book: &[u8], question: &[u8]) {
 #[test]
 fn builds_the_same_books() {
     let mut random = Random::from_seed(1);
-    for _ in 0..600 {
-        let mut names = any_names(&mut random);
+    for _ in 0..1200 {
+        let kind = any_kind(&mut random);
+        let mut names = any_names(&mut random, kind);
         let block = random.below(67);
         if random.once_in(4) {
             spoil_names(&mut random, &mut names);
@@ -95,14 +117,12 @@ fn builds_the_same_books() {
         if random.once_in(4) {
             spoil_bytes(&mut random, &mut list);
         }
-        let length = book_of(BookKind::Plain, block.max(1), &names).len();
+        let length = book_of(kind, block.max(1), &names).len();
         let room = random.between(length.saturating_sub(2), length + 2);
         let (mut one, mut other) = (vec![7; room], vec![7; room]);
-        let built = reference::book_build(&list, block, &mut one);
-        assert_eq!(
-            ours(built),
-            theirs(model::book_build(&list, block, &mut other))
-        );
+        let (ours_builds, theirs_builds) = builds(kind);
+        let built = ours_builds(&list, block, &mut one);
+        assert_eq!(ours(built), theirs(theirs_builds(&list, block, &mut other)));
         assert_eq!(one, other, "the book");
     }
 }
@@ -115,17 +135,18 @@ fn builds_the_largest_books() {
         lists::binary(lists::MOST_BINARY),
         lists::long(300),
         lists::long(320),
-        lists::with_book_length(&lists::binary(1800), 16, 65_535),
-        lists::with_book_length(&lists::binary(1800), 16, 65_536),
+        lists::with_book_length(BookKind::Plain, &lists::binary(1800), 16, 65_535),
+        lists::with_book_length(BookKind::Plain, &lists::binary(1800), 16, 65_536),
     ];
-    for names in lists {
-        let list = model::write_list(&names);
+    for (names, kind) in lists
+        .iter()
+        .flat_map(|names| BookKind::ALL.map(|kind| (names, kind)))
+    {
+        let list = model::write_list(&lists::sorted_for(kind, names.clone()));
         let (mut one, mut other) = (vec![7; 65_536], vec![7; 65_536]);
-        let built = reference::book_build(&list, 16, &mut one);
-        assert_eq!(
-            ours(built),
-            theirs(model::book_build(&list, 16, &mut other))
-        );
+        let (ours_builds, theirs_builds) = builds(kind);
+        let built = ours_builds(&list, 16, &mut one);
+        assert_eq!(ours(built), theirs(theirs_builds(&list, 16, &mut other)));
         assert_eq!(one, other, "the book");
         let book = &one[..built.first];
         assert_eq!(
@@ -138,16 +159,18 @@ fn builds_the_largest_books() {
 #[test]
 fn answers_the_same_of_sound_and_of_damaged_books() {
     let mut random = Random::from_seed(2);
-    for _ in 0..1500 {
-        let names = any_names(&mut random);
+    for _ in 0..3000 {
+        let kind = any_kind(&mut random);
+        let names = any_names(&mut random, kind);
         let block = random.between(1, 64);
-        let book = match random.below(4) {
-            0 => book_of(BookKind::Plain, block, &names),
-            1 if names.len() > 1 => {
-                hostile::any(&mut random, BookKind::Plain, block, &names).bytes()
-            }
-            _ => spoil_book(&mut random, BookKind::Plain, block, &names),
+        let mut book = match random.below(4) {
+            0 => book_of(kind, block, &names),
+            1 if names.len() > 1 => hostile::any(&mut random, kind, block, &names).bytes(),
+            _ => spoil_book(&mut random, kind, block, &names),
         };
+        if random.once_in(6) {
+            swap_mark(&mut book);
+        }
         same_answers(&mut random, &book, &names);
     }
 }
@@ -155,8 +178,13 @@ fn answers_the_same_of_sound_and_of_damaged_books() {
 #[test]
 fn refuses_every_change_that_the_second_program_refuses() {
     let mut random = Random::from_seed(3);
-    for (block, names) in [(2, lists::example()), (16, lists::stops())] {
-        let pieces = Pieces::of(BookKind::Plain, block, &names);
+    let by_turns = by_turns(&lists::sorted_for(BookKind::Folded, lists::stops()));
+    for (kind, block, names) in [
+        (BookKind::Plain, 2, lists::example()),
+        (BookKind::Plain, 16, lists::stops()),
+        (BookKind::Folded, 16, by_turns),
+    ] {
+        let pieces = Pieces::of(kind, block, &names);
         let book = pieces.bytes();
         let mut spoilt = damage::changed_bytes(&book);
         spoilt.extend(damage::cut_bytes(&book));
@@ -196,10 +224,16 @@ fn refuses_every_hostile_table() {
 
 #[test]
 fn answers_all_around_every_name() {
-    for (block, names) in [(2, lists::example()), (7, lists::stops())] {
-        let book = book_of(BookKind::Plain, block, &names);
+    let by_turns = by_turns(&lists::sorted_for(BookKind::Folded, lists::stops()));
+    for (kind, block, names) in [
+        (BookKind::Plain, 2, lists::example()),
+        (BookKind::Plain, 7, lists::stops()),
+        (BookKind::Folded, 7, by_turns),
+    ] {
+        let book = book_of(kind, block, &names);
         for question in around_all(&names) {
             same_questions(&book, &question);
+            same_questions(&book, &question.to_ascii_uppercase());
         }
         for length in [0, 199, 200, 201, 300] {
             same_questions(&book, &vec![b'M'; length]);
@@ -212,9 +246,12 @@ fn lights_as_much_of_every_question_about_letters() {
     let longest = [b"a", &[128; 199][..]].concat();
     let lists = lists::lettered().into_iter().map(|(_, names)| names);
     for names in lists.chain([vec![longest]]) {
-        let book = book_of(BookKind::Plain, 2, &names);
-        for question in about_letters(&names) {
-            same_questions(&book, &question);
+        for kind in BookKind::ALL {
+            let names = lists::sorted_for(kind, names.clone());
+            let book = book_of(kind, 2, &names);
+            for question in about_letters(&names) {
+                same_questions(&book, &question);
+            }
         }
     }
 }
@@ -223,8 +260,9 @@ fn lights_as_much_of_every_question_about_letters() {
 fn answers_a_batch_row_by_row() {
     let mut random = Random::from_seed(4);
     for _ in 0..300 {
-        let names = any_names(&mut random);
-        let book = book_of(BookKind::Plain, random.between(1, 64), &names);
+        let kind = any_kind(&mut random);
+        let names = any_names(&mut random, kind);
+        let book = book_of(kind, random.between(1, 64), &names);
         let batch = batches::any_batch(&mut random, &names);
         let rows = batch.rows();
         let places = batches::any_places(&mut random, rows.len());

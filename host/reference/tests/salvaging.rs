@@ -127,6 +127,17 @@ fn salvages_hostile_books_alike() {
 }
 
 #[test]
+fn folded_cards_have_no_map() {
+    let mut random = Random::from_seed(5);
+    for names in [Names::new(), lists::example(), any_names(&mut random)] {
+        let names = lists::sorted_for(BookKind::Folded, names);
+        let card = book_of(BookKind::Folded, 2, &names);
+        hold(&card);
+        assert_eq!(book_salvage(&card, &mut [], &mut []).code, 13);
+    }
+}
+
+#[test]
 fn a_card_without_names_may_have_nodes() {
     let mut card = vec![0xFF; 24];
     card.extend(b"\0\0\x02\0\0\0\0\0\x02\0\x28\0NBK2");

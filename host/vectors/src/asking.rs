@@ -382,7 +382,7 @@ fn numbers_of_names() -> Cases {
 /// A book of 65,535 bytes with long names: some of them, a few of their
 /// beginnings, and what misses them.
 fn longest_books() -> Cases {
-    let names = lists::with_book_length(&lists::pairs(320), 16, 65_535);
+    let names = lists::with_book_length(BookKind::Plain, &lists::pairs(320), 16, 65_535);
     let last = names.len() - 1;
     let mut questions = Names::new();
     for position in [0, 16, 175, last] {

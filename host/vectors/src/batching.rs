@@ -622,7 +622,7 @@ fn letters() -> Cases {
 fn large_books() -> Cases {
     let pairs = lists::pairs(2000);
     let around = around_all([0, 249, 250, 1023, 1999].map(|position| &pairs[position]));
-    let long = lists::with_book_length(&lists::pairs(320), 16, 65_535);
+    let long = lists::with_book_length(BookKind::Plain, &lists::pairs(320), 16, 65_535);
     let some: Names = long.iter().step_by(40).cloned().collect();
     let past = [rows_of_the_example(64), Batch::default()].to_vec();
     [

@@ -255,10 +255,10 @@ fn numbers_of_names() -> Cases {
 /// the room.
 fn longest_books() -> Cases {
     let small = lists::binary(lists::MOST_BINARY);
-    let fits = lists::with_book_length(&small, 1, 65_535);
-    let too_long = lists::with_book_length(&small, 1, 65_536);
-    let wide = lists::with_book_length(&lists::pairs(320), 16, 65_535);
-    let too_wide = lists::with_book_length(&lists::pairs(320), 16, 65_536);
+    let fits = lists::with_book_length(BookKind::Plain, &small, 1, 65_535);
+    let too_long = lists::with_book_length(BookKind::Plain, &small, 1, 65_536);
+    let wide = lists::with_book_length(BookKind::Plain, &lists::pairs(320), 16, 65_535);
+    let too_wide = lists::with_book_length(BookKind::Plain, &lists::pairs(320), 16, 65_536);
     vec![
         of_names("book of 65,535, many nodes", &fits, 1, 65_535),
         of_names("book of 65,535, room short", &fits, 1, 65_534),
@@ -271,8 +271,13 @@ fn longest_books() -> Cases {
 
 /// A list that is too long for a book, and then has a bad record: not 9.
 fn bad_records_in_long_lists() -> Cases {
-    let names = lists::with_book_length(&lists::binary(lists::MOST_BINARY), 1, 65_600);
-    let many = lists::with_book_length(&lists::binary(2000), 1, 78_100);
+    let names = lists::with_book_length(
+        BookKind::Plain,
+        &lists::binary(lists::MOST_BINARY),
+        1,
+        65_600,
+    );
+    let many = lists::with_book_length(BookKind::Plain, &lists::binary(2000), 1, 78_100);
     let falling = write_list(&names[names.len() - 2..][..1]);
     vec![
         of_bytes("5 and not 9", followed(&names, &[0]), 1, 65_535),

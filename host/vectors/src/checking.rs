@@ -171,8 +171,8 @@ fn numbers_of_names() -> Cases {
 /// Books of 65,535 and 65,536 bytes, and 65,536 bytes before a book.
 fn longest_books() -> Cases {
     let small = lists::binary(lists::MOST_BINARY);
-    let fits = lists::with_book_length(&small, 1, 65_535);
-    let too_long = lists::with_book_length(&small, 1, 65_536);
+    let fits = lists::with_book_length(BookKind::Plain, &small, 1, 65_535);
+    let too_long = lists::with_book_length(BookKind::Plain, &small, 1, 65_536);
     let book = book_of(BookKind::Plain, 4, &lists::example());
     let behind = [vec![0; 65_536], book].concat();
     vec![

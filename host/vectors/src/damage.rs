@@ -432,6 +432,17 @@ pub(crate) fn spoil_number(random: &mut Random, trailer: &mut Trailer) {
     *number = near(random, *number);
 }
 
+/// Puts the mark of the other kind of book in place of the last four bytes.
+pub fn swap_mark(book: &mut [u8]) {
+    let mark = match BookKind::of_marked(book) {
+        Some(BookKind::Plain) => BookKind::Folded.mark(),
+        _ => BookKind::Plain.mark(),
+    };
+    if let Some(end) = book.last_chunk_mut() {
+        *end = mark;
+    }
+}
+
 /// A number near this one, or any of two bytes.
 pub(crate) fn near(random: &mut Random, number: usize) -> usize {
     match random.below(6) {

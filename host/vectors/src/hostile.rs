@@ -69,7 +69,7 @@ impl Kind {
             .length;
         let longer = right.max(self.with_names(MOST_NAMES).trailer.length);
         let more = space_behind(&names).min(LONGEST_BOOK - longer);
-        let names = lists::with_book_length(&names, LARGEST_BLOCK, right + more);
+        let names = lists::with_book_length(BookKind::Plain, &names, LARGEST_BLOCK, right + more);
         self.over(BookKind::Plain, LARGEST_BLOCK, &names)
     }
 }
@@ -84,11 +84,7 @@ fn with_nodes(kind: BookKind, block: usize, names: &Names, nodes: Vec<Node>) -> 
 
 /// How many bytes can be put behind names that do not begin the next one.
 fn space_behind(names: &Names) -> usize {
-    let begins_next = |at: usize| {
-        let next = names.get(at + 1);
-        next.is_some_and(|next| next.starts_with(&names[at]))
-    };
-    let ending = (0..names.len()).filter(|&at| !begins_next(at));
+    let ending = (0..names.len()).filter(|&at| !lists::begins_next(BookKind::Plain, names, at));
     ending.map(|at| LONGEST_NAME - names[at].len()).sum()
 }
 

@@ -29,6 +29,7 @@
 //! | [`hostile`] | books that are none, by their node tables |
 //! | [`growth`] | lists of which one parameter doubles |
 //! | [`worst`] | lists and questions that cost most |
+//! | [`spelling`] | names and questions in capitals and in small letters |
 //! | [`rooms`] | rooms before and after a call |
 //! | [`random`] | numbers that look random |
 //!
@@ -56,6 +57,7 @@ pub mod reading;
 pub mod rooms;
 pub mod salvaging;
 pub mod sets;
+pub mod spelling;
 pub mod wear;
 pub mod worst;
 

@@ -199,21 +199,20 @@ fn tail(number: usize, length: usize) -> Vec<u8> {
     (0..length).map(|at| (7 * number + at) as u8).collect()
 }
 
-/// Makes the book of these names with this block size exactly `wanted` bytes
-/// long, by putting tails behind names.
+/// Makes the book of this kind of these names with this block size exactly
+/// `wanted` bytes long, by putting tails behind names.
 ///
 /// A byte behind a name that does not begin the next one adds one byte to the
 /// book and changes nothing else: the two names still differ where they did, so
 /// shared counts, order and tree stay. The names have to leave space for it.
-pub fn with_book_length(names: &Names, block: usize, wanted: usize) -> Names {
+pub fn with_book_length(kind: BookKind, names: &Names, block: usize, wanted: usize) -> Names {
     let mut names = names.clone();
-    let mut missing = wanted - book_of(BookKind::Plain, block, &names).len();
+    let mut missing = wanted - book_of(kind, block, &names).len();
     // What the last names have no space for goes to earlier ones in the next round.
     while missing > 0 {
         let left = missing;
         for position in 0..names.len() {
-            let next = names.get(position + 1);
-            if next.is_some_and(|next| next.starts_with(&names[position])) {
+            if begins_next(kind, &names, position) {
                 continue;
             }
             let share = missing.div_ceil(names.len() - position);
@@ -223,12 +222,17 @@ pub fn with_book_length(names: &Names, block: usize, wanted: usize) -> Names {
         }
         assert!(missing < left, "too little space");
     }
-    assert_eq!(
-        book_of(BookKind::Plain, block, &names).len(),
-        wanted,
-        "too little space"
-    );
+    let length = book_of(kind, block, &names).len();
+    assert_eq!(length, wanted, "too little space");
     names
+}
+
+/// Whether the name at this position begins the next one, as this kind of book
+/// compares them.
+pub fn begins_next(kind: BookKind, names: &Names, position: usize) -> bool {
+    let name = compared_name(kind, &names[position]);
+    let next = names.get(position + 1);
+    next.is_some_and(|next| compared_name(kind, next).starts_with(&name))
 }
 
 /// At most so many random names over these bytes, of a length from `least` to

@@ -214,7 +214,7 @@ fn numbers_of_names() -> Cases {
 
 /// A book of 65,535 bytes with long names.
 fn longest_books() -> Cases {
-    let names = lists::with_book_length(&lists::pairs(320), 16, 65_535);
+    let names = lists::with_book_length(BookKind::Plain, &lists::pairs(320), 16, 65_535);
     let last = names.len() - 1;
     at_positions("book of 65,535", &names, 16, &[0, 15, 16, 17, last])
 }

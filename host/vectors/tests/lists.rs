@@ -100,7 +100,7 @@ fn a_wanted_book_length_is_met_and_changes_no_node_but_leaves() {
     for (names, block) in [(lists::stops(), 7), (lists::binary(100), 1)] {
         let before = book_of(BookKind::Plain, block, &names).len();
         for more in [0, 1, 500] {
-            let padded = lists::with_book_length(&names, block, before + more);
+            let padded = lists::with_book_length(BookKind::Plain, &names, block, before + more);
             assert!(is_sound_list(Rule::Plain, &padded));
             assert_eq!(
                 book_of(BookKind::Plain, block, &padded).len(),
