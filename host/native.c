@@ -23,7 +23,6 @@ struct head {
     size list, start, length;
 };
 
-struct answer *written_book_build(struct answer *, const byte *, size, size, byte *, size);
 struct answer *written_book_check(struct answer *, const byte *, size);
 struct answer *written_book_read(struct answer *, const byte *, size, size, byte *, size);
 struct answer *written_book_batch(struct answer *, const byte *, size, const byte *, size, const struct row *, size, struct answer *, size);
@@ -31,10 +30,16 @@ struct answer *written_book_salvage(struct answer *, const byte *, size, byte *,
 struct answer *written_list_merge(struct answer *, const byte *, size, const byte *, size, byte *, size);
 struct head *written_list_head(struct head *, const byte *, size, const byte *, size, size, size);
 
-struct answer book_build(const byte *list, size list_length, size block, byte *room, size room_length) {
-    struct answer given;
-    return *written_book_build(&given, list, list_length, block, room, room_length);
-}
+/* A call that builds a book of a list, of one kind or the other. */
+#define BUILDS(name)                                                                                            \
+    struct answer *written_##name(struct answer *, const byte *, size, size, byte *, size);                     \
+    struct answer name(const byte *list, size list_length, size block, byte *room, size room_length) {          \
+        struct answer given;                                                                                    \
+        return *written_##name(&given, list, list_length, block, room, room_length);                            \
+    }
+
+BUILDS(book_build)
+BUILDS(book_build_folded)
 
 struct answer book_check(const byte *book, size book_length) {
     struct answer given;

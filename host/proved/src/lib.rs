@@ -61,7 +61,7 @@ pub struct Head {
     pub length: usize,
 }
 
-/// Builds a book from list records into the room: (0, its length, 0), or a
+/// Builds a plain book from list records into the room: (0, its length, 0), or a
 /// refusal, and then the room is as it was.
 pub fn book_build(list: &[u8], block: usize, room: &mut [u8]) -> Answer {
     // SAFETY: each pointer comes with the length of its own slice. The room is
@@ -77,7 +77,24 @@ pub fn book_build(list: &[u8], block: usize, room: &mut [u8]) -> Answer {
     }
 }
 
-/// Checks a book: (0, how many names it has, its block size), or refusal 2.
+/// Builds a folded book, in which capitals and small letters are the same: as
+/// [`book_build`], with refusal 6 also for names that are equal once folded.
+pub fn book_build_folded(list: &[u8], block: usize, room: &mut [u8]) -> Answer {
+    // SAFETY: each pointer comes with the length of its own slice. The room is
+    // borrowed for this call alone, so it does not overlap the list.
+    unsafe {
+        raw::book_build_folded(
+            list.as_ptr(),
+            list.len(),
+            block,
+            room.as_mut_ptr(),
+            room.len(),
+        )
+    }
+}
+
+/// Checks a book of either kind: (0, how many names it has, its block size), or
+/// refusal 2.
 pub fn book_check(book: &[u8]) -> Answer {
     // SAFETY: the pointer comes with the length of its own slice, and nothing
     // is written.

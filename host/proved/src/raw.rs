@@ -14,7 +14,7 @@
 use crate::{Answer, Head, Kept, Row};
 
 extern "C" {
-    /// Builds a book from list records.
+    /// Builds a plain book from list records.
     pub fn book_build(
         list: *const u8,
         list_len: usize,
@@ -22,7 +22,15 @@ extern "C" {
         room: *mut u8,
         room_len: usize,
     ) -> Answer;
-    /// Checks a book.
+    /// Builds a folded book from list records.
+    pub fn book_build_folded(
+        list: *const u8,
+        list_len: usize,
+        block: usize,
+        room: *mut u8,
+        room_len: usize,
+    ) -> Answer;
+    /// Checks a book of either kind.
     pub fn book_check(book: *const u8, book_len: usize) -> Answer;
     /// Reads a name back by its position.
     pub fn book_read(
