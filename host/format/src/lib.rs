@@ -8,6 +8,8 @@
 #![forbid(unsafe_code)]
 #![warn(missing_docs)]
 
+use core::cmp::Ordering;
+
 /// The most bytes of a name; the least is 1.
 pub const LONGEST_NAME: usize = 200;
 /// The most bytes of a question: as many as of a name.
@@ -78,6 +80,22 @@ impl BookKind {
             BookKind::Plain => byte,
             BookKind::Folded => byte.to_ascii_lowercase(),
         }
+    }
+
+    /// The order of two names in a book of this kind. Names that are equal by it are
+    /// one name to the book.
+    ///
+    /// ```
+    /// use core::cmp::Ordering;
+    /// use format::BookKind;
+    ///
+    /// assert_eq!(BookKind::Folded.order(b"abbey", b"Zoo"), Ordering::Less);
+    /// assert_eq!(BookKind::Plain.order(b"abbey", b"Zoo"), Ordering::Greater);
+    /// assert_eq!(BookKind::Folded.order(b"MAR", b"Mar"), Ordering::Equal);
+    /// ```
+    pub fn order(self, one: &[u8], other: &[u8]) -> Ordering {
+        let [one, other] = [one, other].map(|name| name.iter().map(|&byte| self.compared(byte)));
+        one.cmp(other)
     }
 
     /// Its name, as a word.

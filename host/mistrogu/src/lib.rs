@@ -10,6 +10,7 @@
 //! | You want to | Call |
 //! |---|---|
 //! | make a book | [`build`], from a [`List`] |
+//! | make one in which capitals and small letters are the same | [`build_folded`] |
 //! | make one list of two | [`merge`] |
 //! | show the names of two lists in their order | [`heads`] |
 //! | know whether two runs of bytes are lists | [`judge`] |
@@ -24,12 +25,12 @@
 //! | have what is left of a damaged book | [`salvage`] |
 //!
 //! ```
-//! use mistrogu::{build, check, nearest, range, read, Checked, Nearest};
+//! use mistrogu::{build, check, nearest, range, read, BookKind, Checked, Nearest};
 //!
 //! let mut room = [0; 100];
 //! let length = build(b"\x03Mar\x06Marina\x0DMarket Square", 2, &mut room)?;
 //! let book = &room[..length];
-//! assert_eq!(check(book), Ok(Checked { names: 3, block: 2 }));
+//! assert_eq!(check(book), Ok(Checked { names: 3, block: 2, kind: BookKind::Plain }));
 //!
 //! let mut name = [0; mistrogu::LONGEST_NAME];
 //! assert_eq!(read(book, 2, &mut name), Ok(&b"Market Square"[..]));
@@ -43,6 +44,28 @@
 //! A name is 1 to 200 bytes of any value, a question 0 to 200. Order is that of
 //! byte strings: `[u8]`'s own. Positions count from 0. A list is a run of
 //! records, each one byte with the length of a name and then the name.
+//!
+//! # Two kinds of book
+//!
+//! In a **folded** book the capitals A to Z count as the letters a to z wherever
+//! names are compared, with each other or with a question; spelling comes back
+//! unchanged. Nothing else folds, and no letter with an accent does. Who builds a
+//! book says which [kind](BookKind) it is; from then on its mark tells it, and every
+//! call that takes a book goes by that. [`check`] tells it, too. Names for a folded
+//! book have to rise by [`BookKind::order`]. Merging and salvaging know plain lists
+//! and plain books only.
+//!
+//! ```
+//! use mistrogu::{build_folded, check, exact, read, BookKind};
+//!
+//! let mut room = [0; 100];
+//! let length = build_folded(b"\x03MAR\x06Marina", 2, &mut room)?;
+//! let book = &room[..length];
+//! assert_eq!(exact(book, b"marina"), Ok(Some(1)));
+//! assert_eq!(read(book, 1, &mut [0; 6]), Ok(&b"Marina"[..]));
+//! assert_eq!(check(book).map(|checked| checked.kind), Ok(BookKind::Folded));
+//! # Ok::<(), mistrogu::Refused>(())
+//! ```
 //!
 //! # Refusals
 //!
@@ -58,7 +81,7 @@
 //! rows. A [`salvage`] takes bytes that need not be a book, and goes over their
 //! blocks alone. Every call that takes two lists judges both, and each name of
 //! [`heads`] is such a call. [`STACK`] bytes of stack are enough for a call,
-//! [`BUILD_STACK`] for [`build`].
+//! [`BUILD_STACK`] for [`build`] and [`build_folded`].
 //!
 //! # Linking
 //!
@@ -82,7 +105,7 @@ use core::ops::Range;
 pub use batch::{batch, reply, row, Reply};
 #[doc(inline)]
 pub use format::{
-    Kind, LARGEST_BLOCK, LONGEST_BOOK, LONGEST_NAME, MOST_NAMES, MOST_ROWS, MOST_SALVAGED,
+    BookKind, Kind, LARGEST_BLOCK, LONGEST_BOOK, LONGEST_NAME, MOST_NAMES, MOST_ROWS, MOST_SALVAGED,
 };
 pub use list::List;
 pub use merging::{heads, judge, merge, Head, Heads};
@@ -90,7 +113,8 @@ pub use proved::{Answer, Kept, Row};
 pub use refusal::{Refusal, Refused, Which};
 pub use salvage::{blocks_of, salvage, Block, Blocks, Names, Salvaged};
 
-/// The bytes of stack that are enough for [`build`], whatever is lent to it.
+/// The bytes of stack that are enough for [`build`] and [`build_folded`], whatever is
+/// lent to them.
 pub const BUILD_STACK: usize = 5760;
 /// The bytes of stack that are enough for every other call, whatever is lent to
 /// it: a book, or bytes that are none.
@@ -103,6 +127,8 @@ pub struct Checked {
     pub names: usize,
     /// How many names a block of it has; the last block may have fewer.
     pub block: usize,
+    /// Which kind of book it is.
+    pub kind: BookKind,
 }
 
 /// A name that shares as many leading bytes with a question as any name does, and
@@ -113,7 +139,7 @@ pub struct Nearest {
     pub position: usize,
     /// How many leading bytes of the question to light: those that the name
     /// shares, but for a character of which it shares a part. The name begins
-    /// with the same bytes.
+    /// with the same bytes; in a folded book, with the same letters.
     pub lit: usize,
 }
 
@@ -140,7 +166,7 @@ fn near((position, lit): (usize, usize)) -> Nearest {
     Nearest { position, lit }
 }
 
-/// Builds the book of a list, in blocks of so many names, at the front of the
+/// Builds the plain book of a list, in blocks of so many names, at the front of the
 /// room, and gives the book's length.
 ///
 /// Small blocks make reading a name cheaper, large ones make the book shorter;
@@ -163,7 +189,40 @@ fn near((position, lit): (usize, usize)) -> Nearest {
 /// assert_eq!(refused.refusal, Refusal::RoomTooShort);
 /// ```
 pub fn build(list: &[u8], block: usize, room: &mut [u8]) -> Result<usize, Refused> {
-    let answer = proved::book_build(list, block, room);
+    length_of_built(proved::book_build(list, block, room))
+}
+
+/// Builds the folded book of a list, as [`build`] does the plain one: questions
+/// then find names in capitals and in small letters alike, and names come back as
+/// they were spelt.
+///
+/// The list has to strictly rise by [`BookKind::order`], so it may be one for a
+/// folded book and not for a plain one, or the other way round.
+///
+/// Refused as [`build`]; [`NotAbove`](Refusal::NotAbove) also for a name that is
+/// equal to the one before it once both are folded.
+///
+/// ```
+/// use mistrogu::{build, build_folded, nearest, range, Nearest, Refusal};
+///
+/// let list = b"\x05abbey\x03MAR\x06marina\x03Zoo";
+/// let mut room = [0; 200];
+/// assert_eq!(build(list, 2, &mut room).unwrap_err().record, 1);
+/// let length = build_folded(list, 2, &mut room)?;
+/// let book = &room[..length];
+/// assert_eq!(range(book, b"Mar"), Ok(1..3));
+/// assert_eq!(nearest(book, b"ZOE"), Ok(Nearest { position: 3, lit: 2 }));
+///
+/// let refused = build_folded(b"\x03MAR\x03mar", 2, &mut room).unwrap_err();
+/// assert_eq!((refused.refusal, refused.record), (Refusal::NotAbove, 1));
+/// # Ok::<(), mistrogu::Refused>(())
+/// ```
+pub fn build_folded(list: &[u8], block: usize, room: &mut [u8]) -> Result<usize, Refused> {
+    length_of_built(proved::book_build_folded(list, block, room))
+}
+
+/// What the answer of a build says.
+fn length_of_built(answer: Answer) -> Result<usize, Refused> {
     let (length, _) = accepted(answer).map_err(|refusal| Refused {
         refusal,
         record: answer.first,
@@ -172,24 +231,26 @@ pub fn build(list: &[u8], block: usize, room: &mut [u8]) -> Result<usize, Refuse
     Ok(length)
 }
 
-/// Tells whether bytes are a book: exactly those that [`build`] writes for some
-/// list and block size. All of the bytes count, so a book with one byte more is
-/// none.
+/// Tells whether bytes are a book: exactly those that [`build`] or [`build_folded`]
+/// writes for some list and block size. All of the bytes count, so a book with one
+/// byte more is none. The kind is that of the mark that a book ends with.
 ///
 /// Refused: [`NoBook`](Refusal::NoBook).
 ///
 /// ```
-/// use mistrogu::{build, check, Checked, Refusal};
+/// use mistrogu::{build, check, BookKind, Checked, Refusal};
 ///
 /// let mut room = [0; 100];
 /// let length = build(b"\x03Mar\x06Marina", 16, &mut room)?;
-/// assert_eq!(check(&room[..length]), Ok(Checked { names: 2, block: 16 }));
+/// let checked = Checked { names: 2, block: 16, kind: BookKind::Plain };
+/// assert_eq!(check(&room[..length]), Ok(checked));
 /// assert_eq!(check(&room), Err(Refusal::NoBook));
 /// # Ok::<(), mistrogu::Refused>(())
 /// ```
 pub fn check(book: &[u8]) -> Result<Checked, Refusal> {
     let (names, block) = accepted(proved::book_check(book))?;
-    Ok(Checked { names, block })
+    let kind = BookKind::of_marked(book).expect("an accepted book has a mark");
+    Ok(Checked { names, block, kind })
 }
 
 /// Reads the name at a position back, to the front of the room, and gives that

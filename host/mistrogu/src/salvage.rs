@@ -88,7 +88,8 @@ impl<'lent> Salvaged<'lent> {
 /// with names of 1 to 200 bytes, strictly rising, and greatest shared counts. So
 /// damage inside of one block's span changes neither verdict nor names of any other
 /// block. Nodes are never looked at. A damaged block that is sound with other names
-/// is kept with those.
+/// is kept with those. All of that goes for plain books: to the mark of a folded one
+/// the answer is [`NoMap`](Refusal::NoMap).
 ///
 /// There have to be as many rows as blocks: [`blocks_of`] says how many. A room of
 /// [`MOST_SALVAGED`](crate::MOST_SALVAGED) bytes is always long enough.

@@ -1,8 +1,8 @@
 //! Document 01's book through the typed calls, one by one and in a batch.
 
 use mistrogu::{
-    batch, build, check, exact, nearest, place, range, read, reply, row, width, Answer, Checked,
-    Kind, List, Nearest, Refusal, Reply,
+    batch, build, check, exact, nearest, place, range, read, reply, row, width, Answer, BookKind,
+    Checked, Kind, List, Nearest, Refusal, Reply,
 };
 
 const STOPS: [&str; 3] = ["Mar", "Marina", "Market Square"];
@@ -77,7 +77,12 @@ fn the_book_is_checked_and_its_names_are_read() {
     let book = book();
     assert_eq!(book.len(), 93);
     let checked = check(&book).unwrap();
-    assert_eq!(checked, Checked { names: 3, block: 2 });
+    let expected = Checked {
+        names: 3,
+        block: 2,
+        kind: BookKind::Plain,
+    };
+    assert_eq!(checked, expected);
     for (position, stop) in STOPS.iter().enumerate() {
         let mut room = [0xAA; 20];
         assert_eq!(read(&book, position, &mut room), Ok(stop.as_bytes()));
@@ -91,6 +96,7 @@ fn the_book_without_names_has_16_bytes() {
     let checked = Checked {
         names: 0,
         block: 64,
+        kind: BookKind::Plain,
     };
     assert_eq!(check(&book), Ok(checked));
     assert_eq!(exact(&book, b"Mar"), Ok(None));

@@ -1,7 +1,7 @@
 //! What C is told is what Rust is told: `include/mistrogu.h` has the same
 //! names, numbers and sentences.
 
-use mistrogu::{Kind, Refusal};
+use mistrogu::{BookKind, Kind, Refusal};
 
 const HEADER: &str = include_str!("../../../include/mistrogu.h");
 
@@ -51,6 +51,16 @@ fn kinds() {
 }
 
 #[test]
+fn kinds_of_book() {
+    for kind in BookKind::ALL {
+        let (name, mark) = (kind.name().to_uppercase(), kind.mark());
+        let mark = str::from_utf8(&mark).unwrap();
+        let line = format!("#define MISTROGU_{name}_MARK \"{mark}\"");
+        assert!(HEADER.lines().any(|other| other == line), "{line}");
+    }
+}
+
+#[test]
 fn limits() {
     for (name, limit) in [
         ("MISTROGU_LONGEST_NAME", mistrogu::LONGEST_NAME),
@@ -75,6 +85,7 @@ fn limits() {
 fn calls() {
     let answers = [
         "book_build",
+        "book_build_folded",
         "book_check",
         "book_read",
         "book_exact",

@@ -1,6 +1,6 @@
 //! Two lists merged and followed through the typed calls.
 
-use mistrogu::{build, check, heads, judge, merge, Checked, Head, List};
+use mistrogu::{build, check, heads, judge, merge, BookKind, Checked, Head, List};
 use model::write_list;
 use std::collections::BTreeSet;
 use vectors::lists::{self, Names};
@@ -43,7 +43,12 @@ fn a_book_is_built_from_what_two_lists_are_merged_to() {
     let mut room = [0; 200];
     let length = build(&merged, 4, &mut room).unwrap();
     let checked = check(&room[..length]);
-    assert_eq!(checked, Ok(Checked { names: 5, block: 4 }));
+    let expected = Checked {
+        names: 5,
+        block: 4,
+        kind: BookKind::Plain,
+    };
+    assert_eq!(checked, Ok(expected));
 }
 
 #[test]

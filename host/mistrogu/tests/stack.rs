@@ -6,10 +6,11 @@
 use fenced::apart::{last_lines, run_test, word};
 use fenced::{on_stack, Fence, Fenced};
 use mistrogu::{blocks_of, BUILD_STACK, LONGEST_BOOK, LONGEST_NAME, MOST_SALVAGED, STACK};
-use model::{book_of, write_list, BookKind};
+use model::{book_check, book_of, write_list, BookKind};
 use proved::{Answer, Kept, Row};
 use vectors::hostile::{kinds, DEEPER_THAN_ANY};
 use vectors::lists::{self, Names};
+use vectors::spelling::by_turns;
 
 /// Bytes to be called with: a word on them, and the code that calls give.
 struct Lent {
@@ -33,7 +34,38 @@ fn hostile_books() -> Vec<Lent> {
         .collect()
 }
 
-/// Lists of the deepest, the widest and the largest books.
+/// Folded books with hostile nodes of every kind over chains of names, of which
+/// neighbours share no byte.
+fn hostile_folded_books() -> Vec<Lent> {
+    let names = by_turns(&lists::chain(b'a', 200));
+    let kinds = kinds().into_iter();
+    kinds
+        .map(|kind| {
+            let bytes = kind.over(BookKind::Folded, 64, &names).bytes();
+            Lent {
+                about: format!("folded, {}", kind.how),
+                code: book_check(&bytes).code,
+                bytes,
+            }
+        })
+        .collect()
+}
+
+/// Lists of the deepest, the widest and the largest books of this kind. In folded
+/// ones neighbours share no byte, so that what they share is found by going along
+/// the block.
+fn extreme_lists_for(kind: BookKind) -> Vec<(&'static str, Names)> {
+    let lists = extreme_lists().into_iter();
+    let for_kind = lists.map(|(about, names)| match kind {
+        BookKind::Plain => (about, names),
+        BookKind::Folded => (about, by_turns(&lists::sorted_for(kind, names))),
+    });
+    for_kind
+        .filter(|(_, names)| book_of(kind, 16, names).len() <= LONGEST_BOOK)
+        .collect()
+}
+
+/// Lists of the deepest, the widest and the largest plain books.
 fn extreme_lists() -> [(&'static str, Names); 6] {
     let deepest = [lists::chain(b'a', 200), lists::texts(&["b"])].concat();
     let largest = lists::with_book_length(BookKind::Plain, &lists::binary(2000), 16, LONGEST_BOOK);
@@ -140,12 +172,16 @@ fn worn(lent: &Lent) -> Lent {
     }
 }
 
-/// Builds a book of these bytes, be they a list or not.
-fn build(lent: &Lent, fence: Fence) -> Answer {
+/// Builds a book of this kind of these bytes, be they a list or not.
+fn build(kind: BookKind, lent: &Lent, fence: Fence) -> Answer {
     say("build", &lent.about);
     let list = Fenced::of(&lent.bytes, fence);
     let mut room = Fenced::of(&[0; LONGEST_BOOK], fence);
-    on_stack(BUILD_STACK, || proved::book_build(&list, 16, &mut room))
+    let build = match kind {
+        BookKind::Plain => proved::book_build,
+        BookKind::Folded => proved::book_build_folded,
+    };
+    on_stack(BUILD_STACK, || build(&list, 16, &mut room))
 }
 
 /// Makes all calls, with a fence on this side.
@@ -153,23 +189,41 @@ fn call_with_all(fence: Fence) {
     for lent in hostile_books() {
         call_with_book(&lent, fence);
         assert_eq!(salvage(&lent, fence).code, 0, "only nodes are hostile");
-        assert_ne!(build(&lent, fence).code, 0);
-    }
-    for (about, names) in extreme_lists() {
-        let lent = |bytes: Vec<u8>| Lent {
-            about: about.to_string(),
-            bytes,
-            code: 0,
-        };
-        let book = lent(book_of(BookKind::Plain, 16, &names));
-        call_with_book(&book, fence);
-        call_with_book(&worn(&book), fence);
-        for card in [&book, &worn(&book)] {
-            assert_eq!(salvage(card, fence).code, 0);
+        for kind in BookKind::ALL {
+            assert_ne!(build(kind, &lent, fence).code, 0);
         }
-        assert_eq!(salvage(&lent(write_list(&names)), fence).code, 13);
-        assert_eq!(build(&lent(write_list(&names)), fence).code, 0);
     }
+    for lent in hostile_folded_books() {
+        call_with_book(&lent, fence);
+        assert_eq!(salvage(&lent, fence).code, 13, "the mark is folded");
+    }
+    for kind in BookKind::ALL {
+        for (about, names) in extreme_lists_for(kind) {
+            call_with_names(kind, about, &names, fence);
+        }
+    }
+}
+
+/// Makes all calls with the book of this kind of these names, with the book worn,
+/// and with the list.
+fn call_with_names(kind: BookKind, about: &str, names: &Names, fence: Fence) {
+    let lent = |bytes: Vec<u8>| Lent {
+        about: format!("{kind:?}, {about}"),
+        bytes,
+        code: 0,
+    };
+    let book = lent(book_of(kind, 16, names));
+    call_with_book(&book, fence);
+    call_with_book(&worn(&book), fence);
+    let salvaged = match kind {
+        BookKind::Plain => 0,
+        BookKind::Folded => 13,
+    };
+    for card in [&book, &worn(&book)] {
+        assert_eq!(salvage(card, fence).code, salvaged);
+    }
+    assert_eq!(salvage(&lent(write_list(names)), fence).code, 13);
+    assert_eq!(build(kind, &lent(write_list(names)), fence).code, 0);
 }
 
 /// Makes every call that takes two lists, be they lists or not.
