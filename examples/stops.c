@@ -1,11 +1,13 @@
 /*
  * Two operators' lists made one, its three stops in a book, what can be asked of
- * it, and what is left of it where it is damaged.
+ * it, and what is left of it where it is damaged; and a folded book, in which a
+ * driver finds stops in small letters.
  *
  * The merged list, the book and the first twelve questions are those of document
  * 01, the project's scope document; the widths, the merging, how much of a
- * question is lit and the salvage are document 02's. Every answer is held to the figures there:
- * where one differs, the program says so and its exit status is 1.
+ * question is lit, the salvage and the folded book are document 02's. Every answer
+ * is held to the figures there: where one differs, the program says so and its
+ * exit status is 1.
  *
  * run.sh compiles it, links it with the proved library and runs it.
  */
@@ -67,6 +69,22 @@ static const struct lit LIT[] = {
     {"parts inside it", "Caf\303\250", 3},
     {"parts behind it", "Caf\303\251s", 5},
     {"ends inside it", "Caf\303", 4},
+};
+
+/* Stops as three offices spell them, in the order of a folded book. */
+static const char *const SPELT[] = {"mar", "Marina", "MARKET Square"};
+
+/* Two names that are one once folded. */
+static const uint8_t ALIKE[] = "\003MAR\003mar";
+
+/* What is typed to the folded book, in whatever case. */
+static const struct asked TYPED[] = {
+    {MISTROGU_EXACT, "marina", 1, 1},
+    {MISTROGU_EXACT, "MARKET SQUARE", 2, 1},
+    {MISTROGU_PLACE, "MARK", 2, 0},
+    {MISTROGU_RANGE, "maR", 0, 3},
+    {MISTROGU_NEAREST, "markt", 2, 4},
+    {MISTROGU_WIDTH, "MARI", 6, 0},
 };
 
 struct damage {
@@ -321,6 +339,60 @@ static void light_no_half_letter(void)
     }
 }
 
+/* Whether an accepted book is folded. */
+static int is_folded(const uint8_t *book, size_t length)
+{
+    return memcmp(book + length - 4, MISTROGU_FOLDED_MARK, 4) == 0;
+}
+
+/* A folded book: questions find its names in any case, and the names come back as
+   they were spelt. */
+static void ask_a_folded_book(const uint8_t *book, size_t length)
+{
+    uint8_t name[MISTROGU_LONGEST_NAME];
+    size_t i;
+
+    hold("book_check, folded", book_check(book, length), 0, 3, 4);
+    if (!is_folded(book, length)) {
+        printf("WRONG: the book has no folded mark\n");
+        differences++;
+    }
+    printf("a folded book of %zu bytes\n", length);
+    for (i = 0; i < COUNT(TYPED); i++) {
+        const struct asked *typed = &TYPED[i];
+        tell(typed, hold(typed->question, ask(book, length, typed->kind, typed->question),
+                         0, typed->first, typed->second));
+    }
+    for (i = 0; i < COUNT(SPELT); i++) {
+        struct mistrogu_answer read =
+            hold("book_read, folded", book_read(book, length, i, name, sizeof name), 0,
+                 strlen(SPELT[i]), 0);
+        hold_name(name, read.first, SPELT[i]);
+    }
+}
+
+/* Builds a folded book, asks it, and tries what only a plain one is good for. */
+static void fold(void)
+{
+    uint8_t list[50];
+    uint8_t book[93];
+    uint8_t room[100];
+    struct mistrogu_kept report[1];
+    size_t list_length = write_list(list, SPELT, COUNT(SPELT));
+
+    hold("book_build_folded",
+         book_build_folded(list, list_length, 4, book, sizeof book), 0, sizeof book, 0);
+    ask_a_folded_book(book, sizeof book);
+    hold("a plain book of names that rise once folded",
+         book_build(list, list_length, 4, room, sizeof room), MISTROGU_NOT_ABOVE, 1, 0);
+    hold("a folded book of two names that are one",
+         book_build_folded(ALIKE, sizeof ALIKE - 1, 4, room, sizeof room),
+         MISTROGU_NOT_ABOVE, 1, 0);
+    hold("what is left of a folded book",
+         book_salvage(book, sizeof book, room, sizeof room, report, COUNT(report)),
+         MISTROGU_NO_MAP, 0, 0);
+}
+
 /* How many report rows a salvage takes: as many as the trailer tells of blocks. */
 static size_t blocks_of(const uint8_t *data, size_t length)
 {
@@ -523,6 +595,7 @@ int main(void)
     ask_one_by_one(book, length);
     ask_in_a_batch(book, length);
     light_no_half_letter();
+    fold();
     salvage(book, length);
     be_refused(list, list_length, book, length);
     be_refused_salvage(book, length);

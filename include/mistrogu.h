@@ -15,6 +15,21 @@
  * extensions. Positions count from 0. A list is a run of records without gaps,
  * each one byte with the length of a name and then the name; it may be empty.
  *
+ * TWO KINDS OF BOOK
+ *
+ * In a plain book every byte is a letter of its own. In a folded book the capitals
+ * A to Z, bytes 65 to 90, are the same letters as a to z, the bytes 32 higher:
+ * where a call compares names, or a question with them, each capital counts as
+ * the small letter. So order goes by letters, MAR and mar are one name, and what
+ * is typed in small letters finds a name in capitals. Nothing else folds: letters
+ * with accents, which are bytes from 128 on, do not. Names are read back as they
+ * were spelt.
+ *
+ * Who builds a book says which kind it is. From then on its last four bytes, the
+ * mark, tell it: every call that takes a book goes by them. Where all names are in
+ * small letters, the two books of a list differ in nothing else. Merging and
+ * salvaging know plain lists and plain books only.
+ *
  * WHAT A CALL GIVES
  *
  * Every call but list_head gives three numbers. The code is 0 where the call was
@@ -42,14 +57,14 @@
  * - Rows and answers are aligned as C aligns their structs, to 8 bytes. Bytes
  *   have no alignment.
  * - No piece of memory is larger than PTRDIFF_MAX bytes.
- * - There is stack for the call: MISTROGU_BUILD_STACK bytes for book_build and
- *   MISTROGU_STACK for every other call are enough for any input, be it a book or
- *   not, with what the call itself pushes and without what your own memcpy and
- *   memset take. On real names every call but book_build takes less than 2,048
- *   bytes; names that are each the beginning of the next, and bytes that are made
- *   to look so, take the most, 112 bytes for each level. docs/BENCHMARKS.md says
- *   which guest can call what. The numbers are read out of the compiled code, by
- *   `host/bound`, for all inputs.
+ * - There is stack for the call: MISTROGU_BUILD_STACK bytes for the two that
+ *   build and MISTROGU_STACK for every other call are enough for any input, be it
+ *   a book or not, with what the call itself pushes and without what your own
+ *   memcpy and memset take. On real names every call but those that build takes
+ *   less than 2,048 bytes; names that are each the beginning of the next, and bytes
+ *   that are made to look so, take the most, 112 bytes for each level.
+ *   docs/BENCHMARKS.md says which guest can call what. The numbers are read out of
+ *   the compiled code, by `host/bound`, for all inputs.
  *
  * The code is for x86-64 with the calling convention of System V (Linux and its
  * kin); there a struct of three words comes back through memory, which a C or
@@ -75,11 +90,14 @@ extern "C" {
 #define MISTROGU_LONGEST_BOOK 65535
 /* The most names of a block; the least is 1. */
 #define MISTROGU_LARGEST_BLOCK 64
+/* The last four bytes of a plain book, and of a folded one. */
+#define MISTROGU_PLAIN_MARK "NBK2"
+#define MISTROGU_FOLDED_MARK "NBF2"
 /* The most rows of a batch. */
 #define MISTROGU_MOST_ROWS 64
 /* The most bytes that a salvage writes: 2,000 names of 200 bytes, as records. */
 #define MISTROGU_MOST_SALVAGED 402000
-/* Bytes of stack that are enough for book_build, whatever it is given. */
+/* Bytes of stack that are enough for a call that builds, whatever it is given. */
 #define MISTROGU_BUILD_STACK 5760
 /* Bytes of stack that are enough for every other call, whatever it is given. */
 #define MISTROGU_STACK 23552
@@ -163,9 +181,9 @@ struct mistrogu_head {
 #endif
 
 /*
- * Builds the book of a list, in blocks of so many names, 1 to 64, at the front
- * of the room. Small blocks make reading a name cheaper, large ones make the
- * book shorter; 16 is a good middle. A room of MISTROGU_LONGEST_BOOK bytes is
+ * Builds the plain book of a list, in blocks of so many names, 1 to 64, at the
+ * front of the room. Small blocks make reading a name cheaper, large ones make
+ * the book shorter; 16 is a good middle. A room of MISTROGU_LONGEST_BOOK bytes is
  * always long enough.
  *
  * Accepted: (0, length of the book, 0).
@@ -178,10 +196,28 @@ struct mistrogu_answer book_build(const uint8_t *list, size_t list_length,
     MISTROGU_NEVER_NULL;
 
 /*
- * Tells whether bytes are a book: exactly those that book_build writes for some
- * list and block size. All of the bytes count, so a book with one byte more is
- * none. A book ends with the mark 4E 42 4B 32; one that ends with 31 was built
+ * Builds the folded book of a list, as book_build does the plain one. The list
+ * has to strictly rise by letters, capitals counted as small ones: 6 is also given
+ * to a name that is equal to the one before it once both are folded. A list that
+ * rises for one kind need not for the other: Zoo, abbey is a list for a plain
+ * book, and abbey, Zoo for a folded one.
+ *
+ * Accepted: (0, length of the book, 0).
+ * Refused: as book_build.
+ */
+struct mistrogu_answer book_build_folded(const uint8_t *list, size_t list_length,
+                                         size_t block,
+                                         uint8_t *room, size_t room_length)
+    MISTROGU_NEVER_NULL;
+
+/*
+ * Tells whether bytes are a book: exactly those that book_build or
+ * book_build_folded writes for some list and block size. All of the bytes count,
+ * so a book with one byte more is none. A plain book ends with the mark 4E 42 4B
+ * 32, a folded one with 4E 42 46 32. One that ends with 4E 42 4B 31 was built
  * before nodes had widths, is none any more, and has to be built again.
+ *
+ * The kind is not told beside n and k: once a book is accepted, its mark tells it.
  *
  * Accepted: (0, number of names, block size).
  * Refused: 2.
@@ -190,9 +226,9 @@ struct mistrogu_answer book_check(const uint8_t *book, size_t book_length)
     MISTROGU_NEVER_NULL;
 
 /*
- * Reads the name at a position back, to the front of the room. A room of
- * MISTROGU_LONGEST_NAME bytes is always long enough. No byte is put behind the
- * name; a name may hold bytes of 0 itself.
+ * Reads the name at a position back, to the front of the room, as it was spelt. A
+ * room of MISTROGU_LONGEST_NAME bytes is always long enough. No byte is put behind
+ * the name; a name may hold bytes of 0 itself.
  *
  * Accepted: (0, length of the name, 0).
  * Refused: 2, 3, 4.
@@ -204,7 +240,9 @@ struct mistrogu_answer book_read(const uint8_t *book, size_t book_length,
 
 /*
  * The five questions. Each checks the whole book before it answers, and nearly
- * all of its time goes there: whoever has several questions asks a batch.
+ * all of its time goes there: whoever has several questions asks a batch. Of a
+ * folded book, 'equals', 'less', 'begins' and 'shares' below go by letters,
+ * capitals counted as small ones, in the names and in the question.
  */
 
 /*
@@ -249,8 +287,9 @@ struct mistrogu_answer book_range(const uint8_t *book, size_t book_length,
  * the question's byte is not 128 to 191: in UTF-8 those are the bytes that go on
  * with a character. With the name Café, C3 A9 at its end, the question Cafè, C3 A8
  * at its end, shares four bytes, and three are lit: Caf. The name begins with the
- * lit bytes; what it goes on with does not count. A question that ends inside a
- * character and is shared in full is lit in full.
+ * lit bytes, in a folded book in whatever case; what it goes on with does not
+ * count. A question that ends inside a character and is shared in full is lit in
+ * full.
  *
  * Accepted: (0, its position, how many leading bytes of the question to light).
  * Refused: 2, 1, 10.
@@ -305,7 +344,8 @@ struct mistrogu_answer book_batch(const uint8_t *book, size_t book_length,
  *
  * The trailer and the block table make sense where there are at most 2,000 names,
  * in blocks of 1 to 64; where the parts meet without gaps at the places that the
- * trailer names, and the length and the mark are right; and where the blocks'
+ * trailer names, and the length and the mark are right, which is that of a plain
+ * book: to a folded mark the answer is 13; and where the blocks'
  * starts strictly rise from 0 inside of the entries. Without names there are no
  * bytes of entries.
  *
