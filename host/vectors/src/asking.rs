@@ -103,7 +103,7 @@ fn shown(question: &[u8]) -> String {
 }
 
 /// Asks these questions of one run of bytes.
-fn of_bytes(why: &str, book: Vec<u8>, questions: Names) -> Cases {
+pub(crate) fn of_bytes(why: &str, book: Vec<u8>, questions: Names) -> Cases {
     let questions = questions.into_iter();
     Case::of_same(why, book, questions.map(|question| Ask { question }))
 }

@@ -132,7 +132,7 @@ fn with_places(why: &str, book: Vec<u8>, batches: Vec<(Batch, usize)>) -> Cases 
 }
 
 /// Asks these batches of one run of bytes, with as many places as rows.
-fn of_bytes(why: &str, book: Vec<u8>, batches: Vec<Batch>) -> Cases {
+pub(crate) fn of_bytes(why: &str, book: Vec<u8>, batches: Vec<Batch>) -> Cases {
     let batches = batches.into_iter();
     let fitting = batches.map(|batch| {
         let places = batch.rows.len();
@@ -184,7 +184,7 @@ fn in_turn(spans: &[[u64; 2]]) -> Vec<Numbers> {
 }
 
 /// Each question in each of the five kinds, in as many batches as they take.
-fn in_batches(questions: &Names) -> Vec<Batch> {
+pub(crate) fn in_batches(questions: &Names) -> Vec<Batch> {
     of_kinds(1..=5, questions)
 }
 

@@ -26,16 +26,18 @@ use crate::lists::{self, followed, Names};
 use crate::random::Random;
 use crate::rooms::{filled_room, printed_outcome};
 use crate::sets::{length_bytes, word, Call, Case, Set};
-use model::{book_build, book_of, write_list, BookKind};
+use model::{book_of, build_kind, write_list, BookKind};
 
 /// The longest room of a case.
 pub const LONGEST_ROOM: usize = 70_000;
 
-/// A call of `book_build`.
+/// A call of `book_build`, or of `book_build_folded`. Which of the two it is does
+/// not stand in the file: a set has calls of one kind.
 #[derive(Clone)]
 pub struct Build {
-    block: u64,
-    room: usize,
+    pub(crate) kind: BookKind,
+    pub(crate) block: u64,
+    pub(crate) room: usize,
 }
 
 /// Cases with such a call.
@@ -79,14 +81,15 @@ impl Call for Build {
 
     fn outcome(&self, list: &[u8]) -> String {
         let mut room = filled_room(self.room);
-        let answer = book_build(list, word(self.block), &mut room);
+        let answer = build_kind(self.kind, list, word(self.block), &mut room);
         printed_outcome(answer, &room)
     }
 }
 
 /// A case with this list, as bytes.
 fn of_bytes(why: &str, list: impl Into<Vec<u8>>, block: u64, room: usize) -> Case<Build> {
-    Case::of(why, list, Build { block, room })
+    let kind = BookKind::Plain;
+    Case::of(why, list, Build { kind, block, room })
 }
 
 /// A case with these names.

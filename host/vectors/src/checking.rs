@@ -61,7 +61,7 @@ impl Call for Check {
 }
 
 /// A case with these bytes.
-fn of_bytes(why: impl Into<String>, book: impl Into<Vec<u8>>) -> Case<Check> {
+pub(crate) fn of_bytes(why: impl Into<String>, book: impl Into<Vec<u8>>) -> Case<Check> {
     Case::of(why, book, Check)
 }
 
@@ -74,7 +74,7 @@ fn of_names(why: &str, names: &Names, block: usize) -> Case<Check> {
 }
 
 /// A case for each spoilt book.
-fn of_spoilt(why: &str, spoilt: Spoilt) -> Cases {
+pub(crate) fn of_spoilt(why: &str, spoilt: Spoilt) -> Cases {
     let spoilt = spoilt.into_iter();
     spoilt
         .map(|(how, book)| of_bytes(format!("{why}, {how}"), book))

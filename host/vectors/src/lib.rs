@@ -19,6 +19,7 @@
 //! | [`batching`] | the set of `book_batch`, likewise |
 //! | [`merging`] | the set of the calls of two lists, likewise |
 //! | [`salvaging`] | the set of `book_salvage`, likewise |
+//! | [`folded`] | the sets of folded books, of `book_build_folded` and of all calls that take a book |
 //! | [`checksum`] | two small numbers that stand for many |
 //! | [`lists`] | lists of names by their shape |
 //! | [`questions`] | questions by how they stand to a list's names |
@@ -46,6 +47,7 @@ pub mod building;
 pub mod checking;
 pub mod checksum;
 pub mod damage;
+pub mod folded;
 pub mod growth;
 pub mod hostile;
 pub mod lists;
@@ -64,7 +66,7 @@ pub mod worst;
 use sets::Files;
 
 /// Every set that a program runs, in its order.
-pub const SETS: [&dyn Files; 7] = [
+pub const SETS: [&dyn Files; 12] = [
     &building::SET,
     &checking::SET,
     &reading::SET,
@@ -72,6 +74,11 @@ pub const SETS: [&dyn Files; 7] = [
     &asking::DEAREST,
     &batching::SET,
     &merging::SET,
+    &folded::BUILD,
+    &folded::CHECK,
+    &folded::READ,
+    &folded::ASK,
+    &folded::BATCH,
 ];
 
 /// Every set that no such program runs, but a test of the linked archive.

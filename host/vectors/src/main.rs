@@ -1,20 +1,23 @@
 //! Writes test vectors, says what they are for, and writes lists, books and what
 //! only looks like a book, to measure with.
 
+use model::BookKind;
 use std::path::Path;
 use std::process::ExitCode;
 use std::{env, fs, io};
 use vectors::hostile;
 use vectors::lists::{self, Names};
 use vectors::sets::Files;
+use vectors::spelling::by_turns;
 use vectors::worst;
 use vectors::{SETS, TESTED_SETS};
 
 const USAGE: &str = "\
 vectors SET FOLDER       write FOLDER/SET.cases and FOLDER/SET.expected
 vectors purposes SET     say what each case of the set is for
-vectors lists FOLDER     write lists to measure with, as FOLDER/NAME.list
-vectors books FOLDER K   write their books with that block size, as FOLDER/NAME.book
+vectors lists FOLDER     write lists to measure with, as FOLDER/NAME.list; those for folded books as NAME-folded.list, and with
+                         capitals and small letters by turns as NAME-turns.list
+vectors books FOLDER K   write their books with that block size, as FOLDER/NAME.book and so on
 vectors hostile FOLDER   write the largest books that are none by their nodes, as FOLDER/KIND.book
 vectors worst FOLDER     write the dearest that were found, as FOLDER/NAME.list, .book and, with its question in hex, .question
 The sets are:";
@@ -86,9 +89,23 @@ fn shapes() -> [(&'static str, Names); 7] {
     ]
 }
 
+/// Each of these lists for a plain book, for a folded one, and for a folded one in
+/// which neighbours share no byte.
+fn shapes_of_both_kinds() -> Vec<(String, BookKind, Names)> {
+    let mut lists = Vec::new();
+    for (name, names) in shapes() {
+        let folded = lists::sorted_for(BookKind::Folded, names.clone());
+        let turns = by_turns(&folded);
+        lists.push((name.to_string(), BookKind::Plain, names));
+        lists.push((format!("{name}-folded"), BookKind::Folded, folded));
+        lists.push((format!("{name}-turns"), BookKind::Folded, turns));
+    }
+    lists
+}
+
 /// Writes the lists.
 fn write_lists(folder: &Path) -> Result<(), String> {
-    for (name, names) in shapes() {
+    for (name, _, names) in shapes_of_both_kinds() {
         write_file(folder, &format!("{name}.list"), &model::write_list(&names))?;
     }
     Ok(())
@@ -97,8 +114,8 @@ fn write_lists(folder: &Path) -> Result<(), String> {
 /// Writes the books of the lists with this block size.
 fn write_books(folder: &Path, block: &str) -> Result<(), String> {
     let block = block.parse().map_err(|error| format!("{block}: {error}"))?;
-    for (name, names) in shapes() {
-        let book = model::book_of(model::BookKind::Plain, block, &names);
+    for (name, kind, names) in shapes_of_both_kinds() {
+        let book = model::book_of(kind, block, &names);
         write_file(folder, &format!("{name}.book"), &book)?;
     }
     Ok(())

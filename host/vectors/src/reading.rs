@@ -84,7 +84,7 @@ impl Call for Read {
 }
 
 /// Reads from one run of bytes: a case for each position and room.
-fn of_bytes(why: &str, book: Vec<u8>, calls: &[(u64, usize)]) -> Cases {
+pub(crate) fn of_bytes(why: &str, book: Vec<u8>, calls: &[(u64, usize)]) -> Cases {
     let calls = calls.iter();
     let calls = calls.map(|&(position, room)| Read { position, room });
     Case::of_same(why, book, calls)
@@ -102,10 +102,21 @@ fn with_rooms(names: &Names, positions: impl IntoIterator<Item = usize>) -> Vec<
     calls
 }
 
-/// Reads these positions of a book.
-fn at_positions(why: &str, names: &Names, block: usize, positions: &[usize]) -> Cases {
+/// Reads these positions of a book of this kind.
+pub(crate) fn at_positions(
+    kind: BookKind,
+    why: &str,
+    names: &Names,
+    block: usize,
+    positions: &[usize],
+) -> Cases {
     let calls = with_rooms(names, positions.iter().copied());
-    of_bytes(why, book_of(BookKind::Plain, block, names), &calls)
+    of_bytes(why, book_of(kind, block, names), &calls)
+}
+
+/// Reads these positions of a plain book.
+fn at_plain(why: &str, names: &Names, block: usize, positions: &[usize]) -> Cases {
+    at_positions(BookKind::Plain, why, names, block, positions)
 }
 
 /// Reads every position of a book, then one past the last and the largest.
@@ -184,10 +195,10 @@ fn deep_and_wide_trees() -> Cases {
     let fan = lists::fan(b"x");
     let stops = lists::stops();
     [
-        at_positions("deepest chain", &chain, 64, &[0, 63, 64, 127, 198, 199]),
-        at_positions("deepest mirror", &mirror, 64, &[0, 63, 64, 127, 199]),
-        at_positions("257 children", &fan, 16, &[0, 1, 16, 255, 256]),
-        at_positions("seventy stops", &stops, 16, &[0, 15, 16, 17, 68, 69]),
+        at_plain("deepest chain", &chain, 64, &[0, 63, 64, 127, 198, 199]),
+        at_plain("deepest mirror", &mirror, 64, &[0, 63, 64, 127, 199]),
+        at_plain("257 children", &fan, 16, &[0, 1, 16, 255, 256]),
+        at_plain("seventy stops", &stops, 16, &[0, 15, 16, 17, 68, 69]),
     ]
     .concat()
 }
@@ -197,7 +208,7 @@ fn numbers_of_names() -> Cases {
     let full = lists::pairs(2000);
     let past = [(2000, 9), (1999, 2), (65_536, 9)];
     [
-        at_positions("2,000 names", &full, 64, &[0, 63, 64, 1023, 1999]),
+        at_plain("2,000 names", &full, 64, &[0, 63, 64, 1023, 1999]),
         of_bytes(
             "past 2,000 names",
             book_of(BookKind::Plain, 64, &full),
@@ -216,7 +227,7 @@ fn numbers_of_names() -> Cases {
 fn longest_books() -> Cases {
     let names = lists::with_book_length(BookKind::Plain, &lists::pairs(320), 16, 65_535);
     let last = names.len() - 1;
-    at_positions("book of 65,535", &names, 16, &[0, 15, 16, 17, last])
+    at_plain("book of 65,535", &names, 16, &[0, 15, 16, 17, last])
 }
 
 /// Bytes that are no book: 2, before 3 and 4.
@@ -255,7 +266,7 @@ fn random_books() -> Cases {
             cases.extend(of_bytes("spoilt at random", book, &[(0, 90), (3, 90)]));
         } else {
             let positions = [0; 3].map(|_| random.below(names.len()));
-            cases.extend(at_positions("random", &names, block, &positions));
+            cases.extend(at_plain("random", &names, block, &positions));
         }
     }
     cases

@@ -417,6 +417,8 @@ fn trailers() -> Cases {
         cases.push(fitting(format!("mark, byte {at}"), data));
     }
     cases.push(fitting("old mark", worn_example(89, b"NBK1")));
+    let folded = BookKind::Folded.mark();
+    cases.push(fitting("folded mark", worn_example(89, &folded)));
     cases
 }
 

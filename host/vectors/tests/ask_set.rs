@@ -4,15 +4,19 @@
 mod common;
 
 use common::hold_nearest;
-use model::{book_exact, book_nearest, book_place, book_range, book_width, open};
+use model::{book_exact, book_nearest, book_place, book_range, book_width, open, BookKind};
 use std::collections::BTreeSet;
 use std::sync::LazyLock;
 use vectors::asking::{self, Ask};
+use vectors::folded;
 use vectors::lists;
-use vectors::sets::{Case, Files};
+use vectors::sets::{Case, Files, Set};
 
 /// The text to be printed. It takes some seconds, so the tests share it.
 static EXPECTED: LazyLock<String> = LazyLock::new(|| asking::SET.expected());
+
+/// The same of folded books.
+static FOLDED_EXPECTED: LazyLock<String> = LazyLock::new(|| folded::ASK.expected());
 
 /// A case as it stands in the file.
 struct Asked<'file> {
@@ -59,17 +63,21 @@ fn find<'cases>(cases: &'cases [Case<Ask>], purpose: &str) -> &'cases Case<Ask> 
 
 #[test]
 fn a_program_that_follows_the_description_prints_the_text() {
-    let file = asking::SET.case_file();
-    let cases = read_file(&file);
-    let lines = cases.iter().enumerate();
-    let text: String = lines.map(|(number, case)| line(number, case)).collect();
-    assert_eq!(text, *EXPECTED);
+    for (set, expected) in [(&asking::SET, &EXPECTED), (&folded::ASK, &FOLDED_EXPECTED)] {
+        let file = set.case_file();
+        let cases = read_file(&file);
+        let lines = cases.iter().enumerate();
+        let text: String = lines.map(|(number, case)| line(number, case)).collect();
+        assert_eq!(text, **expected);
+    }
 }
 
 #[test]
 fn the_cases_are_not_too_many() {
-    let cases = asking::SET.cases().len();
-    assert!(cases <= 7000, "{cases}");
+    for (set, most) in [(&asking::SET, 7000), (&folded::ASK, 1400)] {
+        let cases = set.cases().len();
+        assert!(cases <= most, "{cases}");
+    }
 }
 
 #[test]
@@ -216,10 +224,17 @@ fn the_width_of_a_range_is_among_the_cases_wherever_its_longest_name_stands() {
 
 #[test]
 fn nearest_lights_no_half_letter_in_any_case_and_less_than_is_shared_in_many() {
-    let file = asking::SET.case_file();
+    assert!(held_nearest(&asking::SET, &EXPECTED) > 300);
+    assert!(held_nearest(&folded::ASK, &FOLDED_EXPECTED) > 50);
+}
+
+/// Holds nearest's numbers to the names in every case of a set. Gives in how many
+/// less is lit than is shared.
+fn held_nearest(set: &Set<Ask>, expected: &str) -> usize {
+    let file = set.case_file();
     let mut less = 0;
-    let (mut book, mut names) = (&[][..], Vec::new());
-    for (case, line) in read_file(&file).iter().zip(EXPECTED.lines()) {
+    let (mut book, mut kind, mut names) = (&[][..], BookKind::Plain, Vec::new());
+    for (case, line) in read_file(&file).iter().zip(expected.lines()) {
         let numbers: Vec<usize> = line.split(' ').map(|word| word.parse().unwrap()).collect();
         let [code, position, number] = [10, 11, 12].map(|at| numbers[at]);
         if code != 0 {
@@ -227,11 +242,12 @@ fn nearest_lights_no_half_letter_in_any_case_and_less_than_is_shared_in_many() {
         }
         if book != case.book {
             book = case.book;
-            names = open(book).expect("an accepted book").2;
+            (kind, _, names) = open(book).expect("an accepted book");
         }
-        less += usize::from(hold_nearest(&names, case.question, position, number));
+        let is_less = hold_nearest(kind, &names, case.question, position, number);
+        less += usize::from(is_less);
     }
-    assert!(less > 300, "{less}");
+    less
 }
 
 #[test]
@@ -285,6 +301,74 @@ fn letters_of_several_bytes_are_among_the_cases() {
     let outcomes: Vec<String> = longest.map(Case::outcome).collect();
     assert!(outcomes[0].ends_with(" 0 0 0 0 0 0"), "{}", outcomes[0]);
     assert!(outcomes[1].ends_with(" 0 0 200 0 200 0"), "{}", outcomes[1]);
+}
+
+#[test]
+fn the_edges_of_folding_are_among_the_cases() {
+    let cases = folded::ASK.cases();
+    for (about, question, outcome) in [
+        // exact, place, range, nearest, width
+        (
+            "MAR, marina: book 67",
+            "mar",
+            "0 0 1 0 0 0 0 0 2 0 0 3 0 6 0",
+        ),
+        (
+            "MAR, marina: book 67",
+            "MARINA",
+            "0 1 1 0 1 0 0 1 1 0 1 6 0 6 0",
+        ),
+        (
+            "spelt example: book 93",
+            "mark",
+            "0 0 0 0 2 0 0 2 1 0 2 4 0 13 0",
+        ),
+        (
+            "all around the letters: book 755",
+            "[",
+            "0 7 1 0 7 0 0 7 7 0 7 1 0 2 0",
+        ),
+        (
+            "all around the letters: book 755",
+            "A",
+            "0 21 1 0 21 0 0 21 7 0 21 1 0 2 0",
+        ),
+        (
+            "all around the letters: book 755",
+            "a",
+            "0 21 1 0 21 0 0 21 7 0 21 1 0 2 0",
+        ),
+        ("no names: book 16", "MAR", "0 0 0 0 0 0 0 0 0 10 0 0 0 0 0"),
+        // CAFÈ to café: three letters and a byte are shared, and three are lit
+        (
+            "lit by symbols: book 68",
+            "CAF\\xc3\\x88",
+            "0 0 0 0 0 0 0 0 0 0 0 3 0 0 0",
+        ),
+        (
+            "lit by symbols: book 68",
+            "CAF\\xc3\\xa9",
+            "0 0 1 0 0 0 0 0 1 0 0 5 0 5 0",
+        ),
+        (
+            "lit by symbols: book 68",
+            "k\\xc3\\xb6LN",
+            "0 0 0 0 2 0 0 2 0 0 1 1 0 0 0",
+        ),
+        (
+            "lit by symbols: book 68",
+            "k\\xc3\\x96LN",
+            "0 1 1 0 1 0 0 1 1 0 1 5 0 5 0",
+        ),
+        (
+            "the other mark: book 67",
+            "mar",
+            "2 0 0 2 0 0 2 0 0 2 0 0 2 0 0",
+        ),
+    ] {
+        let purpose = format!("{about}, question \"{question}\"");
+        assert_eq!(find(&cases, &purpose).outcome(), outcome, "{purpose}");
+    }
 }
 
 #[test]

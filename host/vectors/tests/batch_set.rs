@@ -6,9 +6,10 @@ mod common;
 use common::hold_nearest;
 use model::{book_batch, book_check, open, Answer, Row};
 use std::collections::{BTreeMap, BTreeSet};
-use vectors::batching;
+use vectors::batching::{self, AskBatch};
 use vectors::checksum::checksum_of;
-use vectors::sets::Files;
+use vectors::folded;
+use vectors::sets::{Files, Set};
 
 /// A case as it stands in the file.
 struct Asked<'file> {
@@ -128,23 +129,27 @@ fn refused(code: usize) -> String {
 
 #[test]
 fn a_program_that_follows_the_description_prints_the_text() {
-    let file = batching::SET.case_file();
-    let mut text = String::new();
-    for (number, case) in read_file(&file).iter().enumerate() {
-        let (answer, rows) = ask(case);
-        text.push_str(&format!("{number} {}\n", outcome(&answer, &rows)));
+    for set in [&batching::SET, &folded::BATCH] {
+        let file = set.case_file();
+        let mut text = String::new();
+        for (number, case) in read_file(&file).iter().enumerate() {
+            let (answer, rows) = ask(case);
+            text.push_str(&format!("{number} {}\n", outcome(&answer, &rows)));
+        }
+        assert_eq!(text, set.expected());
     }
-    assert_eq!(text, batching::SET.expected());
 }
 
 #[test]
 fn the_batches_are_small_enough() {
-    let file = batching::SET.case_file();
-    let cases = read_file(&file);
-    assert!(cases.len() <= 800, "{}", cases.len());
-    assert!(cases
-        .iter()
-        .all(|case| case.rows.len() <= 65 && case.places <= 65));
+    for (set, most) in [(&batching::SET, 800), (&folded::BATCH, 60)] {
+        let file = set.case_file();
+        let cases = read_file(&file);
+        assert!(cases.len() <= most, "{}", cases.len());
+        assert!(cases
+            .iter()
+            .all(|case| case.rows.len() <= 65 && case.places <= 65));
+    }
 }
 
 #[test]
@@ -346,23 +351,30 @@ fn other_bytes_outside_the_spans_change_no_line() {
 
 #[test]
 fn nearest_lights_no_half_letter_in_any_row_and_less_than_is_shared_in_many() {
-    let file = batching::SET.case_file();
+    assert!(held_nearest(&batching::SET) > 140);
+    assert!(held_nearest(&folded::BATCH) > 5);
+}
+
+/// Holds nearest's numbers to the names in every row of a set. Gives in how many
+/// less is lit than is shared.
+fn held_nearest(set: &Set<AskBatch>) -> usize {
+    let file = set.case_file();
     let mut less = 0;
     for case in read_file(&file) {
         let (answer, answers) = ask(&case);
         if answer.code != 0 {
             continue;
         }
-        let (_, _, names) = open(case.book).expect("an accepted book");
+        let (kind, _, names) = open(case.book).expect("an accepted book");
         for (row, answer) in case.rows.iter().zip(answers) {
             if row.kind == 4 && answer.code == 0 {
                 let question = &case.questions[row.start..row.start + row.length];
                 let (position, number) = (answer.first, answer.second);
-                less += usize::from(hold_nearest(&names, question, position, number));
+                less += usize::from(hold_nearest(kind, &names, question, position, number));
             }
         }
     }
-    assert!(less > 140, "{less}");
+    less
 }
 
 #[test]

@@ -1,10 +1,18 @@
 //! The set of `book_build`: its file read back by a reader of its own, and what
 //! must be among its cases.
 
+use model::BookKind;
 use std::collections::BTreeMap;
-use vectors::building::{self, LONGEST_ROOM};
+use vectors::building::{self, Build, LONGEST_ROOM};
 use vectors::checksum::checksum;
-use vectors::sets::Files;
+use vectors::folded;
+use vectors::sets::{Files, Set};
+
+/// The set of each kind of book.
+const SETS: [(BookKind, &Set<Build>); 2] = [
+    (BookKind::Plain, &building::SET),
+    (BookKind::Folded, &folded::BUILD),
+];
 
 /// A case as it stands in the file.
 struct Read<'file> {
@@ -36,10 +44,10 @@ fn number(file: &[u8], from: usize, bytes: usize) -> u64 {
     bytes.fold(0, |number, &byte| 256 * number + u64::from(byte))
 }
 
-/// The line that a program prints for this case.
-fn line(number: usize, case: &Read) -> String {
+/// The line that a program prints for this case, when it builds books of this kind.
+fn line(kind: BookKind, number: usize, case: &Read) -> String {
     let mut room: Vec<u8> = (0..case.room).map(|at| (at % 251) as u8).collect();
-    let answer = model::book_build(case.list, case.block as usize, &mut room);
+    let answer = model::build_kind(kind, case.list, case.block as usize, &mut room);
     let (mut a, mut b) = (1, 0);
     if answer.code == 0 {
         (a, b) = checksum(&room[..answer.first]);
@@ -51,8 +59,8 @@ fn line(number: usize, case: &Read) -> String {
 
 /// The code, first and second that are expected for each case, with what the
 /// case is there for.
-fn outcomes() -> Vec<(String, [usize; 3])> {
-    let cases = building::SET.cases().into_iter();
+fn outcomes(set: &Set<Build>) -> Vec<(String, [usize; 3])> {
+    let cases = set.cases().into_iter();
     cases
         .map(|case| {
             let outcome = case.outcome();
@@ -73,34 +81,40 @@ fn assert_among(outcomes: &[(String, [usize; 3])], purpose: &str, answer: [usize
 
 #[test]
 fn a_program_that_follows_the_description_prints_the_text() {
-    let file = building::SET.case_file();
-    let cases = read_file(&file);
-    let lines = cases.iter().enumerate();
-    let text: String = lines.map(|(number, case)| line(number, case)).collect();
-    assert_eq!(text, building::SET.expected());
+    for (kind, set) in SETS {
+        let file = set.case_file();
+        let cases = read_file(&file);
+        let lines = cases.iter().enumerate();
+        let text = lines.map(|(number, case)| line(kind, number, case));
+        assert_eq!(text.collect::<String>(), set.expected());
+    }
 }
 
 #[test]
 fn the_rooms_are_small_enough() {
-    let file = building::SET.case_file();
-    let cases = read_file(&file);
-    assert!(cases.len() <= 170, "{}", cases.len());
-    assert!(cases.iter().all(|case| case.room <= LONGEST_ROOM));
+    for (_, set) in SETS {
+        let file = set.case_file();
+        let cases = read_file(&file);
+        assert!(cases.len() <= 170, "{}", cases.len());
+        assert!(cases.iter().all(|case| case.room <= LONGEST_ROOM));
+    }
 }
 
 #[test]
 fn every_refusal_of_a_build_is_among_the_cases() {
-    let mut counts = BTreeMap::new();
-    for (_, [code, _, _]) in outcomes() {
-        *counts.entry(code).or_insert(0) += 1;
+    for (_, set) in SETS {
+        let mut counts = BTreeMap::new();
+        for (_, [code, _, _]) in outcomes(set) {
+            *counts.entry(code).or_insert(0) += 1;
+        }
+        let codes: Vec<usize> = counts.keys().copied().collect();
+        assert_eq!(codes, [0, 4, 5, 6, 7, 8, 9], "{counts:?}");
     }
-    let codes: Vec<usize> = counts.keys().copied().collect();
-    assert_eq!(codes, [0, 4, 5, 6, 7, 8, 9], "{counts:?}");
 }
 
 #[test]
 fn the_edges_of_document_01_are_among_the_cases() {
-    let outcomes = outcomes();
+    let outcomes = outcomes(&building::SET);
     let among = |purpose, answer| assert_among(&outcomes, purpose, answer);
     among("worked example: list 25, block 2, room 92", [4, 0, 0]);
     among("worked example: list 25, block 2, room 93", [0, 93, 0]);
@@ -127,6 +141,48 @@ fn the_edges_of_document_01_are_among_the_cases() {
     among("5 and not 9", [5, 1670, 0]);
     among("6 and not 9", [6, 1670, 0]);
     among("7 and not 9", [7, 2000, 0]);
+}
+
+#[test]
+fn the_edges_of_folding_are_among_the_cases() {
+    let outcomes = outcomes(&folded::BUILD);
+    let among = |purpose, answer| assert_among(&outcomes, purpose, answer);
+    among("MAR, marina: list 11, block 2, room 66", [4, 0, 0]);
+    among("MAR, marina: list 11, block 2, room 67", [0, 67, 0]);
+    among("spelt example: list 25, block 4, room 92", [4, 0, 0]);
+    among("spelt example: list 25, block 4, room 93", [0, 93, 0]);
+    among("spelt example: list 25, block 2, room 96", [0, 96, 0]);
+    among("small letters: list 25, block 2", [0, 93, 0]);
+    among("8 before 6", [8, 0, 0]);
+    among("empty list: list 0, block 1, room 16", [0, 16, 0]);
+    among("equal once folded: ", [6, 1, 0]);
+    among("equal once folded, later: ", [6, 3, 0]);
+    among("equal in one letter: ", [6, 1, 0]);
+    among("rising as bytes alone: ", [6, 1, 0]);
+    among("rising as symbols alone: ", [0, 66, 0]);
+    among("Z before 91: ", [6, 1, 0]);
+    among("91 before A: ", [0, 60, 0]);
+    among("200 bytes, last in the other case: ", [6, 1, 0]);
+    among("6 before a later 5", [6, 1, 0]);
+    among("5 before a later 6", [5, 1, 0]);
+    among("cut short, and equal", [5, 1, 0]);
+    among("2,000 names", [0, 30_236, 0]);
+    among("2,001 names", [7, 2000, 0]);
+    among("book of 65,535", [0, 65_535, 0]);
+    among("book of 65,536", [9, 0, 0]);
+}
+
+#[test]
+fn of_all_pairs_around_the_letters_those_are_books_that_rise_once_folded() {
+    let outcomes = outcomes(&folded::BUILD);
+    let pairs = outcomes.iter().filter(|(purpose, _)| {
+        let start = "around the letters: list 4";
+        purpose.starts_with(start)
+    });
+    let taken = pairs.clone().filter(|(_, answer)| answer[0] == 0).count();
+    // Of the 64 pairs, A and a are one letter, and so are Z and z: 6 letters, of
+    // which 2 can be had in two spellings.
+    assert_eq!((pairs.count(), taken), (64, 26));
 }
 
 #[test]

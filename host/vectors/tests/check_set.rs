@@ -1,8 +1,9 @@
 //! The set of `book_check`: its file read back by a reader of its own, and what
 //! must be among its cases.
 
-use vectors::checking;
-use vectors::sets::Files;
+use vectors::checking::{self, Check};
+use vectors::folded;
+use vectors::sets::{Files, Set};
 
 /// Reads the file as its description says, and asserts that it ends with a
 /// case.
@@ -19,26 +20,40 @@ fn read_file(mut file: &[u8]) -> Vec<&[u8]> {
 
 #[test]
 fn a_program_that_follows_the_description_prints_the_text() {
-    let file = checking::SET.case_file();
-    let mut text = String::new();
-    for (number, book) in read_file(&file).into_iter().enumerate() {
-        let answer = model::book_check(book);
-        let (code, first, second) = (answer.code, answer.first, answer.second);
-        text.push_str(&format!("{number} {code} {first} {second}\n"));
+    for set in [&checking::SET, &folded::CHECK] {
+        let file = set.case_file();
+        let mut text = String::new();
+        for (number, book) in read_file(&file).into_iter().enumerate() {
+            let answer = model::book_check(book);
+            let (code, first, second) = (answer.code, answer.first, answer.second);
+            text.push_str(&format!("{number} {code} {first} {second}\n"));
+        }
+        assert_eq!(text, set.expected());
     }
-    assert_eq!(text, checking::SET.expected());
 }
 
 #[test]
 fn the_cases_are_not_too_many() {
-    let cases = checking::SET.cases().len();
-    assert!(cases <= 1600, "{cases}");
+    for (set, most) in [(&checking::SET, 1600), (&folded::CHECK, 900)] {
+        let cases = set.cases().len();
+        assert!(cases <= most, "{cases}");
+    }
+}
+
+/// Asserts that the set has a case for each purpose, with this answer.
+fn assert_among(set: &Set<Check>, expected: &[(&str, &str)]) {
+    let cases = set.cases();
+    for (purpose, answer) in expected {
+        let mut cases = cases.iter();
+        let found = cases.find(|case| case.purpose().starts_with(purpose));
+        let found = found.unwrap_or_else(|| panic!("no case for {purpose}"));
+        assert_eq!(found.outcome(), *answer, "{purpose}");
+    }
 }
 
 #[test]
 fn the_edges_of_document_01_are_among_the_cases() {
-    let cases = checking::SET.cases();
-    for (purpose, answer) in [
+    let expected = [
         ("worked example, k 2: book 93", "0 3 2"),
         ("worked example, k 4: book 88", "0 3 4"),
         ("no names, k 0: book 16", "2 0 0"),
@@ -73,12 +88,51 @@ fn the_edges_of_document_01_are_among_the_cases() {
         ("93, old mark: book 93", "2 0 0"),
         ("mirror of 60, root, width one less: ", "2 0 0"),
         ("empty input: book 0", "2 0 0"),
-    ] {
-        let mut cases = cases.iter();
-        let found = cases.find(|case| case.purpose().starts_with(purpose));
-        let found = found.unwrap_or_else(|| panic!("no case for {purpose}"));
-        assert_eq!(found.outcome(), answer, "{purpose}");
-    }
+    ];
+    assert_among(&checking::SET, &expected);
+}
+
+#[test]
+fn the_edges_of_folding_are_among_the_cases() {
+    let expected = [
+        ("MAR, marina, k 2: book 67", "0 2 2"),
+        ("spelt example, k 4: book 93", "0 3 4"),
+        ("spelt example, k 65: ", "2 0 0"),
+        ("no names, k 64: book 16", "0 0 64"),
+        ("small letters, k 2: book 93", "0 3 2"),
+        ("all around the letters, k 5: ", "0 42 5"),
+        ("equal once folded, k 1: ", "2 0 0"),
+        ("equal in one letter, k 2: ", "2 0 0"),
+        ("rising as bytes alone, k 2: ", "2 0 0"),
+        ("rising as symbols alone, k 2: ", "0 2 2"),
+        ("rising as symbols alone, plain layout: ", "2 0 0"),
+        ("rising as symbols alone, plain nodes: ", "2 0 0"),
+        ("Plain marked as the other, no names: ", "0 0 2"),
+        ("Plain marked as the other, one name: ", "0 1 2"),
+        ("Plain marked as the other, small letters: ", "0 3 2"),
+        ("Folded marked as the other, small letters: ", "0 3 2"),
+        ("Plain marked as the other, parting in small", "0 2 2"),
+        ("Folded marked as the other, parting in small", "0 2 2"),
+        ("Plain marked as the other, parting in capit", "2 0 0"),
+        ("Folded marked as the other, parting in capit", "2 0 0"),
+        ("Plain marked as the other, another depth", "2 0 0"),
+        ("Folded marked as the other, another depth", "2 0 0"),
+        ("Plain marked as the other, another order", "2 0 0"),
+        ("Folded marked as the other, another order", "2 0 0"),
+        ("Plain marked as the other, equal once folded", "2 0 0"),
+        ("Plain marked as the other, accents alone", "0 2 2"),
+        ("chain by turns, k 64: ", "0 200 64"),
+        ("mirror by turns, k 1: ", "0 200 1"),
+        ("book of 65,535, k 16: book 65535", "0 1300 16"),
+        ("67, byte 2 in the other case: ", "2 0 0"),
+        ("67, byte 3 in the other case: ", "0 2 2"),
+        ("67, byte 7 in the other case: ", "2 0 0"),
+        ("67, byte 10 in the other case: ", "0 2 2"),
+        ("93 by 4, entry 2 with count 0: ", "2 0 0"),
+        ("capitals, node 2 of the plain book: ", "2 0 0"),
+        ("mirror by turns, root, width one less: ", "2 0 0"),
+    ];
+    assert_among(&folded::CHECK, &expected);
 }
 
 #[test]

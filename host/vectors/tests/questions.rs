@@ -3,6 +3,7 @@
 mod common;
 
 use common::{lit, shared};
+use model::BookKind;
 use vectors::lists;
 use vectors::questions::{
     about_letters, all_short, any_question, around_all, of_shape, Shape, SHAPES,
@@ -59,7 +60,9 @@ fn many_questions_part_from_all_names_inside_a_letter() {
     for (names, least) in [(stops, 60), (parts, 200)] {
         let inside = (0..1000).filter(|_| {
             let question = any_question(&mut random, &names);
-            let counts = names.iter().map(|name| shared(name, &question));
+            let counts = names
+                .iter()
+                .map(|name| shared(BookKind::Plain, name, &question));
             let count = counts.max().unwrap();
             lit(&question, count) < count
         });

@@ -3,6 +3,7 @@
 
 use std::collections::BTreeMap;
 use vectors::checksum::checksum;
+use vectors::folded;
 use vectors::reading::{self, Read as Call, LONGEST_ROOM};
 use vectors::sets::{Case, Files};
 
@@ -58,19 +59,48 @@ fn answer(case: &Case<Call>) -> [usize; 3] {
 
 #[test]
 fn a_program_that_follows_the_description_prints_the_text() {
-    let file = reading::SET.case_file();
-    let cases = read_file(&file);
-    let lines = cases.iter().enumerate();
-    let text: String = lines.map(|(number, case)| line(number, case)).collect();
-    assert_eq!(text, reading::SET.expected());
+    for set in [&reading::SET, &folded::READ] {
+        let file = set.case_file();
+        let cases = read_file(&file);
+        let lines = cases.iter().enumerate();
+        let text: String = lines.map(|(number, case)| line(number, case)).collect();
+        assert_eq!(text, set.expected());
+    }
 }
 
 #[test]
 fn the_rooms_are_small_enough() {
-    let file = reading::SET.case_file();
-    let cases = read_file(&file);
-    assert!(cases.len() <= 1200, "{}", cases.len());
-    assert!(cases.iter().all(|case| case.room <= LONGEST_ROOM));
+    for (set, most) in [(&reading::SET, 1200), (&folded::READ, 300)] {
+        let file = set.case_file();
+        let cases = read_file(&file);
+        assert!(cases.len() <= most, "{}", cases.len());
+        assert!(cases.iter().all(|case| case.room <= LONGEST_ROOM));
+    }
+}
+
+#[test]
+fn folded_names_are_read_as_they_were_spelt() {
+    let file = folded::READ.case_file();
+    let mut read = Vec::new();
+    for case in read_file(&file) {
+        let mut room = vec![0; case.room];
+        let answer = model::book_read(case.book, case.position as usize, &mut room);
+        if answer.code == 0 {
+            room.truncate(answer.first);
+            read.push(room);
+        }
+    }
+    for name in [
+        "MAR",
+        "marina",
+        "mar",
+        "Marina",
+        "MARKET Square",
+        "ABBOT",
+        "cafÉ",
+    ] {
+        assert!(read.iter().any(|one| one == name.as_bytes()), "{name}");
+    }
 }
 
 #[test]

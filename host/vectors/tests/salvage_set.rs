@@ -201,6 +201,7 @@ fn the_edges_of_document_02_are_among_the_cases() {
         ("length one more: ", [13, 0, 0], [0, 0]),
         ("node table one less: ", [13, 0, 0], [0, 0]),
         ("old mark: ", [13, 0, 0], [0, 0]),
+        ("folded mark: ", [13, 0, 0], [0, 0]),
         ("16,384 nodes more: ", [13, 0, 0], [0, 0]),
         ("nodes all 255: ", [0, 25, 0], [2, 0]),
         ("6 nodes: ", [0, 25, 0], [2, 0]),

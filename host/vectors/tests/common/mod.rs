@@ -4,10 +4,15 @@
 // Each test file is a program of its own and uses only some of these.
 #![allow(dead_code)]
 
-/// How many leading bytes two names share.
-pub fn shared(one: &[u8], other: &[u8]) -> usize {
-    let pairs = one.iter().zip(other);
-    pairs.take_while(|(one, other)| one == other).count()
+use model::BookKind;
+
+/// How many leading bytes two names share in a book of this kind.
+pub fn shared(kind: BookKind, one: &[u8], other: &[u8]) -> usize {
+    let is_same = |(one, other): &(&u8, &u8)| match kind {
+        BookKind::Plain => one == other,
+        BookKind::Folded => one.eq_ignore_ascii_case(other),
+    };
+    one.iter().zip(other).take_while(is_same).count()
 }
 
 /// How many leading bytes of a question to light where so many are shared: all of
@@ -21,12 +26,18 @@ pub fn lit(question: &[u8], shared: usize) -> usize {
     }
 }
 
-/// Holds nearest's two numbers to the names: no name shares more with the question
+/// Holds nearest's two numbers to the names of a book of this kind: no name shares more with the question
 /// than the one at the position, and of what it shares no half letter is lit. Gives
 /// whether that is less than what is shared.
-pub fn hold_nearest(names: &[Vec<u8>], question: &[u8], position: usize, number: usize) -> bool {
-    let counts = names.iter().map(|name| shared(name, question));
-    let count = shared(&names[position], question);
+pub fn hold_nearest(
+    kind: BookKind,
+    names: &[Vec<u8>],
+    question: &[u8],
+    position: usize,
+    number: usize,
+) -> bool {
+    let counts = names.iter().map(|name| shared(kind, name, question));
+    let count = shared(kind, &names[position], question);
     assert_eq!(counts.max(), Some(count), "{question:?}");
     assert_eq!(number, lit(question, count), "{question:?}");
     number < count
