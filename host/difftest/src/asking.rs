@@ -7,6 +7,7 @@ use fenced::on_stack;
 use mistrogu::STACK;
 use vectors::questions::any_question;
 use vectors::random::Random;
+use vectors::spelling::respelt;
 
 /// Makes one call of `book_exact` of both programs: the code they agree on, or
 /// the whole case.
@@ -44,7 +45,8 @@ fn run(
     proved: Ask<proved::Answer>,
 ) -> Result<usize, String> {
     let (book, names) = any_book(random);
-    let mut question = any_question(random, &names);
+    let question = any_question(random, &names);
+    let mut question = respelt(random, &question);
     if random.once_in(200) {
         // A length of which the low 16 bits alone would be fine.
         question.resize(random.between(65_530, 65_750), b'a');
@@ -61,7 +63,8 @@ fn run(
 #[cfg(test)]
 mod tests {
     use super::*;
-    use model::names::leading_equal;
+    use model::names::shared_symbols;
+    use model::BookKind;
 
     #[test]
     fn nearest_is_often_asked_what_parts_from_all_names_inside_a_letter() {
@@ -72,7 +75,9 @@ mod tests {
             let question = any_question(&mut random, &names);
             let answer = model::book_nearest(&book, &question);
             if answer.code == 0 {
-                let shared = names.iter().map(|name| leading_equal(name, &question));
+                let kind = BookKind::of_marked(&book).expect("an accepted book");
+                let of_name = |name: &Vec<u8>| shared_symbols(kind.rule(), name, &question);
+                let shared = names.iter().map(of_name);
                 asked += 1;
                 inside += usize::from(Some(answer.second) < shared.max());
             }

@@ -7,6 +7,7 @@ use fenced::on_stack;
 use mistrogu::STACK;
 use vectors::batches::{any_batch, any_places};
 use vectors::random::Random;
+use vectors::spelling::respelt;
 
 /// How many answer rows are watched beside those lent.
 const WATCHED: usize = 2;
@@ -15,6 +16,7 @@ const WATCHED: usize = 2;
 pub fn run(random: &mut Random) -> Result<usize, String> {
     let (book, names) = any_book(random);
     let mut batch = any_batch(random, &names);
+    batch.questions = respelt(random, &batch.questions);
     if random.once_in(100) {
         // A buffer of which the low 16 bits of the length alone would be less.
         let length = batch.questions.len() + random.between(65_530, 65_750);

@@ -1,69 +1,68 @@
 //! Random books, sound, spoilt or hostile.
 
 use crate::lent::lend;
-use crate::shapes::any_names;
+use crate::shapes::{any_kind, any_names};
 use fenced::Fenced;
 use format::MOST_NAMES;
 use model::{book_of, BookKind};
-use vectors::damage::{spoil_book, spoil_names};
+use vectors::damage::{spoil_book, spoil_names, swap_mark};
 use vectors::hostile;
 use vectors::lists::{self, Names};
 use vectors::random::Random;
 
-/// The bytes of a book, to be lent, and the names that went into it. Half of the
-/// books are spoilt: their bytes, their pieces, or the names or block size
-/// before the layout; and some have hostile nodes. Of the large lists some are
-/// too large for a book.
+/// The bytes of a book of either kind, to be lent, and the names that went into it.
+/// Half of the books are spoilt: their bytes, their pieces, or the names or block
+/// size before the layout; some have hostile nodes, and some the mark of the other
+/// kind. Of the large lists some are too large for a book.
 pub fn any_book(random: &mut Random) -> (Fenced<u8>, Names) {
-    let block = any_block(random);
-    let (book, names) = match random.below(24) {
-        0 => hostile_book(random, block),
-        _ => laid_out_book(random, block),
+    let (kind, block) = (any_kind(random), any_block(random));
+    let (mut book, names) = match random.below(24) {
+        0 => hostile_book(random, kind, block),
+        _ => laid_out_book(random, kind, block),
     };
+    if random.once_in(16) {
+        swap_mark(&mut book);
+    }
     (lend(random, &book), names)
 }
 
 /// The bytes of a book as the layout says, or spoilt.
-fn laid_out_book(random: &mut Random, block: usize) -> (Vec<u8>, Names) {
-    let mut names = any_names(random, block);
+fn laid_out_book(random: &mut Random, kind: BookKind, block: usize) -> (Vec<u8>, Names) {
+    let mut names = any_names(random, kind, block);
     let book = match random.below(12) {
         0 => {
             spoil_names(random, &mut names);
-            book_of(BookKind::Plain, block, &names)
+            book_of(kind, block, &names)
         }
-        1 => book_of(
-            BookKind::Plain,
-            *random.one_of(&[0, 65, 66, 128, 256, 257]),
-            &names,
-        ),
-        2..=5 => spoil_book(random, BookKind::Plain, block, &names),
-        _ => book_of(BookKind::Plain, block, &names),
+        1 => book_of(kind, *random.one_of(&[0, 65, 66, 128, 256, 257]), &names),
+        2..=5 => spoil_book(random, kind, block, &names),
+        _ => book_of(kind, block, &names),
     };
     (book, names)
 }
 
 /// The bytes of a book with hostile nodes: mostly of some hundreds of names, now
-/// and then with as many and as long ones as there can be.
-fn hostile_book(random: &mut Random, block: usize) -> (Vec<u8>, Names) {
-    let kinds = hostile::kinds();
-    let kind = random.one_of(&kinds);
-    let book = match random.below(12) {
-        0 => kind.largest(),
-        1 => kind.with_names(random.between(4, MOST_NAMES)),
-        2..=5 => kind.with_names(random.between(4, 500)),
+/// and then with as many and as long ones as there can be. The latter are plain.
+fn hostile_book(random: &mut Random, kind: BookKind, block: usize) -> (Vec<u8>, Names) {
+    let tables = hostile::kinds();
+    let table = random.one_of(&tables);
+    let book = match (kind, random.below(12)) {
+        (BookKind::Plain, 0) => table.largest(),
+        (BookKind::Plain, 1) => table.with_names(random.between(4, MOST_NAMES)),
+        (BookKind::Plain, 2..=5) => table.with_names(random.between(4, 500)),
         _ => {
-            let names = several_names(random, block);
-            hostile::any(random, BookKind::Plain, block, &names)
+            let names = several_names(random, kind, block);
+            hostile::any(random, kind, block, &names)
         }
     };
     (book.bytes(), book.made_of)
 }
 
 /// A rising list of two names or more.
-fn several_names(random: &mut Random, block: usize) -> Names {
-    let names = any_names(random, block);
+fn several_names(random: &mut Random, kind: BookKind, block: usize) -> Names {
+    let names = any_names(random, kind, block);
     if names.len() < 2 || random.once_in(2) {
-        return lists::pairs(random.between(2, 500));
+        return lists::sorted_for(kind, lists::pairs(random.between(2, 500)));
     }
     names
 }

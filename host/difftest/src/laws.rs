@@ -7,7 +7,7 @@ use crate::shapes::{any_names, as_many_as_can_be, ANY_BLOCK};
 use fenced::{on_stack, Fenced};
 use format::MOST_NAMES;
 use mistrogu::STACK;
-use model::write_list;
+use model::{write_list, BookKind};
 use vectors::lists::shared_out;
 use vectors::random::Random;
 
@@ -37,7 +37,7 @@ pub fn run(random: &mut Random) -> Result<usize, String> {
 fn any_three(random: &mut Random) -> [Fenced<u8>; 3] {
     let mut names = match random.below(24) {
         0 => as_many_as_can_be(random),
-        _ => any_names(random, ANY_BLOCK),
+        _ => any_names(random, BookKind::Plain, ANY_BLOCK),
     };
     names.truncate(MOST_NAMES);
     shared_out(random, &names).map(|names| lend(random, &write_list(&names)))

@@ -4,8 +4,9 @@
 //! compares the answer and all lent bytes and rows; those of the laws of merging
 //! compare what the proved library gives in one order with what it gives in
 //! another, those of neighbours its answers with the names that it reads back
-//! and with each other, and those of blocks apart what it salvages of two worn
-//! books that differ in one block. The seed is printed first; the same seed gives
+//! and with each other, those of blocks apart what it salvages of two worn books
+//! that differ in one block, and those of small letters what it answers of a folded
+//! book with what it answers of the plain one of its names in small letters. The seed is printed first; the same seed gives
 //! the same cases. A difference is printed with the whole case, and the exit
 //! status is then 1.
 //!
@@ -24,6 +25,7 @@ mod batching;
 mod books;
 mod building;
 mod checking;
+mod folding;
 mod laws;
 mod lent;
 mod merging;
@@ -52,10 +54,14 @@ pub struct Kind {
 }
 
 /// Every kind of call, as often as the others.
-const KINDS: [Kind; 19] = [
+const KINDS: [Kind; 21] = [
     Kind {
         name: "build",
-        run: building::run,
+        run: building::plain,
+    },
+    Kind {
+        name: "build folded",
+        run: building::folded,
     },
     Kind {
         name: "check",
@@ -128,6 +134,10 @@ const KINDS: [Kind; 19] = [
     Kind {
         name: "blocks apart",
         run: salvaging::apart,
+    },
+    Kind {
+        name: "small letters",
+        run: folding::run,
     },
 ];
 

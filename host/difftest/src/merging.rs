@@ -6,6 +6,7 @@ use crate::records::any_records;
 use crate::shapes::{any_names, as_many_as_can_be, ANY_BLOCK};
 use fenced::{on_stack, Fenced};
 use mistrogu::STACK;
+use model::BookKind;
 use vectors::lists::{shared_out, Names};
 use vectors::merging::any_passed;
 use vectors::random::Random;
@@ -68,9 +69,9 @@ fn any_lists(random: &mut Random) -> ([Fenced<u8>; 2], [Names; 2]) {
             let names = as_many_as_can_be(random);
             shared_out(random, &names)
         }
-        3..=9 => [(); 2].map(|()| any_names(random, ANY_BLOCK)),
+        3..=9 => [(); 2].map(|()| any_names(random, BookKind::Plain, ANY_BLOCK)),
         _ => {
-            let names = any_names(random, ANY_BLOCK);
+            let names = any_names(random, BookKind::Plain, ANY_BLOCK);
             shared_out(random, &names)
         }
     };

@@ -1,18 +1,19 @@
 //! Neighbours tell it all: document 02, change request 12, by the proved library
-//! alone. Nearest's number is told by the names beside the question's place, and
-//! a question's range lies in that of each of its beginnings.
+//! alone, for both kinds of book. Nearest's number is told by the names beside the
+//! question's place, and a question's range lies in that of each of its beginnings.
 
 use crate::books::any_block;
 use crate::lent::{hex, lend};
-use crate::shapes::any_names;
+use crate::shapes::{any_kind, any_names};
 use fenced::{on_stack, Fenced};
 use format::{LONGEST_BOOK, LONGEST_NAME, LONGEST_QUESTION, MOST_NAMES};
 use mistrogu::{Refusal, STACK};
 use model::{book_of, BookKind};
 use proved::Answer;
-use vectors::lists::{self, Names};
+use vectors::lists::{self, compared_name, Names};
 use vectors::questions::any_question;
 use vectors::random::Random;
+use vectors::spelling::{names_respelt, respelt};
 
 /// Asks for the nearest name where there are names at place less 1 and at place:
 /// 0, or the whole case.
@@ -33,7 +34,7 @@ pub fn only_behind(random: &mut Random) -> Result<usize, String> {
 /// Asks for the ranges of a question and of all its beginnings: 0, or the whole
 /// case.
 pub fn ranges(random: &mut Random) -> Result<usize, String> {
-    let (book, names) = any_sound_book(random);
+    let (_, book, names) = any_sound_book(random);
     let question = any_short_question(random, &names);
     let question = lend(random, &question);
     told(nested(random, &book, &question), &question, &book)
@@ -66,6 +67,7 @@ fn by_neighbours(
     question: &[u8],
     exist: [bool; 2],
 ) -> Result<(), String> {
+    let kind = kind_of(book);
     let place = ask(proved::book_place, book, question)?.first;
     let before = match place {
         0 => None,
@@ -73,7 +75,7 @@ fn by_neighbours(
     };
     let neighbours = [before, name_at(random, book, place)?];
     let numbers = neighbours.iter().flatten();
-    let expected = numbers.map(|name| number_of(name, question)).max();
+    let expected = numbers.map(|name| number_of(kind, name, question)).max();
     let found = ask(proved::book_nearest, book, question)?;
     if neighbours.each_ref().map(Option::is_some) == exist && expected == Some(found.second) {
         return Ok(());
@@ -89,11 +91,17 @@ fn by_neighbours(
     .join("\n"))
 }
 
-/// The number that this name would give: the greatest L, not above the bytes that
-/// it shares with the question, that is 0, or the question's length, or a place
-/// below it where the question's byte is not 128 to 191.
-fn number_of(name: &[u8], question: &[u8]) -> usize {
-    let pairs = name.iter().zip(question);
+/// The kind that the mark of a sound book tells.
+fn kind_of(book: &[u8]) -> BookKind {
+    BookKind::of_marked(book).expect("a sound book")
+}
+
+/// The number that this name would give in a book of this kind: the greatest L, not
+/// above the bytes that it shares with the question, that is 0, or the question's
+/// length, or a place below it where the question's byte is not 128 to 191.
+fn number_of(kind: BookKind, name: &[u8], question: &[u8]) -> usize {
+    let [one, other] = [name, question].map(|bytes| compared_name(kind, bytes));
+    let pairs = one.iter().zip(&other);
     let shared = pairs.take_while(|(one, other)| one == other).count();
     let may_end = |&length: &usize| {
         length == 0 || length == question.len() || !(128..=191).contains(&question[length])
@@ -106,9 +114,10 @@ fn number_of(name: &[u8], question: &[u8]) -> usize {
 fn nested(random: &mut Random, book: &[u8], question: &[u8]) -> Result<(), String> {
     let range = ask(proved::book_range, book, question)?;
     let positions = range.first..range.first + range.second;
+    let compared = |bytes: &[u8]| compared_name(kind_of(book), bytes);
     for position in positions.clone() {
         let name = name_at(random, book, position)?;
-        if !name.is_some_and(|name| name.starts_with(question)) {
+        if !name.is_some_and(|name| compared(&name).starts_with(&compared(question))) {
             return Err(format!("{range:?}\nname {position} does not begin so"));
         }
     }
@@ -147,14 +156,15 @@ fn name_at(random: &mut Random, book: &[u8], position: usize) -> Result<Option<V
 /// and at place these exist.
 fn any_with_neighbours(random: &mut Random, exist: [bool; 2]) -> (Fenced<u8>, Fenced<u8>) {
     loop {
-        let (book, names) = any_sound_book(random);
+        let (kind, book, names) = any_sound_book(random);
         let near = match exist {
             [true, true] => &names[..],
             [true, false] => &names[names.len() - 1..],
             _ => &names[..1],
         };
         let question = any_short_question(random, &near.to_vec());
-        let place = names.partition_point(|name| *name < question);
+        let compared = compared_name(kind, &question);
+        let place = names.partition_point(|name| compared_name(kind, name) < compared);
         if exist == [place > 0, place < names.len()] {
             return (book, lend(random, &question));
         }
@@ -163,22 +173,27 @@ fn any_with_neighbours(random: &mut Random, exist: [bool; 2]) -> (Fenced<u8>, Fe
 
 /// A question of at most 200 bytes near these names.
 fn any_short_question(random: &mut Random, names: &Names) -> Vec<u8> {
-    let mut question = any_question(random, names);
+    let question = any_question(random, names);
+    let mut question = respelt(random, &question);
     question.truncate(LONGEST_QUESTION);
     question
 }
 
-/// The bytes of a sound book with at least one name, to be lent, and its names.
-fn any_sound_book(random: &mut Random) -> (Fenced<u8>, Names) {
+/// The bytes of a sound book with at least one name, to be lent, with its kind and
+/// its names.
+fn any_sound_book(random: &mut Random) -> (BookKind, Fenced<u8>, Names) {
     loop {
-        let block = any_block(random);
+        let (kind, block) = (any_kind(random), any_block(random));
         let names = match random.below(3) {
-            0 => half_letters(random),
-            _ => any_names(random, block),
+            0 => {
+                let names = half_letters(random);
+                names_respelt(random, kind, &names)
+            }
+            _ => any_names(random, kind, block),
         };
-        let book = book_of(BookKind::Plain, block, &names);
+        let book = book_of(kind, block, &names);
         if (1..=MOST_NAMES).contains(&names.len()) && book.len() <= LONGEST_BOOK {
-            return (lend(random, &book), names);
+            return (kind, lend(random, &book), names);
         }
     }
 }

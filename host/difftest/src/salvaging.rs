@@ -117,7 +117,7 @@ fn any_own_names(random: &mut Random, block: usize) -> Names {
     match random.below(100) {
         0 => lists::alike(random.between(1, MOST_NAMES)),
         1..=4 => lists::alike(random.between(1, 100)),
-        _ => any_names(random, block),
+        _ => any_names(random, BookKind::Plain, block),
     }
 }
 

@@ -4,17 +4,42 @@ use format::{LONGEST_NAME, MOST_NAMES};
 use model::{book_of, BookKind};
 use vectors::lists::{self, Names};
 use vectors::random::Random;
+use vectors::spelling::{by_turns, names_respelt};
 use vectors::worst::{self, Comb};
 
 /// The block size to name where no book is made of a list.
 pub const ANY_BLOCK: usize = 16;
 
-/// A rising list of one of the shapes below. The large ones are rare, since the
-/// second program takes its time over them.
-pub fn any_names(random: &mut Random, block: usize) -> Names {
+/// Any kind of book.
+pub fn any_kind(random: &mut Random) -> BookKind {
+    *random.one_of(&BookKind::ALL)
+}
+
+/// A list of one of the shapes below that rises for a book of this kind. The large
+/// ones are rare, since the second program takes its time over them.
+pub fn any_names(random: &mut Random, kind: BookKind, block: usize) -> Names {
+    if random.once_in(360) {
+        return as_large_as_can_be(random, kind, block);
+    }
+    let names = any_plain_names(random);
+    in_any_spelling(random, kind, names)
+}
+
+/// The names in the order of this kind of book, as they are or spelt anew. For a
+/// folded one they are also in capitals and in small letters by turns.
+fn in_any_spelling(random: &mut Random, kind: BookKind, names: Names) -> Names {
+    match (kind, random.below(4)) {
+        (BookKind::Plain, 0..=2) => names,
+        (BookKind::Folded, 0) => by_turns(&lists::sorted_for(kind, names)),
+        (BookKind::Folded, 1) => lists::sorted_for(kind, names),
+        _ => names_respelt(random, kind, &names),
+    }
+}
+
+/// A list of one of the shapes below that rises as bytes.
+fn any_plain_names(random: &mut Random) -> Names {
     match random.below(360) {
-        0 => as_many_as_can_be(random),
-        1 => as_large_as_can_be(random, block),
+        0 | 1 => as_many_as_can_be(random),
         2..=79 => few_letters(random),
         80..=119 => all_bytes(random),
         120..=199 => shared_beginnings(random),
@@ -41,7 +66,15 @@ fn any_alphabet(random: &mut Random) -> Vec<u8> {
 
 /// Short names of few letters: many begin others.
 fn few_letters(random: &mut Random) -> Names {
-    let alphabets = [&b"a"[..], b"ab", b"abc", b"\0\xFF", b"\x7F\x80"];
+    let alphabets = [
+        &b"a"[..],
+        b"ab",
+        b"abc",
+        b"\0\xFF",
+        b"\x7F\x80",
+        b"aAbB",
+        b"@AZ[`az{",
+    ];
     let letters = random.one_of(&alphabets);
     let (count, most) = (random.below(100), random.between(1, 10));
     lists::random(random, letters, count, 1, most)
@@ -119,7 +152,9 @@ fn shortest_and_longest(random: &mut Random) -> Names {
 }
 
 /// Letters of one byte to four, of which some share their first bytes.
-const LETTERS: [&str; 10] = ["a", "e", "é", "è", "ñ", "α", "β", "e\u{301}", "駅", "𝄞"];
+const LETTERS: [&str; 12] = [
+    "a", "e", "E", "é", "è", "É", "ñ", "α", "β", "e\u{301}", "駅", "𝄞",
+];
 
 /// Names of whole letters, or of parts of letters.
 fn letters(random: &mut Random) -> Names {
@@ -149,8 +184,8 @@ pub fn as_many_as_can_be(random: &mut Random) -> Names {
     }
 }
 
-/// A book of about 65,535 bytes, sometimes more.
-fn as_large_as_can_be(random: &mut Random, block: usize) -> Names {
+/// A book of this kind of about 65,535 bytes, sometimes more.
+fn as_large_as_can_be(random: &mut Random, kind: BookKind, block: usize) -> Names {
     let wanted = random.between(65_533, 65_538);
     let count = random.between(500, 1650);
     let names = match random.below(3) {
@@ -158,8 +193,9 @@ fn as_large_as_can_be(random: &mut Random, block: usize) -> Names {
         1 => lists::pairs(count),
         _ => lists::random(random, b"abcdefgh", count, 4, 20),
     };
-    if book_of(BookKind::Plain, block, &names).len() > wanted {
+    let names = in_any_spelling(random, kind, names);
+    if book_of(kind, block, &names).len() > wanted {
         return names;
     }
-    lists::with_book_length(BookKind::Plain, &names, block, wanted)
+    lists::with_book_length(kind, &names, block, wanted)
 }
