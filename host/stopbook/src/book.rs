@@ -4,7 +4,7 @@ use crate::files;
 use crate::layout::{self, Node, Trailer};
 use crate::outcome::Failure;
 use crate::progress::Progress;
-use mistrogu::{LONGEST_BOOK, LONGEST_NAME};
+use mistrogu::{BookKind, LONGEST_BOOK, LONGEST_NAME};
 use std::ffi::OsStr;
 use std::ops::Range;
 
@@ -16,6 +16,7 @@ pub struct Book {
     source: String,
     names: usize,
     block: usize,
+    kind: BookKind,
     trailer: Trailer,
     known: Vec<Option<Vec<u8>>>,
 }
@@ -38,6 +39,7 @@ impl Book {
             source,
             names: checked.names,
             block: checked.block,
+            kind: checked.kind,
             trailer,
             known: vec![None; checked.names],
             bytes,
@@ -62,6 +64,11 @@ impl Book {
     /// Its block size.
     pub fn block(&self) -> usize {
         self.block
+    }
+
+    /// Its kind.
+    pub fn kind(&self) -> BookKind {
+        self.kind
     }
 
     /// The numbers of its trailer.

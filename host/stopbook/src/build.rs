@@ -9,7 +9,7 @@ use crate::reading::{self, Text};
 use crate::size::{self, Size};
 use crate::text::grouped;
 use crate::{help, Command};
-use mistrogu::{Refusal, LARGEST_BLOCK, LONGEST_BOOK, MOST_NAMES};
+use mistrogu::{BookKind, Refusal, LARGEST_BLOCK, LONGEST_BOOK, MOST_NAMES};
 use std::ffi::{OsStr, OsString};
 use std::os::unix::ffi::OsStrExt;
 
@@ -18,7 +18,7 @@ pub const COMMAND: Command = Command {
     name: "build",
     shape: Shape {
         valued: &["-o", "--output", "--block"],
-        flags: &[],
+        flags: &["--fold"],
     },
     help: help::BUILD,
     run,
@@ -35,15 +35,16 @@ fn run(words: &Words, streams: &mut Streams) -> Outcome {
         [_, extra, ..] => return Err(extra_word(extra)),
     };
     let block = read_block(words)?;
+    let kind = read_kind(words);
     let output = words.output().map_err(Failure::Usage)?;
     let output = output.map_or_else(|| usual_output(input), OsStr::to_os_string);
     files::spare_terminal(&output)?;
     files::spare_input(input, &output)?;
-    let Text { source, names } = Text::read(input, streams)?;
+    let Text { source, names } = Text::read(kind, input, streams)?;
     if names.len() > MOST_NAMES {
         return Err(reading::too_many(&format!("{source} has"), names.len()));
     }
-    let book = build(&names, block, &source)?;
+    let book = build(kind, &names, block, &source)?;
     files::write(&output, book.bytes(), streams)?;
     let summary = summary(&names, &book, &files::output_name(&output));
     if files::is_standard(&output) {
@@ -73,6 +74,14 @@ fn read_block(words: &Words) -> Result<usize, Failure> {
     }
 }
 
+/// The kind of book.
+fn read_kind(words: &Words) -> BookKind {
+    match words.has("--fold") {
+        true => BookKind::Folded,
+        false => BookKind::Plain,
+    }
+}
+
 /// Without a word on it: `stops.book` for `stops.txt`, and standard output for
 /// standard input.
 fn usual_output(input: &OsStr) -> OsString {
@@ -86,16 +95,22 @@ fn usual_output(input: &OsStr) -> OsString {
     output
 }
 
-/// Builds the book of these names, and checks it.
-fn build(names: &[Vec<u8>], block: usize, source: &str) -> Result<Book, Failure> {
-    let size = size::size(names, block);
+/// Builds the book of this kind of these names, and checks it.
+fn build(kind: BookKind, names: &[Vec<u8>], block: usize, source: &str) -> Result<Book, Failure> {
     let list = names::records(names);
     let mut room = vec![0; LONGEST_BOOK];
-    let length = match mistrogu::build(&list, block, &mut room) {
+    let built = match kind {
+        BookKind::Plain => mistrogu::build(&list, block, &mut room),
+        BookKind::Folded => mistrogu::build_folded(&list, block, &mut room),
+    };
+    let length = match built {
         Ok(length) => length,
         Err(refused) => {
             let text = match refused.refusal {
-                Refusal::BookTooLong => too_long(&size, size::fitting_block(names, block)),
+                Refusal::BookTooLong => {
+                    let size = size::size(kind, names, block);
+                    too_long(&size, size::fitting_block(kind, names, block))
+                }
                 other => other.to_string(),
             };
             return Err(Failure::refused(format!("{source}: {text}")));
@@ -121,11 +136,19 @@ fn too_long(size: &Size, fitting: Option<usize>) -> String {
 /// What is said of a book that was built.
 fn summary(names: &[Vec<u8>], book: &Book, output: &str) -> String {
     let plain: usize = names.iter().map(|name| 1 + name.len()).sum();
-    let size = size::size(names, book.block());
+    let size = size::size(book.kind(), names, book.block());
     let nodes = book.trailer().nodes;
+    let folded = match book.kind() {
+        BookKind::Plain => "",
+        BookKind::Folded => ", folded",
+    };
     [
         format!("{output}\n"),
-        format!("  names  {} in blocks of {}\n", names.len(), book.block()),
+        format!(
+            "  names  {} in blocks of {}{folded}\n",
+            names.len(),
+            book.block()
+        ),
         format!(
             "  bytes  {}: entries {}, tables {}\n",
             book.bytes().len(),

@@ -1,4 +1,4 @@
-//! `stopbook check`: whether a file is a book.
+//! `stopbook check`: whether a file is a book, and of which kind.
 
 use crate::args::{Shape, Words};
 use crate::book::{self, Book};
@@ -42,6 +42,6 @@ fn verdict(book: &Book) -> String {
     let names = counted(book.names(), "name");
     let nodes = counted(book.trailer().nodes, "node");
     let bytes = counted(book.bytes().len(), "byte");
-    let block = book.block();
-    format!("{source} is a book: {names} in blocks of {block}, {nodes}, {bytes}")
+    let (block, kind) = (book.block(), book.kind().name());
+    format!("{source} is a {kind} book: {names} in blocks of {block}, {nodes}, {bytes}")
 }

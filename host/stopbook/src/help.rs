@@ -8,11 +8,11 @@ pub const NO_COMMAND: &str =
 pub const TOOL: &str = "\
 stopbook: books of stop names, built, checked, listed and asked by the proved library
 
-  stopbook build NAMES.txt [-o BOOK] [--block K]   make a book from a list of names
+  stopbook build NAMES.txt [-o BOOK] [--fold]      make a book from a list of names
   stopbook merge A.txt B.txt [-o TEXT]             make one list of names from two
   stopbook list BOOK [--from N] [--count N]        print its names with their numbers
   stopbook ask BOOK [KIND QUESTION]                ask it: exact, place, range, nearest, width
-  stopbook check BOOK                              say whether it is a book
+  stopbook check BOOK                              say whether it is a book, and of which kind
   stopbook salvage CARD [-o TEXT]                  write the names left of a damaged book
   stopbook tree BOOK [--svg FILE | --dot FILE]     draw its tree
 
@@ -29,20 +29,27 @@ or a file that cannot be read or written; 3 salvaged, and some names are lost.
 
 /// The help of `build`.
 pub const BUILD: &str = "\
-stopbook build NAMES.txt [-o BOOK] [--block K]
+stopbook build NAMES.txt [-o BOOK] [--block K] [--fold]
 
 Makes a book from a text in UTF-8 with a name on each line, in any order. Empty lines are
 skipped. Names are sorted by their bytes; doubles are dropped, and told. Bad lines (over
 200 bytes, not UTF-8) are told by number, and then no book is written. A book has at most
 2,000 names and 65,535 bytes; with larger blocks it is shorter.
 
+A folded book takes capitals A to Z as small letters wherever it compares, so that MAR is
+found by mar; letters with accents stay apart. It gives names back as they are spelt. Names
+that are the same but for their case are doubles then, and the first is kept; both
+spellings are told. Every command takes both kinds of book, but for salvage.
+
   -o BOOK, --output BOOK   where the book goes; without it NAMES.book, and standard output
                            where the names come from standard input
   --block K                names in a block, 1 to 64; without it 16
+  --fold                   make a folded book
 
-Example:
+Examples:
 
   stopbook build sample/stops.txt -o stops.book
+  stopbook build sample/stops.txt --fold -o typed.book
 ";
 
 /// The help of `merge`.
@@ -94,6 +101,9 @@ Asks a book one question of at most 200 bytes:
             elsewhere in brackets.
   width     how many bytes has the longest of the names that begin with it?
 
+A folded book answers without regard to case; of a stop that it spells otherwise than it
+was typed, the spelling is told.
+
 Without a question, lines of standard input are asked, a kind, a blank and a question on
 each: 64 at a time, or each at once from a terminal.
 
@@ -112,8 +122,9 @@ Examples:
 pub const CHECK: &str = "\
 stopbook check BOOK
 
-Says whether the bytes are a book, and if so how many names, names in a block, nodes and
-bytes it has. The exit status is 1 where they are none.
+Says whether the bytes are a book, and if so whether it is a plain or a folded one, and
+how many names, names in a block, nodes and bytes it has. The exit status is 1 where they
+are none.
 
 Example:
 
@@ -130,7 +141,7 @@ Each block is judged alone, so damage in one block costs no name of another, and
 do not count. Standard error has the number of each block that is lost, from 0, how many
 names it had, and between which names they stood; and where a block is not above the one
 before it: then one of the two has other names than it had. Where the trailer or the block
-table makes no sense, nothing is written.
+table makes no sense, and where it is marked as a folded book, nothing is written.
 
   -o TEXT, --output TEXT   where the names go; without it standard output
 
@@ -147,8 +158,8 @@ pub const TREE: &str = "\
 stopbook tree BOOK [--svg FILE | --dot FILE] [--limit N]
 
 Draws the node table of a book: the letters that lead to each node, its number, its depth,
-its width, which is how many bytes its longest name has, and its names. Without a file it
-is indented text on standard output.
+its width, which is how many bytes its longest name has, and its names. The letters of a
+folded book are small ones. Without a file it is indented text on standard output.
 
   --svg FILE   a picture, for a light or a dark page
   --dot FILE   the same in the DOT language

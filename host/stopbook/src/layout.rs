@@ -115,9 +115,11 @@ pub fn why_no_book(bytes: &[u8]) -> String {
     } else if told != length {
         format!("its trailer tells of {told} bytes, and it has {length}; copy it again, whole")
     } else {
-        "its parts do not fit together, so it was damaged; build it again, or see what \
-         stopbook salvage finds"
-            .to_string()
+        let mend = match BookKind::of_marked(bytes) {
+            Some(BookKind::Folded) => "build it again from its names",
+            _ => "build it again, or see what stopbook salvage finds",
+        };
+        format!("its parts do not fit together, so it was damaged; {mend}")
     }
 }
 
@@ -201,7 +203,10 @@ pub mod tests {
         let mut changed = EXAMPLE.to_vec();
         changed[30] = 1;
         assert!(why_no_book(&changed).contains("damaged"));
-        changed[92] = b'1';
+        assert!(why_no_book(&changed).contains("salvage"));
+        changed[91] = b'F';
+        assert!(why_no_book(&changed).contains("damaged; build it again from its names"));
+        changed[91..].copy_from_slice(b"K1");
         assert!(why_no_book(&changed).contains("build it again from its names"));
     }
 }

@@ -7,7 +7,7 @@ use crate::outcome::{Failure, Outcome, Status, Streams};
 use crate::reading::{self, Text};
 use crate::text::{counted, shown_os};
 use crate::{help, Command};
-use mistrogu::Refusal;
+use mistrogu::{BookKind, Refusal};
 use std::ffi::{OsStr, OsString};
 
 /// The command.
@@ -57,11 +57,11 @@ fn read_inputs(words: &Words) -> Result<[&OsString; 2], Failure> {
 /// the bad lines of both are told.
 fn read_texts(inputs: [&OsString; 2], streams: &mut Streams) -> Result<[Text; 2], Failure> {
     let [first, second] = inputs;
-    let first = match Text::read(first, streams) {
+    let first = match Text::read(BookKind::Plain, first, streams) {
         Err(failure @ Failure::File(_)) => return Err(failure),
         first => first,
     };
-    let second = Text::read(second, streams);
+    let second = Text::read(BookKind::Plain, second, streams);
     Ok([first?, second?])
 }
 

@@ -5,7 +5,7 @@
 //! lines are skipped. Lines are counted from 1, the empty ones too.
 
 use crate::text::counted;
-use mistrogu::LONGEST_NAME;
+use mistrogu::{BookKind, LONGEST_NAME};
 
 /// The byte order mark in UTF-8.
 const MARK: &[u8] = b"\xEF\xBB\xBF";
@@ -19,13 +19,13 @@ pub struct Line {
     pub name: Vec<u8>,
 }
 
-/// A line that repeats a name.
+/// A line that repeats a name. For a folded book it may be spelt otherwise.
 #[derive(Clone, Debug, PartialEq, Eq)]
 pub struct Double {
     /// The line.
     pub line: Line,
     /// The line where the same name stands first.
-    pub first: usize,
+    pub first: Line,
 }
 
 /// A line that cannot be a name.
@@ -40,7 +40,7 @@ pub struct Bad {
 /// What stands in a file of names.
 #[derive(Debug, Default)]
 pub struct Names {
-    /// The names, rising, each once.
+    /// The names, rising for their kind of book, each once.
     pub rising: Vec<Vec<u8>>,
     /// The lines that repeat a name, in the order of the file.
     pub doubles: Vec<Double>,
@@ -48,8 +48,8 @@ pub struct Names {
     pub bad: Vec<Bad>,
 }
 
-/// Reads the bytes of a file.
-pub fn parse(bytes: &[u8]) -> Names {
+/// Reads the bytes of a file, as names for this kind of book.
+pub fn parse(kind: BookKind, bytes: &[u8]) -> Names {
     let bytes = bytes.strip_prefix(MARK).unwrap_or(bytes);
     let mut names = Names::default();
     let mut lines = Vec::new();
@@ -67,22 +67,22 @@ pub fn parse(bytes: &[u8]) -> Names {
             }),
         }
     }
-    sort(lines, &mut names);
+    sort(kind, lines, &mut names);
     names
 }
 
-/// Sorts the lines by bytes, and parts the doubles from the first of each name.
-fn sort(mut lines: Vec<Line>, names: &mut Names) {
+/// Sorts the lines as this kind of book does, and parts the doubles from the first
+/// of each name.
+fn sort(kind: BookKind, mut lines: Vec<Line>, names: &mut Names) {
     // A stable sort, so that of equal names the first line stays in front.
-    lines.sort_by(|one, other| one.name.cmp(&other.name));
-    let mut first = 0;
-    for line in lines {
-        if names.rising.last() == Some(&line.name) {
-            names.doubles.push(Double { line, first });
-        } else {
-            first = line.number;
-            names.rising.push(line.name);
-        }
+    lines.sort_by(|one, other| kind.order(&one.name, &other.name));
+    for same in lines.chunk_by(|one, other| kind.order(&one.name, &other.name).is_eq()) {
+        let first = &same[0];
+        names.rising.push(first.name.clone());
+        names.doubles.extend(same[1..].iter().map(|line| Double {
+            line: line.clone(),
+            first: first.clone(),
+        }));
     }
     names.doubles.sort_by_key(|double| double.line.number);
 }
@@ -158,7 +158,7 @@ mod tests {
 
     /// The names of a text.
     fn rising(text: &[u8]) -> Vec<String> {
-        let names = parse(text);
+        let names = parse(BookKind::Plain, text);
         assert_eq!(names.bad, []);
         let text = |name| String::from_utf8(name).expect("names are UTF-8");
         names.rising.into_iter().map(text).collect()
@@ -186,15 +186,41 @@ mod tests {
 
     #[test]
     fn doubles_are_told_with_both_lines() {
-        let names = parse(b"b\na\n\nb\na\nb\n");
+        let names = parse(BookKind::Plain, b"b\na\n\nb\na\nb\n");
         assert_eq!(names.rising, [b"a", b"b"]);
         let told: Vec<(usize, usize)> = names
             .doubles
             .iter()
-            .map(|double| (double.line.number, double.first))
+            .map(|double| (double.line.number, double.first.number))
             .collect();
         assert_eq!(told, [(4, 1), (5, 2), (6, 1)]);
         assert_eq!(names.doubles[0].line.name, b"b");
+    }
+
+    #[test]
+    fn for_a_folded_book_names_in_another_case_are_doubles_and_the_first_is_kept() {
+        let text = b"zoo\nMAR\nabbey\nMar\n[\nmar\nZoo\n\xC3\x89\n\xC3\xA9\n";
+        let names = parse(BookKind::Folded, text);
+        let rising: [&[u8]; 6] = [b"[", b"abbey", b"MAR", b"zoo", b"\xC3\x89", b"\xC3\xA9"];
+        assert_eq!(names.rising, rising);
+        let told: Vec<(&[u8], &[u8], usize)> = names
+            .doubles
+            .iter()
+            .map(|double| {
+                (
+                    &double.line.name[..],
+                    &double.first.name[..],
+                    double.first.number,
+                )
+            })
+            .collect();
+        let expected: [(&[u8], &[u8], usize); 3] = [
+            (b"Mar", b"MAR", 2),
+            (b"mar", b"MAR", 2),
+            (b"Zoo", b"zoo", 1),
+        ];
+        assert_eq!(told, expected);
+        assert!(parse(BookKind::Plain, text).doubles.is_empty());
     }
 
     #[test]
@@ -203,7 +229,7 @@ mod tests {
         text.extend([b'x'; 200]);
         text.push(b'\n');
         text.extend([b'y'; 201]);
-        let names = parse(&text);
+        let names = parse(BookKind::Plain, &text);
         let numbers: Vec<usize> = names.bad.iter().map(|bad| bad.number).collect();
         assert_eq!(numbers, [3, 5]);
         assert!(names.bad[0].why.contains("byte 3 (E9)"));
@@ -215,9 +241,10 @@ mod tests {
     #[test]
     fn a_length_is_counted_in_bytes() {
         let mut text = "é".repeat(100).into_bytes();
-        assert!(parse(&text).bad.is_empty());
+        let bad = |text: &[u8]| parse(BookKind::Plain, text).bad.len();
+        assert_eq!(bad(&text), 0);
         text.push(b'e');
-        assert_eq!(parse(&text).bad.len(), 1);
+        assert_eq!(bad(&text), 1);
     }
 
     #[test]
@@ -245,8 +272,9 @@ mod tests {
         ];
         for names in cases {
             let text = text(names);
-            assert_eq!(parse(&text).rising, names);
-            assert_eq!((parse(&text).bad, parse(&text).doubles), (vec![], vec![]));
+            let found = parse(BookKind::Plain, &text);
+            assert_eq!(found.rising, names);
+            assert_eq!((found.bad, found.doubles), (vec![], vec![]));
         }
         assert_eq!(text(&[b"Mar", b"Marina"]), b"Mar\nMarina\n");
     }

@@ -4,7 +4,7 @@ use crate::files;
 use crate::names::{self, Bad, Double};
 use crate::outcome::{Failure, Streams};
 use crate::text::{counted, grouped, named};
-use mistrogu::MOST_NAMES;
+use mistrogu::{BookKind, MOST_NAMES};
 use std::ffi::OsStr;
 
 /// So much of a names file is read, and no more.
@@ -17,13 +17,14 @@ const MOST_TOLD: usize = 20;
 pub struct Text {
     /// What messages call it.
     pub source: String,
-    /// Its names, rising, each once.
+    /// Its names, rising for their kind of book, each once.
     pub names: Vec<Vec<u8>>,
 }
 
 impl Text {
-    /// Reads a file, or standard input, tells of doubles, and refuses bad lines.
-    pub fn read(input: &OsStr, streams: &mut Streams) -> Result<Text, Failure> {
+    /// Reads a file, or standard input, as names for this kind of book, tells of
+    /// doubles, and refuses bad lines.
+    pub fn read(kind: BookKind, input: &OsStr, streams: &mut Streams) -> Result<Text, Failure> {
         let source = files::input_name(input);
         let bytes = files::read(input, LONGEST_FILE + 1)?;
         if bytes.len() as u64 > LONGEST_FILE {
@@ -34,7 +35,7 @@ impl Text {
             let text = format!("{source} is UTF-16; save it as UTF-8 and try again");
             return Err(Failure::refused(text));
         }
-        let names = names::parse(&bytes);
+        let names = names::parse(kind, &bytes);
         tell_bad(&names.bad, &source, streams);
         tell_doubles(&names.doubles, &source, streams);
         if !names.bad.is_empty() {
@@ -60,10 +61,14 @@ fn tell_bad(bad: &[Bad], source: &str, streams: &mut Streams) {
 /// Names the doubles, and says how many there are.
 fn tell_doubles(doubles: &[Double], source: &str, streams: &mut Streams) {
     for double in doubles.iter().take(MOST_TOLD) {
-        let (number, first) = (double.line.number, double.first);
-        let name = named(&double.line.name);
+        let Double { line, first } = double;
+        let (number, name, before) = (line.number, named(&line.name), first.number);
+        let spelt = match first.name == line.name {
+            true => String::new(),
+            false => format!(" {}", named(&first.name)),
+        };
         streams.note(&format!(
-            "{source}, line {number}: {name} again, as in line {first}; dropped"
+            "{source}, line {number}: {name} again, as{spelt} in line {before}; dropped"
         ));
     }
     tell_rest(doubles.len(), "double", source, streams);

@@ -6,7 +6,7 @@ use crate::lines::Lines;
 use crate::loss::{self, Block};
 use crate::outcome::{Failure, Outcome, Status, Streams};
 use crate::{book, files, help, Command};
-use mistrogu::{Kept, Salvaged, MOST_SALVAGED};
+use mistrogu::{BookKind, Kept, Refusal, Salvaged, MOST_SALVAGED};
 use std::ffi::OsStr;
 
 /// The command.
@@ -32,8 +32,10 @@ fn run(words: &Words, streams: &mut Streams) -> Outcome {
     let data = book::read(input)?;
     let mut room = vec![0; MOST_SALVAGED];
     let mut rows = vec![Kept::default(); mistrogu::blocks_of(&data).unwrap_or(0)];
-    let salvaged = mistrogu::salvage(&data, &mut room, &mut rows)
-        .map_err(|refusal| Failure::refused(format!("{source} cannot be salvaged: {refusal}")))?;
+    let salvaged = mistrogu::salvage(&data, &mut room, &mut rows).map_err(|refusal| {
+        let why = why_not(&data, refusal);
+        Failure::refused(format!("{source} cannot be salvaged: {why}"))
+    })?;
     write(salvaged, output, &source, streams)?;
     for sentence in loss::sentences(&blocks(&data, salvaged)) {
         streams.note(&format!("{source}: {sentence}"));
@@ -43,6 +45,16 @@ fn run(words: &Words, streams: &mut Streams) -> Outcome {
     } else {
         Status::Lost
     })
+}
+
+/// Why nothing can be salvaged.
+fn why_not(data: &[u8], refusal: Refusal) -> String {
+    match BookKind::of_marked(data) {
+        Some(BookKind::Folded) => "it is marked as a folded book, and only plain ones can be; \
+             build it again from its names"
+            .to_string(),
+        _ => refusal.to_string(),
+    }
 }
 
 /// Writes the names that are left.

@@ -104,12 +104,12 @@ fn a_check_says_what_the_book_has() {
     let ran = folder.run(&["check", "mar.book"]);
     ran.assert(
         0,
-        "mar.book is a book: 3 names in blocks of 2, 4 nodes, 93 bytes\n",
+        "mar.book is a plain book: 3 names in blocks of 2, 4 nodes, 93 bytes\n",
     );
     let ran = folder.run_with(&["check", "-"], NO_NAMES);
     ran.assert(
         0,
-        "standard input is a book: 0 names in blocks of 2, 0 nodes, 16 bytes\n",
+        "standard input is a plain book: 0 names in blocks of 2, 0 nodes, 16 bytes\n",
     );
 }
 

@@ -5,7 +5,7 @@ use crate::book::Book;
 use crate::light::Light;
 use crate::outcome::{Failure, Status};
 use crate::text::{counted, named, shown};
-use mistrogu::{Nearest, Refusal, Reply, LONGEST_NAME};
+use mistrogu::{BookKind, Nearest, Refusal, Reply, LONGEST_NAME};
 use std::ops::Range;
 
 /// An answer as it is printed, and whether it says yes.
@@ -27,7 +27,7 @@ pub fn tell(
 ) -> Result<Told, Failure> {
     let text = &question.text;
     match reply {
-        Reply::Exact(Some(position)) => done(format!("{} is stop {position}\n", named(text))),
+        Reply::Exact(Some(position)) => tell_stop(book, text, *position),
         Reply::Exact(None) => no_stop(book, text),
         Reply::Place(place) => tell_place(book, text, *place),
         Reply::Range(range) if range.is_empty() => no_range(book, text, range.start),
@@ -60,6 +60,19 @@ fn done(text: String) -> Result<Told, Failure> {
 fn no(text: String) -> Result<Told, Failure> {
     let status = Status::No;
     Ok(Told { text, status })
+}
+
+/// A question that is a stop. A folded book may spell it otherwise, which is told.
+fn tell_stop(book: &mut Book, text: &[u8], position: usize) -> Result<Told, Failure> {
+    let spelt = match book.kind() {
+        // No name is read for it: it is the question.
+        BookKind::Plain => String::new(),
+        BookKind::Folded => match book.name(position)? {
+            name if name == text => String::new(),
+            name => format!(", spelt {}", shown(name)),
+        },
+    };
+    done(format!("{} is stop {position}{spelt}\n", named(text)))
 }
 
 /// A question that is no stop, and where it would stand.
@@ -137,7 +150,7 @@ fn tell_range(
 }
 
 /// The name that shares most, with as many of its first bytes lit as the library
-/// lights of the question: they are the same.
+/// lights of the question: they are the same letters.
 fn tell_nearest(
     book: &mut Book,
     text: &[u8],

@@ -3,6 +3,7 @@
 use crate::book::Book;
 use crate::layout::Node;
 use crate::outcome::Failure;
+use mistrogu::BookKind;
 
 /// A node with what leads to it.
 #[derive(Clone, Debug, PartialEq, Eq)]
@@ -11,8 +12,11 @@ pub struct Branch {
     pub node: Node,
     /// How many edges lie between the root and it.
     pub level: usize,
-    /// The bytes on the edge that leads to it, without an end symbol.
+    /// The letters on the edge that leads to it, without an end symbol. A folded
+    /// book's are small ones, whatever the case of its names.
     pub letters: Vec<u8>,
+    /// The letters from the root to it, likewise.
+    pub beginning: Vec<u8>,
     /// The node's first name.
     pub name: Vec<u8>,
     /// The numbers of its children that are drawn.
@@ -69,7 +73,7 @@ impl Tree {
             let parent = path.last().map(|&(parent, _)| parent);
             if number < limit {
                 let name = book.name(node.first)?.to_vec();
-                tree.add(*node, name, parent, path.len());
+                tree.add(book.kind(), *node, name, parent);
                 path.push((number, number + node.nodes));
             } else if let Some(parent) = parent {
                 tree.branches[parent].left_out += 1;
@@ -78,19 +82,23 @@ impl Tree {
         Ok(tree)
     }
 
-    /// Adds a node below its parent.
-    fn add(&mut self, node: Node, name: Vec<u8>, parent: Option<usize>, level: usize) {
-        let from = parent.map_or(0, |parent| self.branches[parent].node.depth);
-        let letters = name.get(from..node.depth.min(name.len()));
-        let letters = letters.unwrap_or_default().to_vec();
+    /// Adds a node of a book of this kind below its parent.
+    fn add(&mut self, kind: BookKind, node: Node, name: Vec<u8>, parent: Option<usize>) {
+        let depth = node.depth.min(name.len());
+        let letters = name[..depth].iter().map(|&byte| kind.compared(byte));
+        let beginning: Vec<u8> = letters.collect();
+        let (mut from, mut level) = (0, 0);
+        let number = self.branches.len();
         if let Some(parent) = parent {
-            let number = self.branches.len();
-            self.branches[parent].children.push(number);
+            let parent = &mut self.branches[parent];
+            (from, level) = (parent.node.depth, parent.level + 1);
+            parent.children.push(number);
         }
         self.branches.push(Branch {
             node,
             level,
-            letters,
+            letters: beginning.get(from..).unwrap_or_default().to_vec(),
+            beginning,
             name,
             children: Vec::new(),
             left_out: 0,
@@ -116,11 +124,24 @@ pub mod tests {
     use super::*;
     use crate::layout::tests::EXAMPLE;
 
-    /// The book of these names, in blocks of 16.
+    /// The plain book of these names, in blocks of 16.
     pub fn book_of(names: &[&str]) -> Book {
+        built_by(mistrogu::build, names)
+    }
+
+    /// The folded book of these names, in blocks of 16.
+    pub fn folded_book_of(names: &[&str]) -> Book {
+        built_by(mistrogu::build_folded, names)
+    }
+
+    /// What a call builds of these names, in blocks of 16.
+    fn built_by(
+        build: fn(&[u8], usize, &mut [u8]) -> Result<usize, mistrogu::Refused>,
+        names: &[&str],
+    ) -> Book {
         let names: Vec<Vec<u8>> = names.iter().map(|name| name.as_bytes().to_vec()).collect();
         let mut room = vec![0; 65_535];
-        let length = mistrogu::build(&crate::names::records(&names), 16, &mut room);
+        let length = build(&crate::names::records(&names), 16, &mut room);
         room.truncate(length.map_err(|refused| refused.refusal).unwrap());
         Book::of(room, "book".to_string()).unwrap()
     }
@@ -167,6 +188,21 @@ pub mod tests {
             (1, "ket Square", vec![]),
         ];
         assert_eq!(shape(&tree), expected);
+    }
+
+    #[test]
+    fn the_letters_of_a_folded_book_are_small_ones() {
+        let mut book = folded_book_of(&["mar", "Marina", "MARKET Square"]);
+        let tree = Tree::of(&mut book, 100).unwrap();
+        let expected = [
+            (0, "mar", vec![1, 2, 3]),
+            (1, "", vec![]),
+            (1, "ina", vec![]),
+            (1, "ket square", vec![]),
+        ];
+        assert_eq!(shape(&tree), expected);
+        assert_eq!(tree.branches[3].name, b"MARKET Square");
+        assert_eq!(tree.branches[3].beginning, b"market square");
     }
 
     #[test]

@@ -30,18 +30,12 @@ pub fn draw(tree: &Tree) -> String {
 fn label(branch: &Branch, number: usize) -> [String; 3] {
     let name = match branch.is_leaf() {
         true => shown(&branch.name),
-        false => format!("all begin with {}", named(shared(branch))),
+        false => format!("all begin with {}", named(&branch.beginning)),
     };
     let (depth, width) = (branch.node.depth, branch.node.width);
     let head = format!("node {number}, depth {depth}");
     let names = format!("{}, width {width}", branch.positions());
     [head, names, name]
-}
-
-/// What all names of a fork begin with.
-fn shared(branch: &Branch) -> &[u8] {
-    let name = &branch.name;
-    name.get(..branch.node.depth).unwrap_or(name)
 }
 
 /// The letters of an edge, and whether the end symbol follows.
