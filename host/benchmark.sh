@@ -5,7 +5,8 @@
 #   host/benchmark.sh FOLDER
 #
 # writes FOLDER/benchmark.md, which it also prints, and FOLDER/benchmark.svg, a drawing of the instructions; and FOLDER/stations.list and
-# FOLDER/stations.book, for measure.sh. It takes about a minute once the archive is there.
+# FOLDER/stations.book, with stations-folded.list and stations-folded.book for folded books, for measure.sh. It takes about a minute once the
+# archive is there.
 #
 # Instructions are counted by valgrind's callgrind and do not depend on the machine's load. Those of the proved library are the same on
 # every run; those of the others, which call the C library, move by a few percent with the addresses that they get. Times are

@@ -2,6 +2,7 @@
 # Counts the instructions of calls of the proved library, each with all that it calls, by valgrind's callgrind.
 #
 #   host/measure.sh build LISTFILE K              instructions of book_build on that list with that block size
+#   host/measure.sh build_folded LISTFILE K       of book_build_folded, likewise
 #   host/measure.sh check BOOKFILE                of book_check on that book
 #   host/measure.sh read BOOKFILE POSITION        of book_read at that position of that book
 #   host/measure.sh exact BOOKFILE QUESTION       of book_exact with that question to that book
@@ -14,12 +15,16 @@
 #   host/measure.sh batch BOOKFILE                of book_batch with 64 mixed questions to that book, and of each of them alone
 #   host/measure.sh growth                        of build, check and place, on lists of which one parameter doubles
 #   host/measure.sh worst [SEED]                  of check and place, on shapes that may cost most: the ten dearest of each
+#   host/measure.sh worst_folded [SEED]           the same of folded books, of which neighbours differ in case
 #   host/measure.sh split LISTFILE ODD EVEN       counts nothing, but parts a list into two files, to be merged again
 #   host/measure.sh wear BOOKFILE CARDFILE        counts nothing, but damages every tenth block of a book, to be salvaged
+#   host/measure.sh fold LISTFILE K NAME          counts nothing, but writes a list's names for folded books, and those books
 #
 # A question is a text, or `hex:` and two digits for each byte. `vectors lists FOLDER` and `vectors books FOLDER K` write files to measure
 # with, and `split` two more: the records of that list that have odd numbers, counted from 0, and those that have even ones. Of what `wear`
-# writes, a damaged block is broken in its last entry, so all of it is gone through before it is dropped. The words go to the program `bench`.
+# writes, a damaged block is broken in its last entry, so all of it is gone through before it is dropped. `fold` writes NAME-folded.list and
+# NAME-folded.book, with the names as they are spelt, and NAME-turns.list and NAME-turns.book, in small letters and capitals by turns, so that
+# neighbours share no byte. Every call that takes a book takes either kind. The words go to the program `bench`.
 # The archive is the one that MISTROGU_ARCHIVE names, or a new one from archive.sh; reference.sh and small.sh make
 # others, to measure in the same way.
 #
@@ -149,8 +154,9 @@ growth() {
         }' "$work/lists"
 }
 
+# Of the search that the first word names.
 worst() {
-    three_calls worst "$@"
+    three_calls "$@"
     echo "check:" && sort -t "$(printf '\t')" -k 4,4nr "$work/lists" | awk -F '\t' 'NR <= 10 { print $4 " " $1 ", bytes " $2 }'
     echo "place, after the check:" && sort -t "$(printf '\t')" -k 5,5nr "$work/lists" | awk -F '\t' 'NR <= 10 { print $5 " " $1 ", bytes " $2 }'
 }
@@ -159,7 +165,7 @@ case $1 in
 questions) mixed_questions "$@" ;;
 batch) shift && one_batch "$@" ;;
 growth) growth ;;
-worst) shift && worst "$@" ;;
-split | wear) "$bench" "$@" ;;
+worst | worst_folded) worst "$@" ;;
+split | wear | fold) "$bench" "$@" ;;
 *) one_call "$@" ;;
 esac

@@ -7,8 +7,9 @@
 //! `bench together BOOKFILE` asks some of them as one batch, and then each of
 //! them alone. In each case the answer is printed, and it has to be the second
 //! program's: a wrong answer is not worth measuring. `bench growth` and `bench
-//! worst` build, check and ask lists of many shapes. `bench split` parts a list
-//! into two, to merge them again, and `bench wear` damages a book, to salvage it.
+//! worst` build, check and ask lists of many shapes, `bench worst_folded` those of
+//! folded books. `bench split` parts a list into two, to merge them again, `bench wear`
+//! damages a book, to salvage it, and `bench fold` makes lists and books to be folded.
 //!
 //! Another call is a module with one function, and one more line in [`CALLS`].
 
@@ -23,6 +24,7 @@ mod salvaging;
 mod shaped;
 mod stack;
 
+use model::BookKind;
 use std::process::ExitCode;
 use std::{env, fs};
 
@@ -45,11 +47,16 @@ pub struct Ready {
 }
 
 /// Every call that can be measured.
-const CALLS: [Call; 13] = [
+const CALLS: [Call; 14] = [
     Call {
         name: "build",
         words: "LISTFILE K",
-        ready: building::ready,
+        ready: building::plain,
+    },
+    Call {
+        name: "build_folded",
+        words: "LISTFILE K",
+        ready: building::folded,
     },
     Call {
         name: "check",
@@ -139,9 +146,11 @@ fn run(words: &[String]) -> Result<String, String> {
         "questions" => mixed::run(rest),
         "together" => batching::together(rest),
         "growth" => shaped::growth(),
-        "worst" => shaped::worst(rest),
+        "worst" => shaped::worst(BookKind::Plain, rest),
+        "worst_folded" => shaped::worst(BookKind::Folded, rest),
         "split" => merging::split(rest),
         "wear" => salvaging::wear(rest),
+        "fold" => building::fold(rest),
         _ => {
             let Ready {
                 mut measured,
@@ -189,7 +198,9 @@ fn usage() -> String {
     lines.push("bench together BOOKFILE".to_string());
     lines.push("bench growth".to_string());
     lines.push("bench worst [SEED]".to_string());
+    lines.push("bench worst_folded [SEED]".to_string());
     lines.push("bench split LISTFILE ODD EVEN".to_string());
     lines.push("bench wear BOOKFILE CARDFILE".to_string());
+    lines.push("bench fold LISTFILE K NAME".to_string());
     lines.join("\n")
 }

@@ -1,14 +1,17 @@
 //! Lists by their shape: each is built, its book checked, and a place asked.
 //!
 //! `growth` goes over lists of which one parameter doubles, `worst` over shapes
-//! that may cost most: some by a plan, some by chance.
+//! that may cost most: some by a plan, some by chance. For folded books these are
+//! spelt so that neighbours differ in case where they share letters: what they share
+//! is then no stored count.
 
-use crate::building::measured_build;
+use crate::building::build;
 use crate::checking::measured_check;
 use crate::{asking, read_number, shown};
 use format::{LONGEST_BOOK, MOST_NAMES};
-use model::{write_list, Answer};
+use model::{write_list, Answer, BookKind};
 use vectors::growth;
+use vectors::lists::compared_name;
 use vectors::random::Random;
 use vectors::worst::{self, fitting_chains, Comb, Worst};
 
@@ -19,12 +22,14 @@ use vectors::worst::{self, fitting_chains, Comb, Worst};
 /// is said by the plain list.
 fn lines(label: &str, list: &Worst, room: &mut [u8]) -> Result<Vec<String>, String> {
     let records = write_list(&list.names);
-    let built = measured_build(&records, list.block, room);
+    let built = build(list.kind, &records, list.block, room);
     if built.code == 9 {
         return Ok(vec![format!("build {label}: too large")]);
     }
     let book = &room[..built.first];
-    let place = list.names.partition_point(|name| *name < list.question);
+    let compared = |bytes: &[u8]| compared_name(list.kind, bytes);
+    let question = compared(&list.question);
+    let place = list.names.partition_point(|name| compared(name) < question);
     let expected = |first, second| Answer {
         code: 0,
         first,
@@ -51,20 +56,51 @@ pub fn growth() -> Result<String, String> {
     Ok(all.join("\n"))
 }
 
-/// Shapes that may cost most, the random ones by this seed.
-pub fn worst(words: &[String]) -> Result<String, String> {
+/// Shapes of books of this kind that may cost most, the random ones by this seed.
+pub fn worst(kind: BookKind, words: &[String]) -> Result<String, String> {
     let seed = words.first().map_or(Ok(1), |word| read_number(word))?;
     let mut random = Random::from_seed(seed as u64);
-    let mut shapes = planned();
-    shapes.extend((0..400).filter_map(|_| any_comb(&mut random)));
-    shapes.extend((0..60).map(|_| any_chains(&mut random)));
-    shapes.extend((0..10).map(|_| worst::any(&mut random)));
+    let shapes = match kind {
+        BookKind::Plain => plain_shapes(&mut random),
+        BookKind::Folded => folded_shapes(&mut random),
+    };
     let mut room = vec![0; LONGEST_BOOK];
     let mut all = Vec::new();
     for shape in shapes {
         all.extend(lines(&shape.what, &shape, &mut room)?);
     }
     Ok(all.join("\n"))
+}
+
+/// Shapes of plain books, by a plan and by chance.
+fn plain_shapes(random: &mut Random) -> Vec<Worst> {
+    let mut shapes = planned();
+    shapes.extend((0..400).filter_map(|_| any_comb(random)));
+    shapes.extend((0..60).map(|_| any_chains(random)));
+    shapes.extend((0..10).map(|_| worst::any(random)));
+    shapes
+}
+
+/// Shapes of folded books, by a plan and by chance: the dearest that is known;
+/// chains, and names of few letters, all of which neighbours spell in the other case
+/// from some place on; and random names of which they do.
+fn folded_shapes(random: &mut Random) -> Vec<Worst> {
+    let mut shapes = vec![worst::dearest_folded_check()];
+    for block in [1, 2, 4, 8, 16, 32, 64] {
+        for length in [2, 4, 8, 16, 32, 64, 200] {
+            shapes.push(worst::turned(&fitting_chains(MOST_NAMES, length, block), 0));
+        }
+        for (letters, length) in [(2, 11), (2, 20), (3, 8), (5, 6), (13, 4), (26, 3), (26, 12)] {
+            for place in [0, 1, length - 2] {
+                shapes.push(worst::turned(&worst::spelt(letters, length, block), place));
+            }
+        }
+    }
+    shapes.extend((0..60).map(|_| {
+        let shape = worst::any(random);
+        worst::turned(&shape, random.below(9))
+    }));
+    shapes
 }
 
 /// Chains and combs, as many names of each as fit a book, and those that were

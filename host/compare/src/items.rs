@@ -11,7 +11,7 @@ use format::{Kind, LONGEST_BOOK, LONGEST_NAME, MOST_NAMES};
 use model::questions::nearest_from;
 use model::tree::tree;
 use model::{BookKind, Rule};
-use vectors::lists::Names;
+use vectors::lists::{sorted_for, Names};
 
 /// How many positions are read back.
 const READS: usize = 20;
@@ -28,6 +28,8 @@ pub struct Data {
     pub lists: [Vec<u8>; 2],
     /// Their book.
     pub book: Vec<u8>,
+    /// The same names for a folded book.
+    pub folded: Folded,
     /// The questions.
     pub questions: Names,
     /// The answers to all of them, for each kind.
@@ -38,6 +40,28 @@ pub struct Data {
     buffer: Vec<u8>,
     /// For each row of a batch: which question it is, and where it begins.
     rows: Vec<(usize, usize)>,
+}
+
+/// Names for a folded book.
+pub struct Folded {
+    /// How many there are.
+    pub names: usize,
+    /// Their list.
+    pub list: Vec<u8>,
+    /// Their book.
+    pub book: Vec<u8>,
+}
+
+impl Folded {
+    /// These names, without those that fold to others.
+    fn of(names: &Names) -> Folded {
+        let names = sorted_for(BookKind::Folded, names.clone());
+        Folded {
+            names: names.len(),
+            list: model::write_list(&names),
+            book: model::book_of(BookKind::Folded, BLOCK, &names),
+        }
+    }
 }
 
 impl Data {
@@ -66,6 +90,7 @@ impl Data {
             list: model::write_list(&names),
             lists: [model::write_list(first), model::write_list(second)],
             book: model::book_of(BookKind::Plain, BLOCK, &names),
+            folded: Folded::of(&names),
             positions: positions(&names, READS),
             parts,
             names,
@@ -291,6 +316,8 @@ pub fn item(subject: usize, step: Step, call: impl Call + 'static) -> Item {
     }
 }
 
+/// A call that builds a book.
+type Build<A> = fn(&[u8], usize, &mut [u8]) -> A;
 /// A call that asks a question.
 type Ask<A> = fn(&[u8], &[u8]) -> A;
 /// A call that asks a batch: the book, the buffer, its rows and its answers.
@@ -301,7 +328,8 @@ type Batch<A, R> = fn(&[u8], &[u8], &[R], &mut [A]) -> A;
 #[derive(Clone, Copy)]
 struct Checked<A, R> {
     subject: usize,
-    build: fn(&[u8], usize, &mut [u8]) -> A,
+    build: Build<A>,
+    build_folded: Build<A>,
     check: fn(&[u8]) -> A,
     read: fn(&[u8], usize, &mut [u8]) -> A,
     asks: [Ask<A>; Kind::ALL.len()],
@@ -317,6 +345,7 @@ fn library() -> Checked<proved::Answer, proved::Row> {
     Checked {
         subject: LIBRARY,
         build: proved::book_build,
+        build_folded: proved::book_build_folded,
         check: proved::book_check,
         read: proved::book_read,
         asks: [
@@ -341,6 +370,7 @@ fn reference() -> Checked<reference::Answer, reference::Row> {
     Checked {
         subject: REFERENCE,
         build: reference::book_build,
+        build_folded: reference::book_build_folded,
         check: reference::book_check,
         read: reference::book_read,
         asks: [
@@ -407,7 +437,38 @@ where
         items.push(item(own, Step::Ask(kind), ask));
     }
     items.extend(checked_batches(data, calls));
+    items.extend(folded_items(
+        own,
+        data,
+        calls.build_folded,
+        calls.check,
+        tell,
+    ));
     items
+}
+
+/// Building and checking a folded book, by calls whose answer has these numbers.
+fn folded_items<A: 'static>(
+    subject: usize,
+    data: &'static Data,
+    build: Build<A>,
+    check: fn(&[u8]) -> A,
+    tell: fn(A) -> Numbers,
+) -> Vec<Item> {
+    let folded = &data.folded;
+    let mut room = vec![0; LONGEST_BOOK];
+    let build = Once {
+        make: move || tell(build(&folded.list, BLOCK, &mut room)),
+        expected: [0, folded.book.len(), 0],
+    };
+    let check = Once {
+        make: move || tell(check(&folded.book)),
+        expected: [0, folded.names, BLOCK],
+    };
+    vec![
+        item(subject, Step::BuildFolded, build),
+        item(subject, Step::CheckFolded, check),
+    ]
 }
 
 /// The batches of a library that checks: a mixed one, and one of each kind.
@@ -503,6 +564,14 @@ fn model_items(data: &'static Data) -> Vec<Item> {
         items.push(item(MODEL, Step::Ask(kind), ask));
         items.push(item(MODEL, Step::HeldAsk(kind), held));
     }
+    let build = model::book_build_folded;
+    items.extend(folded_items(
+        MODEL,
+        data,
+        build,
+        model::book_check,
+        of_model,
+    ));
     let kinds = mixed_kinds();
     let rows = data.batch(&kinds, |kind, start, length| model::Row {
         kind,

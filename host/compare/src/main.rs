@@ -110,6 +110,7 @@ fn measure(folder: &Path, words: &[String]) -> Result<(), String> {
         nodes: node_count(model::Rule::Plain, &data.names),
         questions: data.questions.len(),
         merged: data.parts.each_ref().map(Vec::len),
+        folded: [data.folded.names, data.folded.book.len()],
         rounds: timing::ROUNDS,
         left_out,
     };
@@ -120,6 +121,8 @@ fn measure(folder: &Path, words: &[String]) -> Result<(), String> {
         ("benchmark.svg", drawing(&subjects, &figures).as_bytes()),
         ("stations.list", &data.list),
         ("stations.book", &data.book),
+        ("stations-folded.list", &data.folded.list),
+        ("stations-folded.book", &data.folded.book),
     ] {
         let path = folder.join(name);
         fs::write(&path, bytes).map_err(|error| format!("{}: {error}", path.display()))?;

@@ -26,6 +26,10 @@ pub enum Step {
     HeldAsk(Kind),
     /// Merging two lists.
     Merge,
+    /// Building a folded book from a list.
+    BuildFolded,
+    /// Checking a folded book.
+    CheckFolded,
 }
 
 /// How many rows a batch has here: as many as it can have.

@@ -17,6 +17,8 @@ pub struct About {
     pub questions: usize,
     /// How many names either of the two lists has that are merged to all.
     pub merged: [usize; 2],
+    /// How many names the folded book has, and how many bytes.
+    pub folded: [usize; 2],
     /// How many times everything was timed.
     pub rounds: usize,
     /// What was left out, a sentence each.
@@ -58,6 +60,7 @@ pub fn page(about: &About, subjects: &[Subject], figures: &Figures) -> String {
         times(about, subjects, figures),
         stacks(subjects, figures),
         merging(about, subjects, figures),
+        folding(about, subjects, figures),
     ];
     sections.join("\n")
 }
@@ -237,6 +240,31 @@ fn merging(about: &About, subjects: &[Subject], figures: &Figures) -> String {
         grouped(second as f64),
         grouped((first + second - about.names) as f64),
         grouped(figures.sort as f64),
+    )
+}
+
+/// Books of both kinds, built and checked.
+fn folding(about: &About, subjects: &[Subject], figures: &Figures) -> String {
+    let row = |(name, step): (&str, Step)| {
+        let cells = (0..subjects.len()).map(|subject| {
+            let spread = figures.whole(subject, step);
+            spread.map_or(NONE.to_string(), |spread| grouped(spread.mean))
+        });
+        [vec![name.to_string()], cells.collect()].concat()
+    };
+    let rows = [
+        ("build, plain", Step::Build),
+        ("build, folded", Step::BuildFolded),
+        ("check, plain", Step::Check),
+        ("check, folded", Step::CheckFolded),
+    ];
+    let [names, bytes] = about.folded;
+    format!(
+        "## Folded books\n\nInstructions of building and checking the same names as a plain and as a folded book, which takes capitals as small \
+         letters: {} names, {} bytes.\n\n{}",
+        grouped(names as f64),
+        grouped(bytes as f64),
+        table("Call", subjects, &rows.map(row))
     )
 }
 

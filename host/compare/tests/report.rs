@@ -28,6 +28,7 @@ fn made_up() -> (Vec<Subject>, Figures) {
     note(LIBRARY, Step::Check, &[100_010], 6400.0);
     note(LIBRARY, Step::Batch, &[164_010], 7040.0);
     note(REFERENCE, Step::Check, &[90_010], 3200.0);
+    note(LIBRARY, Step::CheckFolded, &[120_010], 6600.0);
     note(LIBRARY, Step::Merge, &[300_010], 5000.0);
     note(REFERENCE, Step::Merge, &[200_010], 4000.0);
     for kind in Kind::ALL {
@@ -73,6 +74,7 @@ fn the_page_has_a_row_for_each_call_and_says_what_is_left_out() {
         nodes: 2451,
         questions: 100,
         merged: [1200, 1150],
+        folded: [1790, 63_000],
         rounds: 2,
         left_out: vec!["fst is left out.".to_string()],
     };
@@ -88,6 +90,8 @@ fn the_page_has_a_row_for_each_call_and_says_what_is_left_out() {
         "| Mistrogu | 300,000 | 1.00 | 64 |",
         "| reference | 200,000 | 0.80 | 64 |",
         "| `sort -mu` of the lines | 400,000 | - | - |",
+        "| check, plain | 100,000 | 90,000 | - | - |",
+        "| check, folded | 120,000 | - | - | - |",
         "fst is left out.",
     ] {
         assert!(page.lines().any(|other| other == line), "{line}\n{page}");

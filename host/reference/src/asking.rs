@@ -201,7 +201,7 @@ impl<'lent, R: Rule> Sound<'lent, R> {
         let noted = |at: usize| usize::from(path.get_unchecked(at).assume_init());
         let name = self.name(self.field(last, Field::First));
         let name = part(&name.bytes, 0, name.length);
-        let shared = leading_letters::<R>(question, name, 0);
+        let shared = leading_letters::<R>(question, name);
         let mut at = length - 1;
         while at > 0 {
             if self.field(noted(at - 1), Field::Depth) < shared {
@@ -246,8 +246,8 @@ impl<'lent, R: Rule> Sound<'lent, R> {
         let (position, name) = unsafe { self.reach(question) };
         // SAFETY: a name lies inside its room.
         let name = unsafe { part(&name.bytes, 0, name.length) };
-        let is_same = name.len() == question.len()
-            && leading_letters::<R>(name, question, 0) == question.len();
+        let is_same =
+            name.len() == question.len() && leading_letters::<R>(name, question) == question.len();
         if is_same {
             (position, 1)
         } else {
@@ -313,7 +313,7 @@ impl<'lent, R: Rule> Sound<'lent, R> {
             let name = part(&name.bytes, 0, name.length);
             Some((
                 position,
-                lit(question, leading_letters::<R>(name, question, 0)),
+                lit(question, leading_letters::<R>(name, question)),
             ))
         }
     }

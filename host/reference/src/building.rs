@@ -9,7 +9,8 @@ use core::marker::PhantomData;
 use core::mem::replace;
 
 /// What judging notes of each name: its length, and what it shares with the one
-/// before, as letters for the nodes and as bytes for the entries.
+/// before, as letters for the nodes and, where that is another number, as bytes for
+/// the entries.
 pub struct Noted<R> {
     names: usize,
     lengths: [u8; MOST_NAMES],
@@ -61,7 +62,9 @@ pub fn judge<R: Rule>(list: &[u8], noted: &mut Noted<R>) -> Result<(), Answer> {
         unsafe {
             *noted.lengths.get_unchecked_mut(count) = record.name.len() as u8;
             *noted.shares.get_unchecked_mut(count) = record.letters as u8;
-            *noted.counts.get_unchecked_mut(count) = record.bytes as u8;
+            if R::FOLDS {
+                *noted.counts.get_unchecked_mut(count) = record.bytes as u8;
+            }
         }
         noted.names += 1;
         before = record.name;
@@ -127,6 +130,17 @@ impl Open {
 }
 
 impl<R: Rule> Noted<R> {
+    /// How many bytes a name shares with the one before.
+    ///
+    /// # Safety
+    ///
+    /// It was noted.
+    #[inline(always)]
+    unsafe fn count(&self, position: usize) -> usize {
+        let counts = if R::FOLDS { &self.counts } else { &self.shares };
+        usize::from(*counts.get_unchecked(position))
+    }
+
     /// Where the parts will stand.
     pub fn sizes(&self, block: usize) -> Sizes {
         let mut open = [0u8; MOST_OPEN];
@@ -143,7 +157,7 @@ impl<R: Rule> Noted<R> {
                 if left == 0 {
                     left = block;
                 } else {
-                    entries -= usize::from(*self.counts.get_unchecked(position));
+                    entries -= self.count(position);
                 }
                 left -= 1;
                 while depth > 0 && *open.get_unchecked(depth - 1) > shared {
@@ -199,7 +213,7 @@ impl<R: Rule> Noted<R> {
         let mut left = 0;
         for position in 0..self.names {
             let length = usize::from(*self.lengths.get_unchecked(position));
-            let mut stored = usize::from(*self.counts.get_unchecked(position));
+            let mut stored = self.count(position);
             if left == 0 {
                 put_two(room, slot, at);
                 slot += 2;

@@ -67,10 +67,18 @@ pub fn leading_equal(one: &[u8], other: &[u8]) -> usize {
     at
 }
 
-/// How many leading bytes two names have in common as letters, of which so many
-/// are known to be.
+/// How many leading bytes two names have in common as letters.
 #[inline(always)]
-pub fn leading_letters<R: Rule>(one: &[u8], other: &[u8], known: usize) -> usize {
+pub fn leading_letters<R: Rule>(one: &[u8], other: &[u8]) -> usize {
+    letters_from::<R>(one, other, leading_equal(one, other))
+}
+
+/// The same, of names whose bytes are the same up to here and no further.
+#[inline(always)]
+pub fn letters_from<R: Rule>(one: &[u8], other: &[u8], known: usize) -> usize {
+    if !R::FOLDS {
+        return known;
+    }
     let least = one.len().min(other.len());
     let mut at = known;
     // SAFETY: the place is below both lengths.

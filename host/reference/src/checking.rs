@@ -4,7 +4,7 @@
 //! This is the one place where bytes come from nobody knows where, so every
 //! offset is compared before it is used.
 
-use crate::bytes::{byte, is_above, leading_letters, part, put, two};
+use crate::bytes::{byte, is_above, leading_letters, letters_from, part, put, two};
 use crate::rules::Rule;
 use crate::{LARGEST_BLOCK, LONGEST_BOOK, LONGEST_NAME, MOST_NAMES, NODE, TRAILER};
 use core::mem::replace;
@@ -118,7 +118,7 @@ impl<'book> Entry<'book> {
     /// What a block's first name shares with the name before, if it is above.
     #[inline(always)]
     unsafe fn share_of_first<R: Rule>(self, before: &[u8]) -> Option<usize> {
-        let shared = leading_letters::<R>(before, self.rest, 0);
+        let shared = leading_letters::<R>(before, self.rest);
         (self.stored == 0 && is_above::<R>(self.rest, before, shared)).then_some(shared)
     }
 
@@ -130,10 +130,13 @@ impl<'book> Entry<'book> {
         if self.stored >= before.len() {
             return (self.stored == before.len()).then_some(self.stored);
         }
+        let (last, next) = (byte(before, self.stored), byte(self.rest, 0));
+        if last == next {
+            return None;
+        }
         let before = before.get_unchecked(self.stored..);
-        let parts = byte(before, 0) != byte(self.rest, 0);
-        let more = leading_letters::<R>(before, self.rest, 0);
-        (parts && is_above::<R>(self.rest, before, more)).then_some(self.stored + more)
+        let more = letters_from::<R>(before, self.rest, 0);
+        is_above::<R>(self.rest, before, more).then_some(self.stored + more)
     }
 }
 

@@ -1,6 +1,6 @@
 //! List records, judged one by one.
 
-use crate::bytes::{byte, is_above, leading_equal, leading_letters, part};
+use crate::bytes::{byte, is_above, leading_equal, letters_from, part};
 use crate::rules::Rule;
 use crate::LONGEST_NAME;
 
@@ -33,7 +33,7 @@ pub unsafe fn judge_record<'lent, R: Rule>(
     }
     let name = part(list, at + 1, length);
     let bytes = leading_equal(before, name);
-    let letters = leading_letters::<R>(before, name, bytes);
+    let letters = letters_from::<R>(before, name, bytes);
     if is_above::<R>(name, before, letters) {
         Ok(Record {
             name,

@@ -7,6 +7,9 @@ pub trait Rule: Copy {
     /// The last four bytes of a book.
     const MARK: [u8; 4];
 
+    /// Whether several bytes can be one letter.
+    const FOLDS: bool;
+
     /// A byte as it is compared: bytes of one letter are one.
     fn letter(byte: usize) -> usize;
 
@@ -33,6 +36,7 @@ pub struct Folded;
 
 impl Rule for Plain {
     const MARK: [u8; 4] = *b"NBK2";
+    const FOLDS: bool = false;
 
     #[inline(always)]
     fn letter(byte: usize) -> usize {
@@ -42,6 +46,7 @@ impl Rule for Plain {
 
 impl Rule for Folded {
     const MARK: [u8; 4] = *b"NBF2";
+    const FOLDS: bool = true;
 
     #[inline(always)]
     fn letter(byte: usize) -> usize {

@@ -3,6 +3,7 @@
 
 use crate::lists::{self, Names};
 use crate::worst::{chains, Worst};
+use model::BookKind;
 
 /// A list with its parameter.
 pub struct Grown {
@@ -43,6 +44,7 @@ pub fn all() -> Vec<Grown> {
 /// These names in blocks of so many; the question is the last of them.
 fn asked_last(names: Names, block: usize) -> Worst {
     Worst {
+        kind: BookKind::Plain,
         what: String::new(),
         question: names.last().cloned().unwrap_or_default(),
         names,

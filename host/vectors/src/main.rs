@@ -135,6 +135,7 @@ fn write_worst(folder: &Path) -> Result<(), String> {
     for (name, worst) in [
         ("dearest-check", worst::dearest_check()),
         ("dearest-question", worst::dearest_question()),
+        ("dearest-folded-check", worst::dearest_folded_check()),
     ] {
         let digits = worst.question.iter().map(|byte| format!("{byte:02X}"));
         let question = format!("hex:{}\n", digits.collect::<String>());

@@ -2,20 +2,24 @@
 //!
 //! What a check takes goes with the names, the forks and the blocks; what a
 //! question takes, with the children that it passes on its way down, the entries
-//! of the last block, and the bytes that it compares. `measure.sh worst` looks
-//! for parameters; the dearest that were found are [`dearest_check`] and
-//! [`dearest_question`].
+//! of the last block, and the bytes that it compares. Of a folded book the check
+//! counts letters along a block where neighbours share more of them than bytes, so
+//! there names that differ in case cost most. `measure.sh worst` and `measure.sh
+//! worst_folded` look for parameters; the dearest that were found are
+//! [`dearest_check`], [`dearest_question`] and [`dearest_folded_check`].
 
-use crate::lists::{sorted, Names};
+use crate::lists::{sorted, sorted_for, Names};
 use crate::random::Random;
 use format::{LONGEST_BOOK, LONGEST_NAME, MOST_NAMES, NODE, TRAILER};
 use model::layout::stored_count;
-use model::names::leading_equal;
+use model::names::shared_symbols;
 use model::{book_of, BookKind};
 
-/// A list, a block size and a question.
+/// A list, a block size and a question, for a kind of book.
 #[derive(Clone)]
 pub struct Worst {
+    /// The kind of book.
+    pub kind: BookKind,
     /// What it is, in a word and its parameters.
     pub what: String,
     /// The names.
@@ -29,7 +33,7 @@ pub struct Worst {
 impl Worst {
     /// The book.
     pub fn book(&self) -> Vec<u8> {
-        book_of(BookKind::Plain, self.block, &self.names)
+        book_of(self.kind, self.block, &self.names)
     }
 
     /// How many of its first names fit a book. No book is made for it: a search
@@ -44,7 +48,8 @@ impl Worst {
                 length += 2;
             }
             if position > 0 {
-                let shared = leading_equal(&self.names[position - 1], name);
+                let before = &self.names[position - 1];
+                let shared = shared_symbols(self.kind.rule(), before, name);
                 forks.retain(|&depth| depth <= shared);
                 if forks.last() != Some(&shared) {
                     forks.push(shared);
@@ -74,6 +79,7 @@ pub fn chains(count: usize, length: usize, block: usize) -> Worst {
     });
     let names: Names = names.collect();
     Worst {
+        kind: BookKind::Plain,
         what: format!("chains, names {count} length {length} block {block}"),
         question: names.last().cloned().unwrap_or_default(),
         names,
@@ -170,6 +176,7 @@ impl Comb {
             question[1] = BETWEEN + 1;
         }
         Worst {
+            kind: BookKind::Plain,
             what: format!("{self:?}"),
             names,
             block: self.block,
@@ -187,6 +194,7 @@ pub fn any(random: &mut Random) -> Worst {
     let block = *random.one_of(&[1, 2, 4, 16, 64]);
     let names = crate::lists::grown(random, alphabet, 2 * count, tail);
     let mut worst = Worst {
+        kind: BookKind::Plain,
         what: format!("grown, letters {letters} tail {tail} block {block}"),
         names: sorted(names).into_iter().take(count).collect(),
         block,
@@ -195,6 +203,59 @@ pub fn any(random: &mut Random) -> Worst {
     worst.names.truncate(worst.fitting());
     worst.question = random.one_of(&worst.names).clone();
     worst
+}
+
+/// As many names as fit a book, of this length over so many letters, the last ones
+/// counted through first: a, a, .. b, b, .. The question is the last name.
+pub fn spelt(letters: usize, length: usize, block: usize) -> Worst {
+    let count = letters.saturating_pow(length as u32).min(MOST_NAMES);
+    let name = |mut number: usize| {
+        let mut name = vec![b'a'; length];
+        for byte in name.iter_mut().rev() {
+            *byte += (number % letters) as u8;
+            number /= letters;
+        }
+        name
+    };
+    let mut worst = Worst {
+        kind: BookKind::Plain,
+        what: format!("spelt, letters {letters} length {length} block {block}"),
+        names: (0..count).map(name).collect(),
+        block,
+        question: Vec::new(),
+    };
+    worst.names.truncate(worst.fitting());
+    worst.question = worst.names.last().cloned().unwrap_or_default();
+    worst
+}
+
+/// The list for a folded book, with every second name in capitals from this place
+/// on and the others in small letters: where neighbours share more letters, the bytes
+/// that they share end there. As many names as then fit.
+pub fn turned(shape: &Worst, place: usize) -> Worst {
+    let mut names = sorted_for(BookKind::Folded, shape.names.clone());
+    for (number, name) in names.iter_mut().enumerate() {
+        name.make_ascii_lowercase();
+        if number % 2 == 1 {
+            let from = place.min(name.len());
+            name[from..].make_ascii_uppercase();
+        }
+    }
+    let mut worst = Worst {
+        kind: BookKind::Folded,
+        what: format!("turned from {place}, {}", shape.what),
+        names,
+        block: shape.block,
+        question: shape.question.to_ascii_uppercase(),
+    };
+    worst.names.truncate(worst.fitting());
+    worst
+}
+
+/// The dearest check of a folded book that is known: names of few letters in blocks
+/// as large as can be, of which neighbours share no byte.
+pub fn dearest_folded_check() -> Worst {
+    turned(&spelt(2, 11, 64), 0)
 }
 
 /// The dearest check that was found: wide rows of names that share much, each in

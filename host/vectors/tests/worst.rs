@@ -1,15 +1,20 @@
 //! Lists that cost most, and those of which one parameter doubles, are lists.
 
 use format::{LONGEST_BOOK, LONGEST_NAME, LONGEST_QUESTION, MOST_NAMES};
-use model::{book_of, BookKind};
+use model::names::{is_strictly_rising, leading_equal, shared_symbols};
+use model::{book_check, book_of, BookKind, Rule};
 use vectors::growth;
 use vectors::random::Random;
-use vectors::worst::{any, chains, dearest_check, dearest_question, fitting_chains, Comb, Worst};
+use vectors::worst::{
+    any, chains, dearest_check, dearest_folded_check, dearest_question, fitting_chains, spelt,
+    turned, Comb, Worst,
+};
 
 /// Names rise and are long enough, a book can be made, the question can be asked.
 fn assert_sound(worst: &Worst) {
     let what = &worst.what;
-    assert!(worst.names.is_sorted_by(|one, next| one < next), "{what}");
+    let rule = worst.kind.rule();
+    assert!(is_strictly_rising(rule, &worst.names), "{what}");
     let lengths = worst.names.iter().map(Vec::len);
     assert!(lengths.clone().min() > Some(0), "{what}");
     assert!(lengths.max() <= Some(LONGEST_NAME), "{what}");
@@ -21,7 +26,7 @@ fn assert_sound(worst: &Worst) {
 /// As many of the first names fit as it says, and one more does not.
 fn assert_fitting(worst: &Worst) {
     let (what, fitting) = (&worst.what, worst.fitting());
-    let length = |count: usize| book_of(BookKind::Plain, worst.block, &worst.names[..count]).len();
+    let length = |count: usize| book_of(worst.kind, worst.block, &worst.names[..count]).len();
     assert!(length(fitting) <= LONGEST_BOOK, "{what}");
     if fitting < worst.names.len().min(MOST_NAMES) {
         assert!(length(fitting + 1) > LONGEST_BOOK, "{what}");
@@ -31,7 +36,12 @@ fn assert_fitting(worst: &Worst) {
 #[test]
 fn the_dearest_are_sound_and_as_large_as_they_say() {
     let (check, question) = (dearest_check(), dearest_question());
-    for (worst, names, bytes) in [(&check, 1003, 65_511), (&question, 2000, 36_148)] {
+    let folded = dearest_folded_check();
+    for (worst, names, bytes) in [
+        (&check, 1003, 65_511),
+        (&question, 2000, 36_148),
+        (&folded, 1769, 65_513),
+    ] {
         assert_sound(worst);
         assert_eq!((worst.names.len(), worst.book().len()), (names, bytes));
     }
@@ -69,6 +79,33 @@ fn as_many_names_fit_as_a_book_has_space_for() {
         ..fitting
     };
     assert!(other.worst().book().len() > LONGEST_BOOK);
+}
+
+#[test]
+fn turned_names_share_letters_and_no_byte_from_their_place_on() {
+    for place in [0, 1, 7] {
+        let worst = turned(&spelt(2, 11, 64), place);
+        assert_sound(&worst);
+        assert_eq!(worst.kind, BookKind::Folded);
+        let mut more = 0;
+        for pair in worst.names.windows(2) {
+            let bytes = leading_equal(&pair[0], &pair[1]);
+            assert!(bytes <= place);
+            let letters = shared_symbols(Rule::Folded, &pair[0], &pair[1]);
+            more += usize::from(letters > bytes);
+        }
+        assert!(more > worst.names.len() / 9, "{place}: {more}");
+    }
+    for shape in [
+        spelt(26, 3, 4),
+        chains(2000, 16, 8),
+        fitting_chains(2000, 200, 64),
+    ] {
+        let worst = turned(&shape, 0);
+        assert_sound(&worst);
+        assert_eq!(book_check(&worst.book()).code, 0, "{}", worst.what);
+        assert_fitting(&turned(&shape, 2));
+    }
 }
 
 #[test]
