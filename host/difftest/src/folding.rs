@@ -18,8 +18,11 @@ use vectors::spelling::respelt;
 /// A call that builds a book.
 type Build = fn(&[u8], usize, &mut [u8]) -> Answer;
 
+/// A call that asks a question of a book.
+type Ask = fn(&[u8], &[u8]) -> Answer;
+
 /// The five questions.
-const ASKS: [(&str, fn(&[u8], &[u8]) -> Answer); 5] = [
+const ASKS: [(&str, Ask); 5] = [
     ("exact", proved::book_exact),
     ("place", proved::book_place),
     ("range", proved::book_range),

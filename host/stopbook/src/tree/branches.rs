@@ -134,11 +134,11 @@ pub mod tests {
         built_by(mistrogu::build_folded, names)
     }
 
+    /// A call that builds a book.
+    type Build = fn(&[u8], usize, &mut [u8]) -> Result<usize, mistrogu::Refused>;
+
     /// What a call builds of these names, in blocks of 16.
-    fn built_by(
-        build: fn(&[u8], usize, &mut [u8]) -> Result<usize, mistrogu::Refused>,
-        names: &[&str],
-    ) -> Book {
+    fn built_by(build: Build, names: &[&str]) -> Book {
         let names: Vec<Vec<u8>> = names.iter().map(|name| name.as_bytes().to_vec()).collect();
         let mut room = vec![0; 65_535];
         let length = build(&crate::names::records(&names), 16, &mut room);
