@@ -16,6 +16,7 @@ use lib.ListN.{length, drop, getD, length-append, take}
 use borrow.Author.Tests.{eq-eqb, eqb-true, le-leb, leb-true, lt-leb}
 use Rattle.words.specs.Words.{Bytes, Rule, both, pick}
 use Rattle.words.proofs.Words.{both-true}
+use Rattle.format.specs.Marks.{BookKind, ruleOf}
 use Rattle.format.specs.Records.{Names, Reading, Refused, longest, mostNames, readList}
 use Rattle.format.specs.Book.{Book, NoBook, Opened, book, goodBlock, longestBook, opened}
 use Rattle.format.proofs.Outcomes.{Kept, picked, same-kept, write-kept}
@@ -38,47 +39,47 @@ CountWithin w = w .answer .first ≤ length (w .room)
 pub write-within : (room out : Bytes) → CountWithin (write out room)
 write-within room out = picked CountWithin (leb (length out) (length room)) (simp length-append (omega arith)) (omega arith)
 
-module _ (ρ : Rule) (list : Bytes) (k : ℕ) (room : Bytes) where
-  from-within : (r : Reading) → readList ρ mostNames list ≡ r → FirstWithin (builtFrom ρ k room r)
+module _ (κ : BookKind) (list : Bytes) (k : ℕ) (room : Bytes) where
+  from-within : (r : Reading) → readList (ruleOf κ) mostNames list ≡ r → FirstWithin (builtFrom κ k room r)
   unfolding builtFrom
-  from-within (Refused code i) p = λ e. absurd (omega (arith, read-refused ρ mostNames list code i p))
-  from-within (Names xs) p = picked FirstWithin (leb (length (book ρ k xs)) longestBook) (λ e. write-within room (book ρ k xs)) (λ e. absurd (omega arith))
+  from-within (Refused code i) p = λ e. absurd (omega (arith, read-refused (ruleOf κ) mostNames list code i p))
+  from-within (Names xs) p = picked FirstWithin (leb (length (book κ k xs)) longestBook) (λ e. write-within room (book κ k xs)) (λ e. absurd (omega arith))
 
-  pub build-within : (w : Written) → w ≡ build ρ list k room → FirstWithin w
+  pub build-within : (w : Written) → w ≡ build κ list k room → FirstWithin w
   unfolding build
-  build-within w p = rw p (picked FirstWithin (goodBlock k) (from-within (readList ρ mostNames list) refl) (λ e. absurd (omega arith)))
+  build-within w p = rw p (picked FirstWithin (goodBlock k) (from-within (readList (ruleOf κ) mostNames list) refl) (λ e. absurd (omega arith)))
 
-module _ (ρ : Rule) (s : Bytes) (i : ℕ) (room : Bytes) where
+module _ (κ : BookKind) (s : Bytes) (i : ℕ) (room : Bytes) where
   read-of-within : (o : Opened) → CountWithin (readBackOf i room o)
   unfolding readBackOf
   read-of-within NoBook = omega arith
   read-of-within (Book k xs) = picked CountWithin (ltb i (length xs)) (write-within room (getD xs i [])) (omega arith)
 
-  pub read-within : (w : Written) → w ≡ readBack ρ s i room → CountWithin w
+  pub read-within : (w : Written) → w ≡ readBack κ s i room → CountWithin w
   unfolding readBack
-  read-within w p = rw p (read-of-within (opened ρ s))
+  read-within w p = rw p (read-of-within (opened κ s))
 
 -- ---- what is left as it was
 
 module _ (room : Bytes) where
-  module _ (ρ : Rule) where
-    from-kept : (k : ℕ) (r : Reading) → Kept room (builtFrom ρ k room r)
+  module _ (κ : BookKind) where
+    from-kept : (k : ℕ) (r : Reading) → Kept room (builtFrom κ k room r)
     unfolding builtFrom
     from-kept k (Refused code i) = same-kept room (record { code = code; first = i; second = 0 })
-    from-kept k (Names xs) = picked (Kept room) (leb (length (book ρ k xs)) longestBook) (write-kept room (book ρ k xs)) (same-kept room (refused 9))
+    from-kept k (Names xs) = picked (Kept room) (leb (length (book κ k xs)) longestBook) (write-kept room (book κ k xs)) (same-kept room (refused 9))
 
-    pub build-kept : (list : Bytes) (k : ℕ) → Kept room (build ρ list k room)
+    pub build-kept : (list : Bytes) (k : ℕ) → Kept room (build κ list k room)
     unfolding build
-    build-kept list k = picked (Kept room) (goodBlock k) (from-kept k (readList ρ mostNames list)) (same-kept room (refused 8))
+    build-kept list k = picked (Kept room) (goodBlock k) (from-kept k (readList (ruleOf κ) mostNames list)) (same-kept room (refused 8))
 
     read-of-kept : (i : ℕ) (o : Opened) → Kept room (readBackOf i room o)
     unfolding readBackOf
     read-of-kept i NoBook = same-kept room (refused 2)
     read-of-kept i (Book k xs) = picked (Kept room) (ltb i (length xs)) (write-kept room (getD xs i [])) (same-kept room (refused 3))
 
-    pub read-kept : (s : Bytes) (i : ℕ) → Kept room (readBack ρ s i room)
+    pub read-kept : (s : Bytes) (i : ℕ) → Kept room (readBack κ s i room)
     unfolding readBack
-    read-kept s i = read-of-kept i (opened ρ s)
+    read-kept s i = read-of-kept i (opened κ s)
 
 -- ---- a question to a book of some names
 
@@ -128,15 +129,15 @@ module _ (ρ : Rule) (o : Opened) (buffer : Bytes) (r : Row) where
           let g = both-true (leb 1 (r .kind)) (leb (r .kind) lastKind) (f .0) in
           absurd (h (record { low = leb-true 1 (r .kind) (g .0); high = leb-true (r .kind) lastKind (g .1); within = leb-true (r .start + r .size) (length buffer) (f .1) }))
 
-module _ (ρ : Rule) (s buffer : Bytes) (rows : List Row) (answers : List Answer) where
+module _ (κ : BookKind) (s buffer : Bytes) (rows : List Row) (answers : List Answer) where
   abbrev OwnAnswers : Opened → Batched → Type 0
-  OwnAnswers o b = b .answer .code ≡ 0 → b .rows ≡ map (rowAnswer ρ o buffer) rows
+  OwnAnswers o b = b .answer .code ≡ 0 → b .rows ≡ map (rowAnswer (ruleOf κ) o buffer) rows
 
-  pub batch-rows : OwnAnswers (opened ρ s) (batch ρ s buffer rows answers)
+  pub batch-rows : OwnAnswers (opened κ s) (batch κ s buffer rows answers)
   unfolding batch batchOf
-  batch-rows = go (both (leb (length rows) 64) (eqb (length rows) (length answers))) (opened ρ s)
+  batch-rows = go (both (leb (length rows) 64) (eqb (length rows) (length answers))) (opened κ s)
     where
-      go : (t : Bool) (o : Opened) → OwnAnswers o (pick t (batchOf ρ buffer rows answers o) (record { answer = refused 12; rows = answers }))
+      go : (t : Bool) (o : Opened) → OwnAnswers o (pick t (batchOf (ruleOf κ) buffer rows answers o) (record { answer = refused 12; rows = answers }))
       go true (Book k xs) e = refl
       go true NoBook e = absurd (omega (arith, e))
       go false (Book k xs) e = absurd (omega (arith, e))
@@ -146,11 +147,11 @@ module _ (ρ : Rule) (s buffer : Bytes) (rows : List Row) (answers : List Answer
   abbrev RowsKept : Batched → Type 0
   RowsKept b = (b .answer .code ≡ 0 → ⊥) → b .rows ≡ answers
 
-  batch-of-kept : (o : Opened) → RowsKept (batchOf ρ buffer rows answers o)
+  batch-of-kept : (o : Opened) → RowsKept (batchOf (ruleOf κ) buffer rows answers o)
   unfolding batchOf
   batch-of-kept NoBook n = refl
   batch-of-kept (Book k xs) n = absurd (n refl)
 
-  pub batch-kept : RowsKept (batch ρ s buffer rows answers)
+  pub batch-kept : RowsKept (batch κ s buffer rows answers)
   unfolding batch
-  batch-kept = picked RowsKept (both (leb (length rows) 64) (eqb (length rows) (length answers))) (batch-of-kept (opened ρ s)) (λ n. refl)
+  batch-kept = picked RowsKept (both (leb (length rows) 64) (eqb (length rows) (length answers))) (batch-of-kept (opened κ s)) (λ n. refl)

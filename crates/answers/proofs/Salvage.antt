@@ -18,7 +18,8 @@ use lib.Seq.{ext-getD, getD-drop, getD-take, length-take-le, split-at}
 use borrow.Author.Tests.{eq-eqb, eqb-true, le-leb, leb-true}
 use Rattle.words.specs.Words.{Bytes, pick, same}
 use Rattle.words.proofs.Words.{both-true}
-use Rattle.format.specs.Book.{goodBlock, joined, mark, told, trailerSize}
+use Rattle.format.specs.Marks.{PlainBook, markOf}
+use Rattle.format.specs.Book.{goodBlock, joined, told, trailerSize}
 use Rattle.format.specs.Outcomes.{Answer, given, over, refused}
 use Rattle.format.specs.Records.{encode, mostNames}
 use Rattle.format.specs.Salvage.{Block, Broken, Whole, blockCount, bounds, boundsFrom, fromZero, judgedAlone, mapped, spans, spansFrom}
@@ -35,7 +36,7 @@ pub record Mapped (s : Bytes) : Type 0 where
   pub table : told s 2 + 2 * blockCount (told s 0) (told s 1) ≡ told s 3
   pub nodes : told s 3 + nodeSize * told s 4 + trailerSize ≡ length s
   pub long : told s 5 ≡ length s
-  pub marked : same (drop (length s - 4) s) mark ≡ true
+  pub marked : same (drop (length s - 4) s) (markOf PlainBook) ≡ true
   pub starts : fromZero (bounds s) ≡ true
 
 pub mapped-parts : (s : Bytes) → mapped s ≡ true → Mapped s
@@ -203,7 +204,7 @@ module _ (s t : Bytes) (is : mapped s ≡ true) (j : ℕ) (hj : suc j < length (
     table = ap₂ (λ (a n : ℕ). a + 2 * n) (sym (told-are 2)) (ap₂ blockCount (sym (told-are 0)) (sym (told-are 1))) ∙ m .table ∙ told-are 3;
     nodes = ap₂ (λ (a n : ℕ). a + nodeSize * n + trailerSize) (sym (told-are 3)) (sym (told-are 4)) ∙ m .nodes ∙ u .size;
     long = sym (told-are 5) ∙ m .long ∙ u .size;
-    marked = ap (λ (l : Bytes). same l mark) (sym (tail-behind u (length s - 4) (omega (arith, within)) ∙ ap (λ (n : ℕ). drop (n - 4) t) (u .size))) ∙ m .marked;
+    marked = ap (λ (l : Bytes). same l (markOf PlainBook)) (sym (tail-behind u (length s - 4) (omega (arith, within)) ∙ ap (λ (n : ℕ). drop (n - 4) t) (u .size))) ∙ m .marked;
     starts = ap fromZero (sym bounds-are) ∙ m .starts;
   })
 

@@ -8,6 +8,7 @@ use mathlib.Core.List.{List, [], map}
 use lib.Dec.{leb, ltb, eqb}
 use lib.ListN.{length, getD, take, drop}
 use Rattle.words.specs.Words.{Bytes, Rule, pick, both}
+use Rattle.format.specs.Marks.{BookKind, ruleOf}
 use Rattle.format.specs.Records.{Names, Reading, Refused, longest, mostNames, readList}
 use Rattle.format.specs.Book.{Opened, Book, NoBook, longestBook, goodBlock, book, opened}
 use Rattle.format.specs.Outcomes.{Answer, Written, checkOf, given, numbered, refused, write}
@@ -20,25 +21,25 @@ pub record Batched : Type 0 where
   pub rows : List Answer
 
 -- ---- build: 8; then record by record 5, 6, 7; then 9; then 4
-unfoldable pub builtFrom : Rule → ℕ → Bytes → Reading → Written
-builtFrom ρ k room (Refused c i) = record { answer = numbered c i; room = room }
-builtFrom ρ k room (Names xs) =
-    pick (leb (length (book ρ k xs)) longestBook) (write (book ρ k xs) room) (record { answer = refused 9; room = room })
+unfoldable pub builtFrom : BookKind → ℕ → Bytes → Reading → Written
+builtFrom κ k room (Refused c i) = record { answer = numbered c i; room = room }
+builtFrom κ k room (Names xs) =
+    pick (leb (length (book κ k xs)) longestBook) (write (book κ k xs) room) (record { answer = refused 9; room = room })
 
-unfoldable pub build : Rule → Bytes → ℕ → Bytes → Written
-build ρ list k room = pick (goodBlock k) (builtFrom ρ k room (readList ρ mostNames list)) (record { answer = refused 8; room = room })
+unfoldable pub build : BookKind → Bytes → ℕ → Bytes → Written
+build κ list k room = pick (goodBlock k) (builtFrom κ k room (readList (ruleOf κ) mostNames list)) (record { answer = refused 8; room = room })
 
 -- ---- check: 2
-unfoldable pub check : Rule → Bytes → Answer
-check ρ s = checkOf (opened ρ s)
+unfoldable pub check : BookKind → Bytes → Answer
+check κ s = checkOf (opened κ s)
 
 -- ---- read back: 2, 3, 4
 unfoldable pub readBackOf : ℕ → Bytes → Opened → Written
 readBackOf i room NoBook = record { answer = refused 2; room = room }
 readBackOf i room (Book k xs) = pick (ltb i (length xs)) (write (getD xs i []) room) (record { answer = refused 3; room = room })
 
-unfoldable pub readBack : Rule → Bytes → ℕ → Bytes → Written
-readBack ρ s i room = readBackOf i room (opened ρ s)
+unfoldable pub readBack : BookKind → Bytes → ℕ → Bytes → Written
+readBack κ s i room = readBackOf i room (opened κ s)
 
 -- ---- a question of kind 1 to 5: 2, 1, 10
 unfoldable pub questionOf : Rule → ℕ → Bytes → Opened → Answer
@@ -49,8 +50,8 @@ questionOf ρ kind q (Book k xs) =
     (pick (both (eqb kind 4) (eqb (length xs) 0)) (refused 10) (given (a .0) (a .1)))
     (refused 1)
 
-unfoldable pub question : Rule → ℕ → Bytes → Bytes → Answer
-question ρ kind s q = questionOf ρ kind q (opened ρ s)
+unfoldable pub question : BookKind → ℕ → Bytes → Bytes → Answer
+question κ kind s q = questionOf (ruleOf κ) kind q (opened κ s)
 
 -- ---- batch: 12, 2; then for each row 11, 1, 10
 pub record Row : Type 0 where
@@ -70,7 +71,7 @@ batchOf ρ buffer rows answers NoBook = record { answer = refused 2; rows = answ
 batchOf ρ buffer rows answers (Book k xs) =
     record { answer = given (length rows) 0; rows = map (rowAnswer ρ (Book k xs) buffer) rows }
 
-unfoldable pub batch : Rule → Bytes → Bytes → List Row → List Answer → Batched
-batch ρ s buffer rows answers =
+unfoldable pub batch : BookKind → Bytes → Bytes → List Row → List Answer → Batched
+batch κ s buffer rows answers =
     pick (both (leb (length rows) 64) (eqb (length rows) (length answers)))
-    (batchOf ρ buffer rows answers (opened ρ s)) (record { answer = refused 12; rows = answers })
+    (batchOf (ruleOf κ) buffer rows answers (opened κ s)) (record { answer = refused 12; rows = answers })

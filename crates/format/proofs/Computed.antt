@@ -1,15 +1,21 @@
 -- The union of Mar and Marina, Marina and Market Square, Mar and Zoo, computed: in both orders of two, in both groupings of three, and of one
--- with itself; and blocks of a worn card that are judged alone. What another definition would give shows here, name by name.
---     union-computed, union-commutes, union-associates, union-of-itself, alone-computed
+-- with itself; blocks of a worn card that are judged alone; and the symbols of bytes around the letters in a folded book. What another definition
+-- would give shows here, name by name and symbol by symbol.
+--     edges-computed, union-computed, union-commutes, union-associates, union-of-itself, alone-computed
 -- Assumes nothing.
 use mathlib.Core.Path.{_≡_, refl}
-use mathlib.Core.List.{List, [], _∷_, _++_}
+use mathlib.Core.List.{List, [], _∷_, _++_, map}
 use Rattle.words.specs.Words.{Bytes, begins, less, plain, same, shared}
 use Rattle.format.specs.Example.{text}
 use Rattle.format.specs.Entries.{decode, decodeFrom, entry, front}
+use Rattle.format.specs.Marks.{folded}
 use Rattle.format.specs.Merging.{kept, merged}
 use Rattle.format.specs.Records.{rising}
 use Rattle.format.specs.Salvage.{Broken, Whole, judgedAlone}
+
+-- A to Z, 65 to 90, have the symbols of a to z; the bytes beside them keep their own
+pub edges-computed : map folded (64 ∷ 65 ∷ 90 ∷ 91 ∷ 96 ∷ 97 ∷ 122 ∷ 123 ∷ []) ≡ 65 ∷ 98 ∷ 123 ∷ 92 ∷ 97 ∷ 98 ∷ 123 ∷ 124 ∷ []
+edges-computed = refl
 
 abbrev one : List Bytes
 one = text "Mar" ∷ text "Marina" ∷ []

@@ -5,6 +5,7 @@ use mathlib.Core.Path.{_≡_, refl}
 use mathlib.Core.List.{[], _∷_, map}
 use lib.ListN.{length}
 use Rattle.words.specs.Words.{Bytes, plain, shared}
+use Rattle.format.specs.Marks.{PlainBook}
 use Rattle.format.specs.Example.{example, exampleBy2, exampleBy4}
 use Rattle.format.specs.Book.{allFields, blockPart, book, entryPart, joined, nodePart, numbers, trailer}
 use Rattle.format.specs.Entries.{blocks, blocksFrom, entry, front, offsets}
@@ -13,7 +14,7 @@ use Rattle.format.specs.Spans.{nodeTable}
 use Rattle.format.specs.Widths.{widest}
 
 -- the books, and their lengths
-pub books : map (λ k. book plain k example) (2 ∷ 4 ∷ []) ≡ exampleBy2 ∷ exampleBy4 ∷ []
+pub books : map (λ k. book PlainBook k example) (2 ∷ 4 ∷ []) ≡ exampleBy2 ∷ exampleBy4 ∷ []
 unfolding shared depth glue groups widest rowBy tableWithin nodeTable table numbers joined entry blocksFrom front blocks offsets entryPart blockPart allFields nodePart trailer book
 books = refl
 

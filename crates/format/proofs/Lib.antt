@@ -10,6 +10,7 @@ pub mod Groups
 pub mod Widths
 pub mod Spans
 pub mod Numbers
+pub mod Marks
 pub mod Book
 pub mod Small
 pub mod Example

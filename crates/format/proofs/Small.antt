@@ -10,10 +10,11 @@ use mathlib.Core.Path.{_≡_, refl, sym, ap, subst}
 use mathlib.Core.List.{List, [], _∷_, _++_}
 use lib.ListN.{length, take, drop, length-append, length-drop, take-append-drop}
 use Rattle.words.specs.Rising.{All, Rises, cons, nil}
-use Rattle.words.specs.Words.{Bytes, InBytes, Rule, Words, at, shared}
+use Rattle.words.specs.Words.{Bytes, InBytes, Words, at, shared}
 use Rattle.words.proofs.Lists.{all-append, all-head, all-left, all-map, all-right}
 use Rattle.words.proofs.Rising.{rises-left, rises-right}
 use Rattle.words.proofs.Words.{shared-comm, shared-le}
+use Rattle.format.specs.Marks.{BookKind}
 use Rattle.format.specs.Book.{allFields, blockPart, book, entryPart, fields, joined, namesOf, nodePart, number, trailer, trailerSize}
 use Rattle.format.specs.Entries.{blocks, blocksFrom, decode, decodeFrom, entry, front}
 use Rattle.format.specs.Nodes.{Node, depth, groups, rowBy, table, tableWithin}
@@ -21,6 +22,7 @@ use Rattle.format.specs.Spans.{nodeTable}
 use Rattle.format.specs.Widths.{widest}
 use Rattle.format.specs.Records.{longest}
 use Rattle.format.proofs.Book.{Fits, read-names}
+use Rattle.format.proofs.Marks.{mark-bytes}
 use Rattle.format.proofs.Entries.{by-blocks, entries-first}
 use Rattle.format.proofs.Groups.{Parted, Short, children, depth-length, joinedGroups, part, rowWithin, shorter, whole, within-few}
 use Rattle.format.proofs.Numbers.{bytes-all, numbers-bytes, take-bytes}
@@ -96,11 +98,11 @@ decode-bytes prev (suc n) [] p a = nil
 decode-bytes prev (suc n) (b ∷ rest) p (cons h a) = decode-bytes prev n rest p a
 
 -- the names of a book of bytes
-pub names-bytes : (ρ : Rule) (k : ℕ) (xs : List Bytes) → Fits ρ k xs → InBytes (book ρ k xs) → All Small xs
+pub names-bytes : (κ : BookKind) (k : ℕ) (xs : List Bytes) → Fits κ k xs → InBytes (book κ k xs) → All Small xs
 unfolding decode namesOf
-names-bytes ρ k xs f h =
-    let n : ℕ = number (book ρ k xs) (length (book ρ k xs) - trailerSize + 4) in
-    subst (All Small) (read-names ρ k xs f) (decode-bytes [] 0 (take n (book ρ k xs)) nil (take-bytes n (book ρ k xs) (bytes-all (book ρ k xs) h)))
+names-bytes κ k xs f h =
+    let n : ℕ = number (book κ k xs) (length (book κ k xs) - trailerSize + 4) in
+    subst (All Small) (read-names κ k xs f) (decode-bytes [] 0 (take n (book κ k xs)) nil (take-bytes n (book κ k xs) (bytes-all (book κ k xs) h)))
 
 -- ---- a book is bytes
 
@@ -125,9 +127,9 @@ entries-bytes k xs h = by-blocks k h (λ (ys : List Bytes). Lettered ys → Smal
     subst Small (sym (entries-first k y ys h))
     (all-append (front-bytes [] (take k (y ∷ ys)) (all-left (take k (y ∷ ys)) (drop k (y ∷ ys)) whole)) (ih (all-right (take k (y ∷ ys)) (drop k (y ∷ ys)) whole)))) xs
 
-pub book-bytes : (ρ : Rule) (k : ℕ) (xs : List Bytes) → 1 ≤ k → Lettered xs → Small (book ρ k xs)
+pub book-bytes : (κ : BookKind) (k : ℕ) (xs : List Bytes) → 1 ≤ k → Lettered xs → Small (book κ k xs)
 unfolding book blockPart nodePart trailer
-book-bytes ρ k xs h a =
+book-bytes κ k xs h a =
     all-append (entries-bytes k xs h a)
     (all-append (numbers-bytes _) (all-append (numbers-bytes _) (all-append (numbers-bytes _)
-    (cons {a = 0x4E} (omega arith) (cons {a = 0x42} (omega arith) (cons {a = 0x4B} (omega arith) (cons {a = 0x32} (omega arith) nil)))))))
+    (mark-bytes κ))))

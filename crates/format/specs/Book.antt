@@ -9,7 +9,8 @@ use mathlib.Core.Bool.{Bool}
 use mathlib.Core.List.{List, [], _∷_, _++_, map}
 use lib.Dec.{leb}
 use lib.ListN.{length, getD, take}
-use Rattle.words.specs.Words.{Bytes, Rule, pick, both, word, same}
+use Rattle.words.specs.Words.{Bytes, pick, both, word, same}
+use Rattle.format.specs.Marks.{BookKind, markOf, ruleOf}
 use Rattle.format.specs.Records.{sound}
 use Rattle.format.specs.Entries.{blocks, offsets, decode}
 use Rattle.format.specs.Nodes.{Node, table}
@@ -48,27 +49,24 @@ allFields (r ∷ rs) = fields r ++ allFields rs
 unfoldable pub nodePart : List Node → Bytes
 nodePart rs = numbers (allFields rs)
 
-abbrev pub mark : Bytes
-mark = 0x4E ∷ 0x42 ∷ 0x4B ∷ 0x32 ∷ []
+-- names, block size, start of block table, start of node table, number of nodes, length of the whole book, the kind's mark
+unfoldable pub trailer : BookKind → ℕ → ℕ → ℕ → ℕ → ℕ → ℕ → Bytes
+trailer κ n k blocksAt nodesAt m total = numbers (n ∷ k ∷ blocksAt ∷ nodesAt ∷ m ∷ total ∷ []) ++ markOf κ
 
--- names, block size, start of block table, start of node table, number of nodes, length of the whole book, the mark
-unfoldable pub trailer : ℕ → ℕ → ℕ → ℕ → ℕ → ℕ → Bytes
-trailer n k blocksAt nodesAt m total = numbers (n ∷ k ∷ blocksAt ∷ nodesAt ∷ m ∷ total ∷ []) ++ mark
-
-unfoldable pub book : Rule → ℕ → List Bytes → Bytes
-book ρ k xs =
+unfoldable pub book : BookKind → ℕ → List Bytes → Bytes
+book κ k xs =
     let es = entryPart k xs in
     let bs = blockPart k xs in
-    let rs = table (map (word ρ) xs) in
+    let rs = table (map (word (ruleOf κ)) xs) in
     let ns = nodePart rs in
-    let end = trailer (length xs) k (length es) (length es + length bs) (length rs) (length es + length bs + length ns + trailerSize) in
+    let end = trailer κ (length xs) k (length es) (length es + length bs) (length rs) (length es + length bs + length ns + trailerSize) in
     es ++ (bs ++ (ns ++ end))
 
 abbrev pub goodBlock : ℕ → Bool
 goodBlock k = both (leb 1 k) (leb k 64)
 
-unfoldable pub fits : Rule → ℕ → List Bytes → Bool
-fits ρ k xs = both (goodBlock k) (both (sound ρ xs) (leb (length (book ρ k xs)) longestBook))
+unfoldable pub fits : BookKind → ℕ → List Bytes → Bool
+fits κ k xs = both (goodBlock k) (both (sound (ruleOf κ) xs) (leb (length (book κ k xs)) longestBook))
 
 pub data Opened : Type 0 where
   Book : ℕ → List Bytes → Opened
@@ -82,8 +80,8 @@ told s j = number s (length s - trailerSize + 2 * j)
 unfoldable pub namesOf : Bytes → List Bytes
 namesOf s = decode (take (told s 2) s)
 
-unfoldable pub opened : Rule → Bytes → Opened
-opened ρ s =
+unfoldable pub opened : BookKind → Bytes → Opened
+opened κ s =
     let k = told s 1 in
     let xs = namesOf s in
-    pick (both (fits ρ k xs) (same (book ρ k xs) s)) (Book k xs) NoBook
+    pick (both (fits κ k xs) (same (book κ k xs) s)) (Book k xs) NoBook

@@ -5,6 +5,7 @@ pub mod Distinct
 pub mod Entries
 pub mod Widths
 pub mod Nodes
+pub mod Marks
 pub mod Book
 pub mod Outcomes
 pub mod Spans

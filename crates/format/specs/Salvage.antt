@@ -1,16 +1,16 @@
 -- Document 02, CR 5, 'Books from a worn card': what of damaged bytes is looked at, and one block judged alone.
 --     blockCount, bounds     how many blocks there are; where each of them begins, and behind them where the entries end
 --     mapped, spans     trailer and block table make sense, and no node record is looked at; each block's number of names and span's bytes
---     Block, judgedAlone     a block's names, by these two and nothing else; or that it is broken
--- The laws are in proofs/Salvage.antt. Assumes nothing: these are definitions.
+--     Block, judgedAlone     a block's names, by these two and nothing else; or that it is broken. Assumes nothing: these are definitions.
 use Prim.Native.Nat.{ℕ, zero, suc, _+_, _-_, _*_, _/_, min}
 use mathlib.Core.Bool.{Bool, false, true}
 use mathlib.Core.List.{List, [], _∷_}
 use lib.Dec.{eqb, leb, ltb}
 use lib.ListN.{drop, length, take}
 use Rattle.words.specs.Words.{Bytes, both, pick, plain, same}
-use Rattle.format.specs.Book.{goodBlock, mark, number, told, trailerSize}
+use Rattle.format.specs.Book.{goodBlock, number, told, trailerSize}
 use Rattle.format.specs.Entries.{decode, front}
+use Rattle.format.specs.Marks.{PlainBook, markOf}
 use Rattle.format.specs.Records.{mostNames, rising}
 use Rattle.format.specs.Spans.{nodeSize}
 
@@ -39,7 +39,7 @@ unfoldable pub mapped : Bytes → Bool
 mapped s =
     both (leb trailerSize (length s)) (both (leb (told s 0) mostNames) (both (goodBlock (told s 1))
     (both (eqb (told s 2 + 2 * blockCount (told s 0) (told s 1)) (told s 3)) (both (eqb (told s 3 + nodeSize * told s 4 + trailerSize) (length s))
-    (both (eqb (told s 5) (length s)) (both (same (drop (length s - 4) s) mark) (fromZero (bounds s))))))))
+    (both (eqb (told s 5) (length s)) (both (same (drop (length s - 4) s) (markOf PlainBook)) (fromZero (bounds s))))))))
 
 unfoldable pub spansFrom : Bytes → ℕ → ℕ → List ℕ → List (ℕ × Bytes)
 spansFrom s k left [] = []
