@@ -14,7 +14,7 @@ use mathlib.Core.Logic.{inl, inr}
 use mathlib.Core.List.{List, [], _∷_, _++_}
 use lib.ListN.{length, getD, take, drop, length-append, length-take, length-drop, length-map}
 use lib.Seq.{drop-cons}
-use Rattle.words.specs.Words.{Bytes, at, plain, word}
+use Rattle.words.specs.Words.{Bytes, Rule, at, word}
 use Rattle.words.specs.Rising.{nth}
 use Rattle.words.proofs.Rising.{nth-word}
 use Rattle.words.proofs.Words.{Sides, before, behind, level, sides}
@@ -26,17 +26,17 @@ use Rattle.streams.proofs.Places.{offset-next, stream-at}
 
 -- ---- words
 
-pub words-count : (b : Bytes) → length (wordsOf plain b) ≡ length (namesOf b)
+pub words-count : (ρ : Rule) (b : Bytes) → length (wordsOf ρ b) ≡ length (namesOf b)
 unfolding wordsOf
-words-count b = length-map (namesOf b) (word plain)
+words-count ρ b = length-map (namesOf b) (word ρ)
 
-pub words-nth : (b : Bytes) (i : ℕ) → nth (wordsOf plain b) i ≡ word plain (getD (namesOf b) i [])
+pub words-nth : (ρ : Rule) (b : Bytes) (i : ℕ) → nth (wordsOf ρ b) i ≡ word ρ (getD (namesOf b) i [])
 unfolding wordsOf
-words-nth b i = nth-word plain (namesOf b) i
+words-nth ρ b i = nth-word ρ (namesOf b) i
 
-past : (p r : Bytes) (j : ℕ) → at (word plain (p ++ r)) (length p + j) ≡ at (word plain r) j
-past [] r j = let z : 0 + j ≡ j = omega arith in ap (at (word plain r)) z
-past (x ∷ p) r j = let z : length (x ∷ p) + j ≡ suc (length p + j) = omega arith in ap (at (word plain (x ∷ p ++ r))) z ∙ past p r j
+past : (ρ : Rule) (p r : Bytes) (j : ℕ) → at (word ρ (p ++ r)) (length p + j) ≡ at (word ρ r) j
+past ρ [] r j = let z : 0 + j ≡ j = omega arith in ap (at (word ρ r)) z
+past ρ (x ∷ p) r j = let z : length (x ∷ p) + j ≡ suc (length p + j) = omega arith in ap (at (word ρ (x ∷ p ++ r))) z ∙ past ρ p r j
 
 -- ---- the entry at hand
 
@@ -47,7 +47,7 @@ pub record Comes (b : Bytes) (o : ℕ) (prev x : Bytes) : Type 0 where
 stream-comes : {b prev x : Bytes} {o : ℕ} {xs : List Bytes} → Stream b o prev (x ∷ xs) → Comes b o prev x
 stream-comes (entry a e t) = record { stands = a; named = e }
 
-module _ (b : Bytes) (i a : ℕ) (k : Known b) (h : Here b i a) (l : i < length (namesOf b)) where
+module _ (ρ : Rule) (b : Bytes) (i a : ℕ) (k : Known ρ b) (h : Here b i a) (l : i < length (namesOf b)) where
   pub comes : Comes b a (prevOf (namesOf b) i) (getD (namesOf b) i [])
   comes =
       let s = stream-at b (namesOf b) i (k .stream) (omega arith) in
@@ -60,27 +60,27 @@ module _ (b : Bytes) (i a : ℕ) (k : Known b) (h : Here b i a) (l : i < length 
   front-length : length (take (getD b a 0) (prevOf (namesOf b) i)) ≡ getD b a 0
   front-length = rw length-take (omega (arith, comes .stands .shares))
 
-  pub here-symbol : (d s : ℕ) → getD b a 0 ≤ d → s ≡ at (word plain (restAt b a)) (d - getD b a 0) → s ≡ at (nth (wordsOf plain b) i) d
+  pub here-symbol : (d s : ℕ) → getD b a 0 ≤ d → s ≡ at (word ρ (restAt b a)) (d - getD b a 0) → s ≡ at (nth (wordsOf ρ b) i) d
   here-symbol d s m e =
       let z : length (take (getD b a 0) (prevOf (namesOf b) i)) + (d - getD b a 0) ≡ d = omega (arith, front-length) in
-      e ∙ sym (past (take (getD b a 0) (prevOf (namesOf b) i)) (restAt b a) (d - getD b a 0))
-      ∙ ap₂ (λ (x : Bytes) (n : ℕ). at (word plain x) n) (comes .named) z ∙ sym (ap (λ (w : List ℕ). at w d) (words-nth b i))
+      e ∙ sym (past ρ (take (getD b a 0) (prevOf (namesOf b) i)) (restAt b a) (d - getD b a 0))
+      ∙ ap₂ (λ (x : Bytes) (n : ℕ). at (word ρ x) n) (comes .named) z ∙ sym (ap (λ (w : List ℕ). at w d) (words-nth ρ b i))
 
-  pub here-length : getD b a 0 + getD b (a + 1) 0 ≡ length (nth (wordsOf plain b) i)
+  pub here-length : getD b a 0 + getD b (a + 1) 0 ≡ length (nth (wordsOf ρ b) i)
   here-length =
-      sym (ap length (words-nth b i) ∙ length-map (getD (namesOf b) i []) plain ∙ ap length (sym (comes .named))
+      sym (ap length (words-nth ρ b i) ∙ length-map (getD (namesOf b) i []) ρ ∙ ap length (sym (comes .named))
       ∙ length-append (take (getD b a 0) (prevOf (namesOf b) i)) (restAt b a)
       ∙ omega (arith, front-length, length-take (getD b (a + 1) 0) (drop (a + 2) b), length-drop (a + 2) b, here-fits))
 
-pub name-short : (b : Bytes) (i : ℕ) → Known b → i < length (namesOf b) → length (nth (wordsOf plain b) i) ≤ longest
-name-short b i k l = omega (arith, here-length b i (offsetAt b i) k refl l, (comes b i (offsetAt b i) k refl l) .stands .short)
+pub name-short : (ρ : Rule) (b : Bytes) (i : ℕ) → Known ρ b → i < length (namesOf b) → length (nth (wordsOf ρ b) i) ≤ longest
+name-short ρ b i k l = omega (arith, here-length ρ b i (offsetAt b i) k refl l, (comes ρ b i (offsetAt b i) k refl l) .stands .short)
 
 pub here-next : (b : Bytes) (i a : ℕ) → Here b i a → Here b (suc i) (entryEnd b a)
 here-next b i a h = ap (entryEnd b) h ∙ sym (offset-next b i)
 
-pub first-low : (b : Bytes) → Known b → 0 < length (namesOf b) → getD b 0 0 ≡ 0
+pub first-low : (ρ : Rule) (b : Bytes) → Known ρ b → 0 < length (namesOf b) → getD b 0 0 ≡ 0
 unfolding offsetFrom
-first-low b k l = omega (arith, (comes b 0 0 k refl l) .stands .shares)
+first-low ρ b k l = omega (arith, (comes ρ b 0 0 k refl l) .stands .shares)
 
 -- ---- places in their order
 

@@ -11,6 +11,8 @@ use mathlib.Core.List.{List, [], _∷_, _++_, map}
 use lib.ListN.{drop, length, length-drop, length-take, take}
 use borrow.Author.Tests.{lt-ltb}
 use Rattle.words.specs.Words.{Bytes, both, plain}
+use Rattle.words.proofs.Words.{plain-lawful}
+use Rattle.format.specs.Marks.{BookKind, ruleOf}
 use Rattle.format.specs.Book.{blockPart, book, entryPart, longestBook, told}
 use Rattle.format.specs.Entries.{blocksFrom, entry, front}
 use Rattle.format.specs.Salvage.{Block, Whole, boundsFrom, climbs, judgedAlone, spansFrom}
@@ -21,12 +23,12 @@ use Rattle.streams.specs.Runs.{Rest}
 use Rattle.streams.proofs.Alone.{run-alone}
 use Rattle.streams.proofs.Blocks.{rest-first, rest-none}
 
-pub book-stands : (k : ℕ) (xs : List Bytes) → Fits plain k xs → Rest (book plain k xs) k (blocksAt plain k xs) (nodesAt plain k xs) (blocksAt plain k xs) 0 [] xs
+pub book-stands : (κ : BookKind) (k : ℕ) (xs : List Bytes) → Fits κ k xs → Rest (ruleOf κ) (book κ k xs) k (blocksAt κ k xs) (nodesAt κ k xs) (blocksAt κ k xs) 0 [] xs
 unfolding blockPart
-book-stands k xs f = record {
-  rises = sound-rising plain xs (f .sound);
-  entries = book-parts plain k xs ∙ ap (λ (y : Bytes). entryPart k xs ++ y) (sym (from-blocks plain k xs));
-  places = from-blocks plain k xs ∙ ap (λ (y : Bytes). blockPart k xs ++ y) (sym (from-nodes plain k xs));
+book-stands κ k xs f = record {
+  rises = sound-rising (ruleOf κ) xs (f .sound);
+  entries = book-parts κ k xs ∙ ap (λ (y : Bytes). entryPart k xs ++ y) (sym (from-blocks κ k xs));
+  places = from-blocks κ k xs ∙ ap (λ (y : Bytes). blockPart k xs ++ y) (sym (from-nodes κ k xs));
 }
 
 -- ---- as a worn card's blocks
@@ -50,18 +52,18 @@ front-some (suc k) x xs h = omega arith
 
 module _ (b : Bytes) (k s u : ℕ) (one : 1 ≤ k) (small : length b ≤ longestBook) (hs : s ≤ length b) (hu : u ≤ length b) (se : told b 2 ≡ s) where
   abbrev Stands : List Bytes → Type 0
-  Stands xs = (t o : ℕ) (prev : Bytes) → o ≤ length b → t ≤ length b → Rest b k s u t o prev xs → Stood b k u t o xs
+  Stands xs = (t o : ℕ) (prev : Bytes) → o ≤ length b → t ≤ length b → Rest plain b k s u t o prev xs → Stood b k u t o xs
 
   none : Stands []
   unfolding boundsFrom climbs spansFrom blocksFrom
   none t o prev ho ht r =
-      let z = rest-none b k s u t o prev ho hs ht hu r in
+      let z = rest-none plain b k s u t o prev ho hs ht hu r in
       record { more = 0; others = []; ends = omega (arith, z .1); are = ap (λ (n : ℕ). n ∷ []) (se ∙ sym (z .0)); climb = refl; whole = refl }
 
   one-more : (x : Bytes) (xs : List Bytes) → Stands (drop k (x ∷ xs)) → Stands (x ∷ xs)
   unfolding boundsFrom climbs spansFrom
   one-more x xs ih t o prev ho ht r =
-      let f = rest-first b k s u t o prev x xs one small ho hs ht hu r in
+      let f = rest-first plain plain-lawful b k s u t o prev x xs one small ho hs ht hu r in
       let e : ℕ = o + length (front [] (take k (x ∷ xs))) in
       let g = ih (t + 2) e _ (omega (arith, f .upto)) (omega (arith, f .room)) (f .others) in
       let up : o < e = omega (arith, front-some k x xs one) in

@@ -9,7 +9,7 @@ use native.Mathlib.Omega.{arith}
 use mathlib.Core.Path.{_≡_, refl, sym, ap, _∙_, subst}
 use mathlib.Core.List.{List, [], _∷_}
 use lib.ListN.{length, getD, drop}
-use Rattle.words.specs.Words.{Bytes, shared}
+use Rattle.words.specs.Words.{Bytes, Rule, shared}
 use Rattle.streams.specs.Runs.{Run, done, more}
 use Rattle.streams.specs.Streams.{Stream, entry, entryEnd, offsetAt, offsetFrom, prevOf}
 use Rattle.streams.proofs.Fronts.{Entered, entered}
@@ -54,19 +54,19 @@ stream-at b xs i s h = subst (λ (p : Bytes). Stream b (offsetAt b i) p (drop i 
 
 -- ---- a run
 
-pub run-end : (b : Bytes) (e o : ℕ) (prev : Bytes) (xs : List Bytes) → Run b e o prev xs → offsetFrom b o (length xs) ≡ e
+pub run-end : (ρ : Rule) (b : Bytes) (e o : ℕ) (prev : Bytes) (xs : List Bytes) → Run ρ b e o prev xs → offsetFrom b o (length xs) ≡ e
 unfolding offsetFrom
-run-end b e o prev [] (done q) = q
-run-end b e o prev (x ∷ xs) (more k q r) = run-end b e (entryEnd b o) x xs r
+run-end ρ b e o prev [] (done q) = q
+run-end ρ b e o prev (x ∷ xs) (more k q r) = run-end ρ b e (entryEnd b o) x xs r
 
-pub run-first-count : (b : Bytes) (e o : ℕ) (prev : Bytes) (xs : List Bytes) → e ≤ length b → Run b e o prev xs → 0 < length xs
+pub run-first-count : (ρ : Rule) (b : Bytes) (e o : ℕ) (prev : Bytes) (xs : List Bytes) → e ≤ length b → Run ρ b e o prev xs → 0 < length xs
     → getD b o 0 ≡ shared prev (getD xs 0 [])
-run-first-count b e o prev [] w r h = absurd (not-suc-le-zero h)
-run-first-count b e o prev (x ∷ xs) w (more k q r) h = sym (subst (Entered b o prev) q (entered b e o prev w k) .count)
+run-first-count ρ b e o prev [] w r h = absurd (not-suc-le-zero h)
+run-first-count ρ b e o prev (x ∷ xs) w (more k q r) h = sym (subst (Entered ρ b o prev) q (entered ρ b e o prev w k) .count)
 
-pub run-next-count : (b : Bytes) (e o : ℕ) (prev : Bytes) (xs : List Bytes) (j : ℕ) → e ≤ length b → Run b e o prev xs → suc j < length xs
+pub run-next-count : (ρ : Rule) (b : Bytes) (e o : ℕ) (prev : Bytes) (xs : List Bytes) (j : ℕ) → e ≤ length b → Run ρ b e o prev xs → suc j < length xs
     → getD b (offsetFrom b o (suc j)) 0 ≡ shared (getD xs j []) (getD xs (suc j) [])
 unfolding offsetFrom
-run-next-count b e o prev [] j w r h = absurd (not-suc-le-zero h)
-run-next-count b e o prev (x ∷ xs) zero w (more k q r) h = run-first-count b e (entryEnd b o) x xs w r (le-of-suc-le-suc h)
-run-next-count b e o prev (x ∷ xs) (suc j) w (more k q r) h = run-next-count b e (entryEnd b o) x xs j w r (le-of-suc-le-suc h)
+run-next-count ρ b e o prev [] j w r h = absurd (not-suc-le-zero h)
+run-next-count ρ b e o prev (x ∷ xs) zero w (more k q r) h = run-first-count ρ b e (entryEnd b o) x xs w r (le-of-suc-le-suc h)
+run-next-count ρ b e o prev (x ∷ xs) (suc j) w (more k q r) h = run-next-count ρ b e (entryEnd b o) x xs j w r (le-of-suc-le-suc h)

@@ -14,9 +14,9 @@ use mathlib.Core.List.{List, [], _∷_, _++_, map, append-assoc}
 use lib.ListN.{length, getD, take, drop, length-append, length-drop, take-append-drop}
 use lib.Seq.{getD-drop, drop-drop, take-at, drop-at, take-append-seam}
 use Rattle.words.specs.Rising.{All, Rises, cons}
-use Rattle.words.specs.Words.{Bytes, plain, shared, word}
+use Rattle.words.specs.Words.{Bytes, Lawful, Rule, shared, word}
 use Rattle.words.proofs.Lists.{all-left, all-map, all-right}
-use Rattle.words.proofs.Words.{plain-lawful, shared-comm, shared-le, take-shared}
+use Rattle.words.proofs.Words.{shared-comm, shared-le, take-shared}
 use Rattle.format.specs.Spans.{wordsOf}
 use Rattle.format.specs.Book.{entryPart, joined, longestBook, namesOf, told}
 use Rattle.format.specs.Entries as format
@@ -114,11 +114,11 @@ module _ (b : Bytes) (k : ℕ) (xs : List Bytes) (t : Bytes) (one : 1 ≤ k) (e 
       ∙ ap (λ (s : Bytes). decode (take (length (entryPart k xs)) s)) e
       ∙ ap decode (take-append-seam (entryPart k xs) t) ∙ decode-entries k xs one
 
-  pub known : sound plain xs ≡ true → length b ≤ longestBook → Known b
+  pub known : (ρ : Rule) → Lawful ρ → sound ρ xs ≡ true → length b ≤ longestBook → Known ρ b
   unfolding wordsOf
-  known h l = record {
+  known ρ lw h l = record {
     short = l;
-    few = subst (λ (ys : List Bytes). length ys ≤ mostNames) (sym names-are) (sound-few plain xs h);
-    rises = subst (λ (ys : List Bytes). Rises (map (word plain) ys)) (sym names-are) (sound-rises plain plain-lawful xs h);
-    stream = subst (Stream b 0 []) (sym names-are) (stream-entries b k xs t one (all-map (λ x g. g .1) (rising-sizes plain [] xs (sound-rising plain xs h))) e);
+    few = subst (λ (ys : List Bytes). length ys ≤ mostNames) (sym names-are) (sound-few ρ xs h);
+    rises = subst (λ (ys : List Bytes). Rises (map (word ρ) ys)) (sym names-are) (sound-rises ρ lw xs h);
+    stream = subst (Stream b 0 []) (sym names-are) (stream-entries b k xs t one (all-map (λ x g. g .1) (rising-sizes ρ [] xs (sound-rising ρ xs h))) e);
   }

@@ -10,42 +10,43 @@ use mathlib.Core.Bool.{true}
 use mathlib.Core.List.{List, [], _++_, _∷_}
 use lib.Dec.{leb}
 use lib.ListN.{drop, getD, length}
-use Rattle.words.specs.Words.{Bytes, pick, plain}
+use Rattle.words.specs.Words.{Bytes, Rule, less, pick, word}
 use Rattle.format.specs.Book.{entryPart, longestBook, number, numbers}
 use Rattle.format.specs.Entries.{blocks, offsets}
 use Rattle.format.specs.Records.{longest, rising}
 use Rattle.format.specs.Spans.{lastOf}
 use Rattle.streams.specs.Streams.{entryEnd, nameAt}
 
--- `above` is both: the count is the greatest possible, and the name is above the one before
-pub record Step (b : Bytes) (o e : ℕ) (prev : Bytes) : Type 0 where
+-- `differ`: the count is the greatest possible, by bytes; `above`: the name is above the one before, by symbols
+pub record Step (ρ : Rule) (b : Bytes) (o e : ℕ) (prev : Bytes) : Type 0 where
   pub fits : entryEnd b o ≤ e
   pub some : 1 ≤ getD b (o + 1) 0
   pub shares : getD b o 0 ≤ length prev
   pub short : getD b o 0 + getD b (o + 1) 0 ≤ longest
-  pub above : getD b o 0 < length prev → getD prev (getD b o 0) 0 < getD b (o + 2) 0
+  pub differ : getD b o 0 < length prev → getD prev (getD b o 0) 0 ≡ getD b (o + 2) 0 → ⊥
+  pub above : less (word ρ prev) (word ρ (nameAt b o prev)) ≡ true
 
-pub data Run (b : Bytes) (e : ℕ) : ℕ → Bytes → List Bytes → Type 0 where
-  done : {o : ℕ} {prev : Bytes} → o ≡ e → Run b e o prev []
-  more : {o : ℕ} {prev x : Bytes} {xs : List Bytes} → Step b o e prev → nameAt b o prev ≡ x → Run b e (entryEnd b o) x xs
-      → Run b e o prev (x ∷ xs)
+pub data Run (ρ : Rule) (b : Bytes) (e : ℕ) : ℕ → Bytes → List Bytes → Type 0 where
+  done : {o : ℕ} {prev : Bytes} → o ≡ e → Run ρ b e o prev []
+  more : {o : ℕ} {prev x : Bytes} {xs : List Bytes} → Step ρ b o e prev → nameAt b o prev ≡ x → Run ρ b e (entryEnd b o) x xs
+      → Run ρ b e o prev (x ∷ xs)
 
-pub record RunTo (b : Bytes) (e o : ℕ) (prev : Bytes) (m : ℕ) (l : Bytes) : Type 0 where
+pub record RunTo (ρ : Rule) (b : Bytes) (e o : ℕ) (prev : Bytes) (m : ℕ) (l : Bytes) : Type 0 where
   pub names : List Bytes
   pub count : length names ≡ m
-  pub run : Run b e o prev names
+  pub run : Run ρ b e o prev names
   pub last : lastOf prev names ≡ l
 
 -- the names are above prev
-pub record Rest (b : Bytes) (k s u t o : ℕ) (prev : Bytes) (xs : List Bytes) : Type 0 where
-  pub rises : rising plain prev xs ≡ true
+pub record Rest (ρ : Rule) (b : Bytes) (k s u t o : ℕ) (prev : Bytes) (xs : List Bytes) : Type 0 where
+  pub rises : rising ρ prev xs ≡ true
   pub entries : drop o b ≡ entryPart k xs ++ drop s b
   pub places : drop t b ≡ numbers (offsets o (blocks k xs)) ++ drop u b
 
-pub record Has (b : Bytes) (k s u m t o : ℕ) (prev : Bytes) : Type 0 where
+pub record Has (ρ : Rule) (b : Bytes) (k s u m t o : ℕ) (prev : Bytes) : Type 0 where
   pub names : List Bytes
   pub count : length names ≡ m
-  pub rest : Rest b k s u t o prev names
+  pub rest : Rest ρ b k s u t o prev names
 
 -- the trailer's numbers lie within the bytes
 pub record Frame (b : Bytes) (k s u : ℕ) : Type 0 where

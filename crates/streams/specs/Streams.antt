@@ -13,7 +13,7 @@ use mathlib.Core.Path.{_≡_}
 use mathlib.Core.List.{List, [], _++_, _∷_}
 use lib.ListN.{drop, getD, length, take}
 use Rattle.words.specs.Rising.{Rises}
-use Rattle.words.specs.Words.{Bytes, plain, shared}
+use Rattle.words.specs.Words.{Bytes, Rule, shared}
 use Rattle.format.specs.Spans.{wordsOf}
 use Rattle.format.specs.Book.{longestBook, namesOf, number}
 use Rattle.format.specs.Records.{longest, mostNames}
@@ -59,10 +59,10 @@ abbrev pub prevOf : List Bytes → ℕ → Bytes
 prevOf xs zero = []
 prevOf xs (suc i) = getD xs i []
 
-pub record Known (b : Bytes) : Type 0 where
+pub record Known (ρ : Rule) (b : Bytes) : Type 0 where
   pub short : length b ≤ longestBook
   pub few : length (namesOf b) ≤ mostNames
-  pub rises : Rises (wordsOf plain b)
+  pub rises : Rises (wordsOf ρ b)
   pub stream : Stream b 0 [] (namesOf b)
 
 -- blocks of k names, whose offsets stand from s on
