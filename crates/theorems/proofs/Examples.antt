@@ -6,7 +6,8 @@ use Prim.Native.String.{String}
 use mathlib.Core.Path.{_≡_, refl}
 use mathlib.Core.List.{[], _∷_, map}
 use lib.ListN.{length}
-use Rattle.words.specs.Words.{Bytes, begins, less, plain, same, shared}
+use Rattle.words.specs.Words.{Bytes, begins, less, same, shared}
+use Rattle.format.specs.Marks.{PlainBook}
 use Rattle.format.specs.Book.{allFields, blockPart, book, entryPart, fits, joined, namesOf, nodePart, number, numbers, opened, trailer}
 use Rattle.format.specs.Entries.{blocks, blocksFrom, decode, decodeFrom, entry, front, offsets}
 use Rattle.format.specs.Nodes.{depth, glue, groups, rowBy, table, tableWithin}
@@ -22,7 +23,7 @@ use Rattle.answers.specs.Widths.{width}
 use Rattle.theorems.specs.Widths.{exampleWidths}
 use Rattle.answers.specs.Questions.{answer, ask, childOf, count, exact, exactFrom, nearest, place, range, reachWithin, reached}
 
-pub example-books : map (λ k. book plain k example) (2 ∷ 4 ∷ []) ≡ exampleBy2 ∷ exampleBy4 ∷ []
+pub example-books : map (λ k. book PlainBook k example) (2 ∷ 4 ∷ []) ≡ exampleBy2 ∷ exampleBy4 ∷ []
 example-books = books
 
 pub example-lengths : map (λ (s : Bytes). length s) (exampleBy2 ∷ exampleBy4 ∷ []) ≡ 93 ∷ 88 ∷ []
@@ -30,7 +31,7 @@ example-lengths = book-lengths
 
 -- a row as the call gives it, and as the table has it
 abbrev asked : ℕ × String × (ℕ × ℕ) → Answer
-asked a = question plain (a .0) exampleBy2 (text (a .1))
+asked a = question PlainBook (a .0) exampleBy2 (text (a .1))
 
 abbrev listed : ℕ × String × (ℕ × ℕ) → Answer
 listed a = given (a .2 .0) (a .2 .1)
@@ -39,6 +40,6 @@ pub example-rows : map asked marked ≡ map listed marked
 unfolding shared less begins same depth glue groups widest rowBy tableWithin nodeTable table numbers joined entry blocksFrom front blocks offsets entryPart blockPart allFields nodePart trailer book decodeFrom decode number rising sound fits namesOf opened childOf reachWithin reached count exactFrom exact place range nearest ask mayEnd lit answer questionOf question
 example-rows = refl
 
-pub example-widths : map (λ (a : String × ℕ). question plain 5 exampleBy2 (text (a .0))) exampleWidths ≡ map (λ (a : String × ℕ). given (a .1) 0) exampleWidths
+pub example-widths : map (λ (a : String × ℕ). question PlainBook 5 exampleBy2 (text (a .0))) exampleWidths ≡ map (λ (a : String × ℕ). given (a .1) 0) exampleWidths
 unfolding shared less begins same depth glue groups widest rowBy tableWithin nodeTable table numbers joined entry blocksFrom front blocks offsets entryPart blockPart allFields nodePart trailer book decodeFrom decode number rising sound fits namesOf opened width ask mayEnd lit answer questionOf question
 example-widths = refl

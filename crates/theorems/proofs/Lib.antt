@@ -15,3 +15,4 @@ pub mod Merging
 pub mod Unions
 pub mod Examples
 pub mod Salvage
+pub mod Folding

@@ -1,8 +1,8 @@
--- Lists of names and runs of bytes: the round trips, over any lawful rule.
+-- Lists of names and runs of bytes: the round trips, over any lawful rule and either kind of book.
 --     list-read, list-written    a sound list is read from its records, and what is read is sound and those records
 --     entries-read, block-read   entries decode to the names, also from any block's start on and after any name
 --     build-writes, book-reads   building writes the book of a list, and reading back gives each of its names
---     round-trip                 both at once, from the code 0 of a build: the list is given again
+--     round-trip                 both at once, from the code 0 of a build: the list is given again, as the bytes' own mark reads it
 --     rest-some                  the rest of an entry is never empty
 -- Assumes nothing.
 use Prim.Native.Nat.{ℕ, _*_, _≤_, _<_}
@@ -18,10 +18,11 @@ use Rattle.words.specs.Words.{Bytes, Lawful, Rule, less, pick, shared, word}
 use Rattle.words.proofs.Lists.{all-at}
 use Rattle.words.proofs.Rising.{nth-less, nth-word}
 use Rattle.words.proofs.Words.{both-true, less-short, shared-word-le}
+use Rattle.format.specs.Marks.{BookKind, kindOf, ruleOf}
 use Rattle.format.specs.Book.{book, entryPart, fits, goodBlock, longestBook}
 use Rattle.format.specs.Entries.{blocks, decode, decodeFrom, offsets}
 use Rattle.format.specs.Records.{Names, Reading, Refused, encode, mostNames, readList, sound}
-use Rattle.format.proofs.Book.{Fits, fits-parts, opened-book, parts-fits}
+use Rattle.format.proofs.Book.{Fits, fits-parts, kind-of-book, opened-book, parts-fits}
 use Rattle.format.proofs.Entries.{decode-at, decode-entries}
 use Rattle.format.proofs.Records.{read-encode, read-refused, read-sound, rising-sizes, sound-few, sound-rises, sound-rising}
 use Rattle.format.specs.Outcomes.{Written, checkOf, given, over, refused, write}
@@ -35,78 +36,78 @@ module _ (ρ : Rule) where
   pub list-written : (s : Bytes) (xs : List Bytes) → readList ρ mostNames s ≡ Names xs → (encode xs ≡ s) × (sound ρ xs ≡ true)
   list-written s xs e = read-sound ρ s xs e
 
-  module _ (k : ℕ) (xs : List Bytes) where
-    pub entries-read : 1 ≤ k → decode (entryPart k xs) ≡ xs
-    entries-read h = decode-entries k xs h
+module _ (k : ℕ) (xs : List Bytes) where
+  pub entries-read : 1 ≤ k → decode (entryPart k xs) ≡ xs
+  entries-read h = decode-entries k xs h
 
-    pub block-read : (j : ℕ) (prev : Bytes) → 1 ≤ k → j * k < length xs → decodeFrom prev 0 (drop (getD (offsets 0 (blocks k xs)) j 0) (entryPart k xs)) ≡ drop (j * k) xs
-    block-read j prev h l = decode-at k j prev xs h l
+  pub block-read : (j : ℕ) (prev : Bytes) → 1 ≤ k → j * k < length xs → decodeFrom prev 0 (drop (getD (offsets 0 (blocks k xs)) j 0) (entryPart k xs)) ≡ drop (j * k) xs
+  block-read j prev h l = decode-at k j prev xs h l
 
-    module _ (fit : fits ρ k xs ≡ true) where
-      f : Fits ρ k xs
-      f = fits-parts ρ k xs fit
+module _ (κ : BookKind) (k : ℕ) (xs : List Bytes) (fit : fits κ k xs ≡ true) where
+  f : Fits κ k xs
+  f = fits-parts κ k xs fit
 
-      pub build-writes : (room : Bytes) → length (book ρ k xs) ≤ length room
-          → build ρ (encode xs) k room ≡ record { answer = given (length (book ρ k xs)) 0; room = over (book ρ k xs) room }
-      unfolding build builtFrom
-      build-writes room h =
-          rw (le-leb 1 k (f .low), le-leb k 64 (f .high), list-read xs (f .sound), le-leb (length (book ρ k xs)) longestBook (f .short), le-leb (length (book ρ k xs)) (length room) h) refl
+  pub build-writes : (room : Bytes) → length (book κ k xs) ≤ length room
+      → build κ (encode xs) k room ≡ record { answer = given (length (book κ k xs)) 0; room = over (book κ k xs) room }
+  unfolding build builtFrom
+  build-writes room h =
+      rw (le-leb 1 k (f .low), le-leb k 64 (f .high), list-read (ruleOf κ) xs (f .sound), le-leb (length (book κ k xs)) longestBook (f .short), le-leb (length (book κ k xs)) (length room) h) refl
 
-      pub book-reads : (i : ℕ) (room : Bytes) → i < length xs → length (getD xs i []) ≤ length room
-          → readBack ρ (book ρ k xs) i room ≡ record { answer = given (length (getD xs i [])) 0; room = over (getD xs i []) room }
-      unfolding readBack readBackOf
-      book-reads i room l h = rw (opened-book ρ k xs fit, lt-ltb i (length xs) l, le-leb (length (getD xs i [])) (length room) h) refl
+  pub book-reads : (i : ℕ) (room : Bytes) → i < length xs → length (getD xs i []) ≤ length room
+      → readBack κ (book κ k xs) i room ≡ record { answer = given (length (getD xs i [])) 0; room = over (getD xs i []) room }
+  unfolding readBack readBackOf
+  book-reads i room l h = rw (opened-book κ k xs fit, lt-ltb i (length xs) l, le-leb (length (getD xs i [])) (length room) h) refl
 
 -- ---- from the code of a build
 
-module _ (ρ : Rule) (list : Bytes) (k : ℕ) (room : Bytes) where
+module _ (κ : BookKind) (list : Bytes) (k : ℕ) (room : Bytes) where
   abbrev Trip : Written → Type 0
-  Trip w = w .answer .code ≡ 0 → RoundTrip ρ list k room w
+  Trip w = w .answer .code ≡ 0 → RoundTrip κ list k room w
 
   -- the book of a list that fits, written into a room that holds it
-  module _ (xs : List Bytes) (listed : encode xs ≡ list) (fit : fits ρ k xs ≡ true) where
-    trip : RoundTrip ρ list k room (record { answer = given (length (book ρ k xs)) 0; room = over (book ρ k xs) room })
+  module _ (xs : List Bytes) (listed : encode xs ≡ list) (fit : fits κ k xs ≡ true) where
+    trip : RoundTrip κ list k room (record { answer = given (length (book κ k xs)) 0; room = over (book κ k xs) room })
     unfolding check checkOf
     trip = record {
       names = xs;
       listed = listed;
       wrote = refl;
-      checked = ap (check ρ) front ∙ ap checkOf (opened-book ρ k xs fit);
-      reads = λ i lent l h. ap (λ (s : Bytes). readBack ρ s i lent) front ∙ book-reads ρ k xs fit i lent l h;
+      checked = ap (λ (s : Bytes). check (kindOf s) s) front ∙ ap (λ (μ : BookKind). check μ (book κ k xs)) (kind-of-book κ k xs) ∙ ap checkOf (opened-book κ k xs fit);
+      reads = λ i lent l h. ap (λ (s : Bytes). readBack (kindOf s) s i lent) front ∙ ap (λ (μ : BookKind). readBack μ (book κ k xs) i lent) (kind-of-book κ k xs) ∙ book-reads κ k xs fit i lent l h;
     }
       where
-        front : take (length (book ρ k xs)) (over (book ρ k xs) room) ≡ book ρ k xs
-        front = take-append-seam (book ρ k xs) (drop (length (book ρ k xs)) room)
+        front : take (length (book κ k xs)) (over (book κ k xs) room) ≡ book κ k xs
+        front = take-append-seam (book κ k xs) (drop (length (book κ k xs)) room)
 
-  trip-from : goodBlock k ≡ true → (r : Reading) → readList ρ mostNames list ≡ r → Trip (builtFrom ρ k room r)
+  trip-from : goodBlock k ≡ true → (r : Reading) → readList (ruleOf κ) mostNames list ≡ r → Trip (builtFrom κ k room r)
   unfolding builtFrom
-  trip-from good (Refused code i) p e = absurd (omega (arith, read-refused ρ mostNames list code i p))
-  trip-from good (Names xs) p e = short (leb (length (book ρ k xs)) longestBook) refl e
+  trip-from good (Refused code i) p e = absurd (omega (arith, read-refused (ruleOf κ) mostNames list code i p))
+  trip-from good (Names xs) p e = short (leb (length (book κ k xs)) longestBook) refl e
     where
-      a : (encode xs ≡ list) × (sound ρ xs ≡ true)
-      a = read-sound ρ list xs p
+      a : (encode xs ≡ list) × (sound (ruleOf κ) xs ≡ true)
+      a = read-sound (ruleOf κ) list xs p
 
       g : (leb 1 k ≡ true) × (leb k 64 ≡ true)
       g = both-true (leb 1 k) (leb k 64) good
 
-      fit : leb (length (book ρ k xs)) longestBook ≡ true → fits ρ k xs ≡ true
-      fit h = parts-fits ρ k xs (record { low = leb-true 1 k (g .0); high = leb-true k 64 (g .1); sound = a .1; short = leb-true (length (book ρ k xs)) longestBook h })
+      fit : leb (length (book κ k xs)) longestBook ≡ true → fits κ k xs ≡ true
+      fit h = parts-fits κ k xs (record { low = leb-true 1 k (g .0); high = leb-true k 64 (g .1); sound = a .1; short = leb-true (length (book κ k xs)) longestBook h })
 
-      put : leb (length (book ρ k xs)) longestBook ≡ true → (t : Bool)
-          → Trip (pick t (record { answer = given (length (book ρ k xs)) 0; room = over (book ρ k xs) room }) (record { answer = refused 4; room = room }))
+      put : leb (length (book κ k xs)) longestBook ≡ true → (t : Bool)
+          → Trip (pick t (record { answer = given (length (book κ k xs)) 0; room = over (book κ k xs) room }) (record { answer = refused 4; room = room }))
       put h true e = trip xs (a .0) (fit h)
       put h false e = absurd (omega (arith, e))
 
-      short : (t : Bool) → leb (length (book ρ k xs)) longestBook ≡ t → Trip (pick t (write (book ρ k xs) room) (record { answer = refused 9; room = room }))
-      short true h e = put h (leb (length (book ρ k xs)) (length room)) e
+      short : (t : Bool) → leb (length (book κ k xs)) longestBook ≡ t → Trip (pick t (write (book κ k xs) room) (record { answer = refused 9; room = room }))
+      short true h e = put h (leb (length (book κ k xs)) (length room)) e
       short false h e = absurd (omega (arith, e))
 
-  pub round-trip : build ρ list k room .answer .code ≡ 0 → RoundTrip ρ list k room (build ρ list k room)
+  pub round-trip : build κ list k room .answer .code ≡ 0 → RoundTrip κ list k room (build κ list k room)
   unfolding build
   round-trip = go (goodBlock k) refl
     where
-      go : (t : Bool) → goodBlock k ≡ t → Trip (pick t (builtFrom ρ k room (readList ρ mostNames list)) (record { answer = refused 8; room = room }))
-      go true h e = trip-from h (readList ρ mostNames list) refl e
+      go : (t : Bool) → goodBlock k ≡ t → Trip (pick t (builtFrom κ k room (readList (ruleOf κ) mostNames list)) (record { answer = refused 8; room = room }))
+      go true h e = trip-from h (readList (ruleOf κ) mostNames list) refl e
       go false h e = absurd (omega (arith, e))
 
 -- ---- what an entry adds

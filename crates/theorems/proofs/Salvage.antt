@@ -18,7 +18,8 @@ use borrow.Author.Tests.{le-leb, leb-true}
 use Rattle.words.specs.Words.{Bytes, begins, both, less, plain, same, shared}
 use Rattle.words.proofs.Lists.{all-at}
 use Rattle.words.proofs.Words.{plain-lawful, same-refl}
-use Rattle.format.specs.Book.{book, joined, mark, number, told}
+use Rattle.format.specs.Marks.{PlainBook, markOf}
+use Rattle.format.specs.Book.{book, joined, number, told}
 use Rattle.format.specs.Entries.{blocksFrom, decode, decodeFrom, entry, front}
 use Rattle.format.specs.Example.{exampleBy2, text}
 use Rattle.format.specs.Outcomes.{given, over}
@@ -88,33 +89,33 @@ module _ (s t : Bytes) (j : ℕ) (is : mapped s ≡ true) (d : DiffersIn s t j) 
 
 -- ---- a sound book
 
-module _ {k : ℕ} {xs : List Bytes} (f : Fits plain k xs) where
+module _ {k : ℕ} {xs : List Bytes} (f : Fits PlainBook k xs) where
   abbrev B : Bytes
-  B = book plain k xs
+  B = book PlainBook k xs
 
   names : told B 0 ≡ length xs
-  names = read-field plain k xs f 0 (omega arith)
+  names = read-field PlainBook k xs f 0 (omega arith)
 
   size : told B 1 ≡ k
-  size = read-field plain k xs f 1 (omega arith)
+  size = read-field PlainBook k xs f 1 (omega arith)
 
-  table : told B 2 ≡ blocksAt plain k xs
-  table = read-field plain k xs f 2 (omega arith)
+  table : told B 2 ≡ blocksAt PlainBook k xs
+  table = read-field PlainBook k xs f 2 (omega arith)
 
-  nodes : told B 3 ≡ nodesAt plain k xs
-  nodes = read-field plain k xs f 3 (omega arith)
+  nodes : told B 3 ≡ nodesAt PlainBook k xs
+  nodes = read-field PlainBook k xs f 3 (omega arith)
 
-  stood : Stood B k (nodesAt plain k xs) (blocksAt plain k xs) 0 xs
+  stood : Stood B k (nodesAt PlainBook k xs) (blocksAt PlainBook k xs) 0 xs
   stood =
-      let l = book-length plain k xs in
-      rest-stood B k (blocksAt plain k xs) (nodesAt plain k xs) (f .low) (f .short) (omega (arith, l)) (omega (arith, l)) table xs (blocksAt plain k xs) 0 [] (omega arith) (omega (arith, l)) (book-stands k xs f)
+      let l = book-length PlainBook k xs in
+      rest-stood B k (blocksAt PlainBook k xs) (nodesAt PlainBook k xs) (f .low) (f .short) (omega (arith, l)) (omega (arith, l)) table xs (blocksAt PlainBook k xs) 0 [] (omega arith) (omega (arith, l)) (book-stands PlainBook k xs f)
 
   -- as many bounds as the trailer's numbers say
   count : stood .more ≡ blockCount (told B 0) (told B 1)
   count =
       let all : length (verdicts (spansFrom B k (length xs) (0 ∷ stood .others))) ≡ length (blocksFrom k 0 xs) = ap length (stood .whole) ∙ length-map (blocksFrom k 0 xs) Whole in
       let spans-are : length (verdicts (spansFrom B k (length xs) (0 ∷ stood .others))) ≡ length (0 ∷ stood .others) - 1 = length-map (spansFrom B k (length xs) (0 ∷ stood .others)) _ ∙ spans-long B k (length xs) (0 ∷ stood .others) in
-      let long : length (0 ∷ stood .others) ≡ suc (stood .more) = sym (ap length (stood .are)) ∙ bounds-long B (blocksAt plain k xs) (stood .more) in
+      let long : length (0 ∷ stood .others) ≡ suc (stood .more) = sym (ap length (stood .are)) ∙ bounds-long B (blocksAt PlainBook k xs) (stood .more) in
       let same : stood .more ≡ length (blocksFrom k 0 xs) = omega (arith, all, spans-are, long) in
       same ∙ blocks-count k (f .low) xs ∙ sym (ap₂ blockCount names size)
 
@@ -123,31 +124,31 @@ module _ {k : ℕ} {xs : List Bytes} (f : Fits plain k xs) where
 
   pub book-mapped : mapped B ≡ true
   book-mapped =
-      let l = book-length plain k xs in
+      let l = book-length PlainBook k xs in
       parts-mapped B (record {
         sized = omega (arith, l);
         few = omega (arith, names, sound-few plain xs (f .sound));
         block = ap₂ both (le-leb 1 (told B 1) (omega (arith, size, f .low))) (le-leb (told B 1) 64 (omega (arith, size, f .high)));
         table = omega (arith, table, nodes, count, stood .ends);
-        nodes = omega (arith, nodes, read-field plain k xs f 4 (omega arith), l, nodes-length (records plain k xs));
-        long = read-field plain k xs f 5 (omega arith) ∙ sym l;
-        marked = rw (from-mark plain k xs) (same-refl mark);
+        nodes = omega (arith, nodes, read-field PlainBook k xs f 4 (omega arith), l, nodes-length (records PlainBook k xs));
+        long = read-field PlainBook k xs f 5 (omega arith) ∙ sym l;
+        marked = rw (from-mark PlainBook k xs) (same-refl (markOf PlainBook));
         starts = ap fromZero bounds-are ∙ ap (both true) (stood .climb);
       })
 
   pub book-blocks : cardBlocks B ≡ map Whole (blocksFrom k 0 xs)
   book-blocks = ap₂ (λ (m n : ℕ). verdicts (spansFrom B m n (bounds B))) size names ∙ ap (λ (bs : List ℕ). verdicts (spansFrom B k (length xs) bs)) bounds-are ∙ stood .whole
 
-pub salvage-whole : (s : Bytes) (k : ℕ) (xs : List Bytes) → BookOf plain s k xs → (room : Bytes) (rows : List (ℕ × ℕ)) → length rows ≡ blockCount (length xs) k → length (encode xs) ≤ length room
+pub salvage-whole : (s : Bytes) (k : ℕ) (xs : List Bytes) → BookOf PlainBook s k xs → (room : Bytes) (rows : List (ℕ × ℕ)) → length rows ≡ blockCount (length xs) k → length (encode xs) ≤ length room
     → salvage s room rows ≡ record { answer = given (length (encode xs)) 0; room = over (encode xs) room; rows = map (λ (b : List Bytes). (1, length b)) (blocksFrom k 0 xs) }
 salvage-whole s k xs b room rows n h =
-    let o = book-opened plain s k xs (accepted-iff plain plain-lawful s k xs .1 b .1) in
-    let f = fits-parts plain k xs (o .0) in
+    let o = book-opened PlainBook s k xs (accepted-iff PlainBook s k xs .1 b .1) in
+    let f = fits-parts PlainBook k xs (o .0) in
     let blocks = book-blocks f in
-    let list : savedRecords (cardBlocks (book plain k xs)) ≡ encode xs = ap savedRecords blocks ∙ saved-whole (blocksFrom k 0 xs) ∙ ap encode (joined-blocks k xs (f .low)) in
-    let many : length rows ≡ length (cardBlocks (book plain k xs)) = n ∙ sym (ap length blocks ∙ length-map (blocksFrom k 0 xs) Whole ∙ blocks-count k (f .low) xs) in
+    let list : savedRecords (cardBlocks (book PlainBook k xs)) ≡ encode xs = ap savedRecords blocks ∙ saved-whole (blocksFrom k 0 xs) ∙ ap encode (joined-blocks k xs (f .low)) in
+    let many : length rows ≡ length (cardBlocks (book PlainBook k xs)) = n ∙ sym (ap length blocks ∙ length-map (blocksFrom k 0 xs) Whole ∙ blocks-count k (f .low) xs) in
     ap (λ (t : Bytes). salvage t room rows) (sym (o .1))
-    ∙ salvage-gives (book plain k xs) room rows (book-mapped f) many (omega (arith, ap length list))
+    ∙ salvage-gives (book PlainBook k xs) room rows (book-mapped f) many (omega (arith, ap length list))
     ∙ ap₂ (λ (out : Bytes) (r : List (ℕ × ℕ)). record { answer = given (length out) 0; room = over out room; rows = r }) list (ap (map reported) blocks ∙ map-map reported Whole (blocksFrom k 0 xs))
 
 -- ---- nothing is made up

@@ -19,8 +19,10 @@ use lib.ListN.{length, length-map}
 use Rattle.words.specs.Rising.{Rises, nth}
 use Rattle.words.specs.Words.{Bytes, InBytes, Lawful, Rule, Words, at, begins, shared, word}
 use Rattle.words.proofs.Words.{word-positive}
+use Rattle.format.specs.Marks.{BookKind, ruleOf}
 use Rattle.format.specs.Book.{Book, opened, told}
 use Rattle.format.specs.Records.{sound}
+use Rattle.format.proofs.Marks.{kind-lawful}
 use Rattle.format.proofs.Records.{sound-rises, word-short}
 use Rattle.answers.specs.Questions.{Pair, count, exact, place, range, reached}
 use Rattle.answers.proofs.Nearest.{reached-most, reached-within}
@@ -87,5 +89,5 @@ module _ (ρ : Rule) (ok : Lawful ρ) (xs : List Bytes) (is : sound ρ xs ≡ tr
       let none : count (begins q) ws ≡ 0 = sym (range-none ws q r (shared q (nth ws (reached q ws))) (λ i l. reached-most q ws r i l) h) in
       ap (λ (c : ℕ). (place q ws, c)) none
 
-pub search-book : (ρ : Rule) → Lawful ρ → (s : Bytes) (k : ℕ) (xs : List Bytes) → InBytes s → opened ρ s ≡ Book k xs → 0 < length xs → Searchable ρ s (rowsAt (told s 3))
-search-book ρ ok s k xs h e some = opened-searchable ρ ok s k xs e h some
+pub search-book : (κ : BookKind) (s : Bytes) (k : ℕ) (xs : List Bytes) → InBytes s → opened κ s ≡ Book k xs → 0 < length xs → Searchable (ruleOf κ) s (rowsAt (told s 3))
+search-book κ s k xs h e some = opened-searchable κ (kind-lawful κ) s k xs e h some

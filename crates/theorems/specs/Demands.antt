@@ -1,6 +1,5 @@
 -- Demand 3, and document 01's 'A path from the root': what the theorems speak of besides the layout and the calls.
---     BookOf            the layout yields these bytes for this block size and this list of names
---     RoundTrip, comesBefore     what a build leaves, and what reading it back gives; document 01's order, by bytes
+--     BookOf, RoundTrip, comesBefore     the kind's layout yields these bytes for a block size and names; what a build leaves and gives back; order by bytes
 --     Path, Climbing    the depths of the nodes on a path down from the node of some words; each number is below the next
 --     Alike, rowAt, answerAt, spanOf     two calls left the same, as far as their answers count; a batch, row by row
 --     Greatest          no name shares more with a question than the one at a position. Assumes nothing: these are definitions.
@@ -11,6 +10,7 @@ use mathlib.Core.List.{List, [], _∷_}
 use lib.Dec.{eqb, ltb}
 use lib.ListN.{length, getD, take, drop}
 use Rattle.words.specs.Words.{Bytes, Words, Rule, InBytes, pick, word, less, shared}
+use Rattle.format.specs.Marks.{BookKind, kindOf, ruleOf}
 use Rattle.format.specs.Records.{encode, longest, mostNames}
 use Rattle.format.specs.Nodes.{depth, groups}
 use Rattle.format.specs.Book.{longestBook, book}
@@ -18,23 +18,23 @@ use Rattle.format.specs.Outcomes.{Answer, Written, given, over, refused}
 use Rattle.answers.specs.Questions.{Pair}
 use Rattle.answers.specs.Calls.{Batched, Row, check, readBack}
 
-pub record BookOf (ρ : Rule) (s : Bytes) (k : ℕ) (xs : List Bytes) : Type 0 where
+pub record BookOf (κ : BookKind) (s : Bytes) (k : ℕ) (xs : List Bytes) : Type 0 where
   pub block : (1 ≤ k) × (k ≤ 64)
   pub few : length xs ≤ mostNames
   pub sizes : (i : ℕ) → i < length xs → (1 ≤ length (getD xs i [])) × (length (getD xs i []) ≤ longest)
   pub letters : (i : ℕ) → i < length xs → InBytes (getD xs i [])
-  pub rises : (i j : ℕ) → i < j → j < length xs → less (word ρ (getD xs i [])) (word ρ (getD xs j [])) ≡ true
-  pub layout : book ρ k xs ≡ s
+  pub rises : (i j : ℕ) → i < j → j < length xs → less (word (ruleOf κ) (getD xs i [])) (word (ruleOf κ) (getD xs j [])) ≡ true
+  pub layout : book κ k xs ≡ s
   pub short : length s ≤ longestBook
 
--- w is what the build left; the bytes that its answer counts are checked and read back, each name into any room that holds it
-pub record RoundTrip (ρ : Rule) (list : Bytes) (k : ℕ) (room : Bytes) (w : Written) : Type 0 where
+-- w is what the build left; the bytes that its answer counts are checked and read back by their own mark, each name into any room that holds it
+pub record RoundTrip (κ : BookKind) (list : Bytes) (k : ℕ) (room : Bytes) (w : Written) : Type 0 where
   pub names : List Bytes
   pub listed : encode names ≡ list
-  pub wrote : w ≡ record { answer = given (length (book ρ k names)) 0; room = over (book ρ k names) room }
-  pub checked : check ρ (take (w .answer .first) (w .room)) ≡ given (length names) k
+  pub wrote : w ≡ record { answer = given (length (book κ k names)) 0; room = over (book κ k names) room }
+  pub checked : let s = take (w .answer .first) (w .room) in check (kindOf s) s ≡ given (length names) k
   pub reads : (i : ℕ) (lent : Bytes) → i < length names → length (getD names i []) ≤ length lent
-      → readBack ρ (take (w .answer .first) (w .room)) i lent ≡ record { answer = given (length (getD names i [])) 0; room = over (getD names i []) lent }
+      → let s = take (w .answer .first) (w .room) in readBack (kindOf s) s i lent ≡ record { answer = given (length (getD names i [])) 0; room = over (getD names i []) lent }
 
 -- by the first byte in which two names differ; a name comes before its own extensions
 unfoldable pub comesBefore : Bytes → Bytes → Bool

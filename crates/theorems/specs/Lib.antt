@@ -3,3 +3,4 @@ pub mod Widths
 pub mod Unions
 pub mod Letters
 pub mod Salvage
+pub mod Folding
