@@ -1,67 +1,155 @@
--- Laws of symbols by the plain rule, and of the comparison of names.
---     symbol-in, symbol-past    a byte's symbol; past the last byte stands the end symbol
---     shared-bytes, Sharing       the loop over what two names share
+-- Laws of symbols by the rule that the code takes along, and of the comparison of names.
+--     symbol-plain, -below, -behind, -capital     a byte's symbol, way by way
+--     alike-.., higher-.., has-..   two bytes and their symbols; a byte and a symbol
+--     kind-by, rule-by, rule-lawful     the code's rules are the kinds' rules, and lawful
+--     symbol-in-.., symbol-past     a name's symbol; past the last byte stands the end symbol
+--     Sharing, sharing-..       the loop over what two names share
+--     parted-..                 names that part at their first bytes
 --     below-..                  which of two names is above, by what they share
 -- Assumes nothing.
-use Prim.Native.Nat.{ℕ, _+_, _-_, _≤_, _<_}
+use Prim.Native.Nat.{ℕ, suc, _+_, _-_, _≤_, _<_}
+use native.Mathlib.Nat.{not-suc-le-zero}
 use native.Mathlib.Omega.{arith}
-use mathlib.Core.Path.{_≡_, sym, _∙_}
-use mathlib.Core.Bool.{true, false}
-use lib.Dec.{ltb}
-use borrow.Author.Tests.{le-ltb, lt-ltb}
+use mathlib.Core.Path.{_≡_, refl, sym, ap, ap₂, _∙_}
+use mathlib.Core.Bool.{Bool, true, false, not}
+use mathlib.Core.List.{[], _∷_}
+use lib.Dec.{eqb, leb, ltb}
+use borrow.Author.Tests.{eq-eqb, eqb-true, le-leb, le-ltb, lt-leb, lt-ltb, ltb-false, ltb-true, ne-eqb, not-false, not-true}
 use lib.ListN.{length, getD, length-map}
-use Rattle.words.specs.Words.{Bytes, at, less, plain, shared, word}
-use Rattle.words.proofs.Words.{at-past, less-by, part-at, plain-injective, shared-comm, shared-le, shared-more, shared-word, word-at}
+use Rattle.words.specs.Words.{Bytes, Lawful, at, less, plain, shared, word}
+use Rattle.words.proofs.Words.{at-past, false≠true, less-by, part-at, shared-comm, shared-le, shared-more, shared-other, word-at}
+use Rattle.format.specs.Marks.{BookKind, FoldedBook, PlainBook, ruleOf}
+use Rattle.format.proofs.Marks.{kind-lawful}
+use Rattle.symbols.specs.Parting.{Parted}
+use Rattle.symbols.specs.Rules.{byKind, kindBy, ruleBy}
+use Rattle.symbols.specs.declared.Rule.{Rule as ByRule}
+use Rattle.symbols.specs.declared.Rule.the-variants.{Folded, Plain}
 
--- ---- symbols
+-- ---- a byte's symbol
+
+-- t is the byte, wider
+module _ (r : ByRule) (x t : ℕ) where
+  pub symbol-plain : r ≡ Plain → t ≡ x → t < 256 → (t + 1 ≡ ruleBy r x) × (t + 1 < 257)
+  symbol-plain e w h = rw e (omega arith, omega arith)
+
+  pub symbol-below : r ≡ Folded → t ≡ x → x < 65 → (t + 1 ≡ ruleBy r x) × (t + 1 < 257)
+  symbol-below e w h = rw (e, lt-leb 65 x h) (omega arith, omega arith)
+
+  pub symbol-behind : r ≡ Folded → t ≡ x → t < 256 → 65 ≤ x → 90 < x → (t + 1 ≡ ruleBy r x) × (t + 1 < 257)
+  symbol-behind e w h g l = rw (e, le-leb 65 x g, lt-leb x 90 l) (omega arith, omega arith)
+
+  pub symbol-capital : r ≡ Folded → t ≡ x → 65 ≤ x → x ≤ 90 → (t + 1 + 32 ≡ ruleBy r x) × (t + 1 + 32 < 257)
+  symbol-capital e w g l = rw (e, le-leb 65 x g, le-leb x 90 l) (omega arith, omega arith)
+
+module _ (r : ByRule) (x y : ℕ) where
+  pub alike-same : x ≡ y → true ≡ eqb (ruleBy r x) (ruleBy r y)
+  alike-same e = sym (eq-eqb (ruleBy r x) (ruleBy r y) (ap (ruleBy r) e))
+
+  pub alike-not : r ≡ Plain → (x ≡ y → ⊥) → false ≡ eqb (ruleBy r x) (ruleBy r y)
+  alike-not e n = rw e (sym (ne-eqb (suc x) (suc y) (λ q. n (omega arith))))
+
+  -- s and t are the symbols, by the folded rule
+  pub alike-folded : (s t : ℕ) → r ≡ Folded → s ≡ ruleBy Folded x → t ≡ ruleBy Folded y → eqb s t ≡ eqb (ruleBy r x) (ruleBy r y)
+  alike-folded s t e p q = rw e (ap₂ eqb p q)
+
+  pub higher-plain : r ≡ Plain → ltb x y ≡ ltb (ruleBy r x) (ruleBy r y)
+  higher-plain e = rw e (go (ltb x y) refl)
+    where
+      go : (t : Bool) → ltb x y ≡ t → ltb x y ≡ ltb (suc x) (suc y)
+      go true q = q ∙ sym (lt-ltb (suc x) (suc y) (omega (arith, ltb-true x y q)))
+      go false q = q ∙ sym (le-ltb (suc x) (suc y) (omega (arith, ltb-false x y q)))
+
+  pub higher-folded : (s t : ℕ) → r ≡ Folded → s ≡ ruleBy Folded x → t ≡ ruleBy Folded y → ltb s t ≡ ltb (ruleBy r x) (ruleBy r y)
+  higher-folded s t e p q = rw e (ap₂ ltb p q)
+
+pub has-plain : (r : ByRule) (x s t : ℕ) → r ≡ Plain → t ≡ x → eqb s (t + 1) ≡ eqb s (ruleBy r x)
+has-plain r x s t e w = let z : t + 1 ≡ suc x = omega arith in rw e (ap (eqb s) z)
+
+pub has-folded : (r : ByRule) (x s t : ℕ) → r ≡ Folded → t ≡ ruleBy Folded x → eqb s t ≡ eqb s (ruleBy r x)
+has-folded r x s t e p = rw e (ap (eqb s) p)
+
+pub kind-by : (κ : BookKind) → kindBy (byKind κ) ≡ κ
+kind-by PlainBook = refl
+kind-by FoldedBook = refl
+
+pub rule-by : (κ : BookKind) → ruleBy (byKind κ) ≡ ruleOf κ
+rule-by κ = ap ruleOf (kind-by κ)
+
+pub rule-lawful : (r : ByRule) → Lawful (ruleBy r)
+rule-lawful r = kind-lawful (kindBy r)
+
+-- ---- a name's symbol
 
 -- i is how far symbol number d stands in what is lent
-pub symbol-in : (s : Bytes) (skip d r : ℕ) → d - skip < length s → r ≡ plain (getD s (d - skip) 0) → r ≡ at (word plain s) (d - skip)
-symbol-in s skip d r h e = e ∙ sym (word-at plain s (d - skip) h)
+symbol-in : (r : ByRule) (s : Bytes) (skip d t : ℕ) → d - skip < length s → t ≡ ruleBy r (getD s (d - skip) 0) → t ≡ at (word (ruleBy r) s) (d - skip)
+symbol-in r s skip d t h e = e ∙ sym (word-at (ruleBy r) s (d - skip) h)
 
-pub symbol-past : (s : Bytes) (skip d : ℕ) → length s ≤ d - skip → 0 ≡ at (word plain s) (d - skip)
-symbol-past s skip d h = sym (at-past (word plain s) (d - skip) (omega (arith, length-map s plain)))
+pub symbol-in-plain : (r : ByRule) (s : Bytes) (skip d t : ℕ) → d - skip < length s → r ≡ Plain → t ≡ getD s (d - skip) 0 → t + 1 ≡ at (word (ruleBy r) s) (d - skip)
+symbol-in-plain r s skip d t h e w = symbol-in r s skip d (t + 1) h (rw e (omega arith))
+
+pub symbol-in-folded : (r : ByRule) (s : Bytes) (skip d t : ℕ) → d - skip < length s → r ≡ Folded → t ≡ ruleBy Folded (getD s (d - skip) 0) → t ≡ at (word (ruleBy r) s) (d - skip)
+symbol-in-folded r s skip d t h e w = symbol-in r s skip d t h (rw e w)
+
+pub symbol-past : (r : ByRule) (s : Bytes) (skip d : ℕ) → length s ≤ d - skip → 0 ≡ at (word (ruleBy r) s) (d - skip)
+symbol-past r s skip d h = sym (at-past (word (ruleBy r) s) (d - skip) (omega (arith, length-map s (ruleBy r))))
 
 -- ---- what two names share
 
-pub shared-bytes : (a c : Bytes) → shared (word plain a) (word plain c) ≡ shared a c
-shared-bytes a c = shared-word plain plain-injective a c
-
-pub record Sharing (a c : Bytes) (i : ℕ) : Type 0 where
+pub record Sharing (r : ByRule) (a c : Bytes) (i : ℕ) : Type 0 where
   pub low : i ≤ length a
-  pub shares : i ≤ shared a c
+  pub shares : i ≤ shared (word (ruleBy r) a) (word (ruleBy r) c)
 
-module _ (a c : Bytes) where
-  module _ (i : ℕ) (k : Sharing a c i) where
-    pub alike-more : i < length a → i < length c → getD a i 0 ≡ getD c i 0 → Sharing a c (i + 1)
-    alike-more h g e = record { low = omega arith; shares = omega (arith, shared-more a c i (k .shares) h g e) }
+module _ (r : ByRule) (a c : Bytes) where
+  module _ (i : ℕ) (k : Sharing r a c i) where
+    alike : i < length a → i < length c → ruleBy r (getD a i 0) ≡ ruleBy r (getD c i 0) → at (word (ruleBy r) a) i ≡ at (word (ruleBy r) c) i
+    alike h g e = word-at (ruleBy r) a i h ∙ e ∙ sym (word-at (ruleBy r) c i g)
 
-    pub alike-other : (getD a i 0 ≡ getD c i 0 → ⊥) → i ≡ shared (word plain a) (word plain c)
-    alike-other n = sym (shared-bytes a c ∙ part-at a c i (k .shares) n)
+    unlike : i < length a → i < length c → at (word (ruleBy r) a) i ≡ at (word (ruleBy r) c) i → ruleBy r (getD a i 0) ≡ ruleBy r (getD c i 0)
+    unlike h g e = sym (word-at (ruleBy r) a i h) ∙ e ∙ word-at (ruleBy r) c i g
 
-    pub alike-left : length a ≤ i → i ≡ shared (word plain a) (word plain c)
-    alike-left h = omega (arith, k .shares, shared-le a c, shared-bytes a c)
+    pub sharing-more : i < length a → i < length c → (v : Bool) → v ≡ eqb (ruleBy r (getD a i 0)) (ruleBy r (getD c i 0)) → not v ≡ false → Sharing r a c (i + 1)
+    sharing-more h g v e n =
+        let m = shared-more (word (ruleBy r) a) (word (ruleBy r) c) i (k .shares) (omega (arith, length-map a (ruleBy r))) (omega (arith, length-map c (ruleBy r))) (alike h g (eqb-true _ _ (sym e ∙ not-false v n))) in
+        record { low = omega arith; shares = omega (arith, m) }
 
-    pub alike-right : length c ≤ i → i ≡ shared (word plain a) (word plain c)
-    alike-right h = omega (arith, k .shares, shared-le c a, shared-comm a c, shared-bytes a c)
+    pub sharing-other : i < length a → i < length c → (v : Bool) → v ≡ eqb (ruleBy r (getD a i 0)) (ruleBy r (getD c i 0)) → not v ≡ true → i ≡ shared (word (ruleBy r) a) (word (ruleBy r) c)
+    sharing-other h g v e n =
+        sym (part-at (word (ruleBy r) a) (word (ruleBy r) c) i (k .shares) (λ q. false≠true (sym (not-true v n) ∙ e ∙ eq-eqb _ _ (unlike h g q))))
+
+    pub sharing-left : length a ≤ i → i ≡ shared (word (ruleBy r) a) (word (ruleBy r) c)
+    sharing-left h = omega (arith, k .shares, shared-le (word (ruleBy r) a) (word (ruleBy r) c), length-map a (ruleBy r))
+
+    pub sharing-right : length c ≤ i → i ≡ shared (word (ruleBy r) a) (word (ruleBy r) c)
+    sharing-right h =
+        omega (arith, k .shares, shared-le (word (ruleBy r) c) (word (ruleBy r) a), shared-comm (word (ruleBy r) a) (word (ruleBy r) c), length-map c (ruleBy r))
+
+none-shared : (a c : Bytes) → Parted a c → 0 ≡ shared (word plain a) (word plain c)
+unfolding shared
+none-shared [] c h = refl
+none-shared (x ∷ a) [] h = refl
+none-shared (x ∷ a) (y ∷ c) h = sym (shared-other (suc x) (suc y) (word plain a) (word plain c) (λ e. h .differ (omega arith) (omega arith) (omega arith)))
+
+pub parted-none : (r : ByRule) (a c : Bytes) → r ≡ Plain → Parted a c → 0 ≡ shared (word (ruleBy r) a) (word (ruleBy r) c)
+parted-none r a c e h = rw e (none-shared a c h)
+
+pub parted-folded : (r : ByRule) (a c : Bytes) (t : ℕ) → r ≡ Folded → t ≡ shared (word (ruleBy Folded) a) (word (ruleBy Folded) c) → t ≡ shared (word (ruleBy r) a) (word (ruleBy r) c)
+parted-folded r a c t e p = rw e p
 
 -- ---- the order of two names
 
-past : (x : Bytes) (i : ℕ) → length x ≤ i → at (word plain x) i ≡ 0
-past x i h = at-past (word plain x) i (omega (arith, length-map x plain))
+past : (r : ByRule) (x : Bytes) (i : ℕ) → length x ≤ i → at (word (ruleBy r) x) i ≡ 0
+past r x i h = at-past (word (ruleBy r) x) i (omega (arith, length-map x (ruleBy r)))
 
-module _ (a c : Bytes) (i : ℕ) (e : i ≡ shared (word plain a) (word plain c)) where
-  by : less (word plain a) (word plain c) ≡ ltb (at (word plain a) i) (at (word plain c) i)
-  by = less-by (word plain a) (word plain c) i (sym e)
+module _ (r : ByRule) (a c : Bytes) (i : ℕ) (e : i ≡ shared (word (ruleBy r) a) (word (ruleBy r) c)) where
+  by : less (word (ruleBy r) a) (word (ruleBy r) c) ≡ ltb (at (word (ruleBy r) a) i) (at (word (ruleBy r) c) i)
+  by = less-by (word (ruleBy r) a) (word (ruleBy r) c) i (sym e)
 
-  pub below-no : length c ≤ i → false ≡ less (word plain a) (word plain c)
-  below-no h = sym (by ∙ le-ltb (at (word plain a) i) (at (word plain c) i) (omega (arith, past c i h)))
+  pub below-no : length c ≤ i → false ≡ less (word (ruleBy r) a) (word (ruleBy r) c)
+  below-no h = sym (by ∙ le-ltb (at (word (ruleBy r) a) i) (at (word (ruleBy r) c) i) (omega (arith, past r c i h)))
 
-  pub below-end : i < length c → length a ≤ i → true ≡ less (word plain a) (word plain c)
-  below-end h g = sym (by ∙ lt-ltb (at (word plain a) i) (at (word plain c) i) (omega (arith, past a i g, word-at plain c i h)))
+  pub below-end : i < length c → length a ≤ i → true ≡ less (word (ruleBy r) a) (word (ruleBy r) c)
+  below-end h g =
+      sym (by ∙ lt-ltb (at (word (ruleBy r) a) i) (at (word (ruleBy r) c) i) (omega (arith, past r a i g, word-at (ruleBy r) c i h, rule-lawful r .low (getD c i 0))))
 
-  pub below-not : i < length c → i < length a → getD c i 0 ≤ getD a i 0 → false ≡ less (word plain a) (word plain c)
-  below-not h g l = sym (by ∙ le-ltb (at (word plain a) i) (at (word plain c) i) (omega (arith, word-at plain a i g, word-at plain c i h)))
-
-  pub below-is : i < length c → i < length a → getD a i 0 < getD c i 0 → true ≡ less (word plain a) (word plain c)
-  below-is h g l = sym (by ∙ lt-ltb (at (word plain a) i) (at (word plain c) i) (omega (arith, word-at plain a i g, word-at plain c i h)))
+  pub below-by : i < length c → i < length a → (t : Bool) → t ≡ ltb (ruleBy r (getD a i 0)) (ruleBy r (getD c i 0)) → t ≡ less (word (ruleBy r) a) (word (ruleBy r) c)
+  below-by h g t q = q ∙ sym (by ∙ ap₂ ltb (word-at (ruleBy r) a i g) (word-at (ruleBy r) c i h))

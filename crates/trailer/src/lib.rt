@@ -4,15 +4,20 @@ ghost use mathlib.Core.Path.{_≡_};
 ghost use Prim.Native.Nat.{_<_, _≤_};
 ghost use lib.ListN.{length};
 ghost use Rattle.format.specs.Book.{told, trailer, trailerSize};
-ghost use Rattle.trailer.specs.Trailer.{TrailSays, trailerIn};
+ghost use Rattle.format.specs.Marks.{kindOf};
+ghost use Rattle.symbols.specs.Rules.{byKind, kindBy};
+ghost use Rattle.trailer.specs.Trailer.{TrailSays, markBack, trailerIn};
+use symbols::Rule;
 
 // How many bytes a trailer has.
 pub const SIZE: usize = 16;
 
-// The mark 4E 42 4B 32 as two numbers, its front and its back.
+// A mark as two numbers, its front and its back: 4E 42 4B 32 for plain books, 4E 42 46 32 for folded ones.
 const FRONT: usize = 0x424E;
 
-const BACK: usize = 0x324B;
+const PLAIN: usize = 0x324B;
+
+const FOLDED: usize = 0x3246;
 
 // What the trailer tells of its book, but for its length. As narrow as they are stored, the numbers cost a guest no more stack than two
 // of them did.
@@ -25,6 +30,8 @@ pub struct Trailer {
     pub nodes: u16,
     // How many nodes.
     pub count: u16,
+    // By which rule its names have their symbols.
+    pub rule: Rule,
 }
 
 // Number j of the trailer.
@@ -60,6 +67,17 @@ pub fn nodes_at(book: &[u8]) -> usize
     number(book, 3)
 }
 
+// By which rule the names have their symbols: the third byte of the mark tells it. Who walks in a recursion asks for it where it is wanted.
+pub fn rule(book: &[u8]) -> Rule
+    requires { ⌜ trailerSize ≤ length (now book) ⌝ }
+    ensures { λ r. ⌜ r ≡ byKind (kindOf (now (book .entry))) ⌝ }
+{
+    if book[book.len() - 2] == 0x46 {
+        return Rule::Folded;
+    }
+    Rule::Plain
+}
+
 // What the trailer tells.
 pub fn read(book: &[u8]) -> Trailer
     requires { ⌜ trailerSize ≤ length (now book) ⌝ }
@@ -71,6 +89,7 @@ pub fn read(book: &[u8]) -> Trailer
         blocks: blocks_at(book) as u16,
         nodes: number(book, 3) as u16,
         count: number(book, 4) as u16,
+        rule: rule(book),
     }
 }
 
@@ -107,14 +126,28 @@ pub fn is_trailer(book: &[u8]) -> bool
     if number(book, 6) != FRONT {
         return false;
     }
-    if number(book, 7) != BACK {
+    let back = number(book, 7);
+    if back == PLAIN {
+        return true;
+    }
+    if back != FOLDED {
         return false;
     }
     true
 }
 
-// The trailer of a book of so many names in blocks of so many, with these starts of its tables, so many nodes and so many bytes in all. The
-// mark is two numbers more.
+// The back of the mark of a kind of book.
+fn mark_back(rule: Rule) -> usize
+    ensures { λ r. ⌜ r ≡ markBack (kindBy rule) ⌝ }
+{
+    match rule {
+        Rule::Plain => PLAIN,
+        Rule::Folded => FOLDED,
+    }
+}
+
+// The trailer of a book of so many names in blocks of so many, with these starts of its tables, so many nodes and so many bytes in all, and
+// the mark of its kind, which is two numbers more.
 pub fn put_trailer(
     part: &mut [u8],
     names: usize,
@@ -123,10 +156,12 @@ pub fn put_trailer(
     nodes: usize,
     count: usize,
     total: usize,
+    rule: Rule,
 )
     requires { ⌜ length (now part) ≡ trailerSize ⌝ }
-    ensures { λ _. ⌜ now (part .exit) ≡ trailer names block blocks nodes count total ⌝ }
+    ensures { λ _. ⌜ now (part .exit) ≡ trailer (kindBy rule) names block blocks nodes count total ⌝ }
 {
-    let fields = [names, block, blocks, nodes, count, total, FRONT, BACK];
+    let back = mark_back(rule);
+    let fields = [names, block, blocks, nodes, count, total, FRONT, back];
     numbers::put_numbers(part, &fields);
 }

@@ -3,15 +3,15 @@
 use Prim.Native.Nat.{_-_}
 use lib.ListN.{length}
 use borrow.Author.Needs.{needs}
-use Rattle.symbols.proofs.Symbols.{Sharing, alike-more, alike-other, alike-left, alike-right}
+use Rattle.symbols.proofs.Symbols.{Sharing, sharing-left, sharing-more, sharing-other, sharing-right}
 use Rattle.symbols.proofs.shared_symbols.Statement.{statement}
 use Rattle.symbols.proofs.shared_symbols.Tie as tie
 
 abbrev Inv-loop : tie.InvT-loop
-Inv-loop a b i₀ i = Sharing a b i
+Inv-loop rule a b i₀ i = Sharing rule a b i
 
 abbrev μ-loop : tie.MeasureT-loop
-μ-loop a b i₀ i = length a - i
+μ-loop rule a b i₀ i = length a - i
 
 pub shared-symbols-spec : {M : Type 1} → statement M
 shared-symbols-spec =
@@ -20,11 +20,12 @@ shared-symbols-spec =
     Inv-loop
     μ-loop
     (λ c. search needs)
-    (λ c. search alike-right)
+    (λ c. search sharing-right)
     (λ c. search needs)
     (λ c. search needs)
-    (λ c. search alike-other)
+    (λ c κs. search needs)
+    (λ c. search sharing-other)
     (λ c. search needs)
     (λ c. search needs)
-    (λ c. search alike-more)
-    (λ c. search alike-left))
+    (λ c. search sharing-more)
+    (λ c. search sharing-left))
