@@ -91,7 +91,7 @@ pub record BlocksDone (s : Bytes) (n k lo at size : ℕ) : Type 0 where
   pub small : size ≤ 202 * lo
   pub few : length done ≤ lo
 
-module _ {s : Bytes} {n : ℕ} {shares : List ℕ} {k : ℕ} (a : EntriesAsk s n shares k) where
+module _ {s : Bytes} {n : ℕ} {counts : List ℕ} {k : ℕ} (a : EntriesAsk s n counts k) where
   blocked-start : BlocksDone s n k 0 0 0
   unfolding joined
   blocked-start = record {
@@ -126,10 +126,12 @@ module _ {s : Bytes} {n : ℕ} {shares : List ℕ} {k : ℕ} (a : EntriesAsk s n
         }
 
     module _ (h : lo < n) (hi : ℕ) (e : hi ≡ min (lo + k) n) where
-      pub blocked-ask : BlockAsk s shares lo at hi
+      pub blocked-ask : BlockAsk s counts lo at hi
       blocked-ask = record {
+        ρ = a .ρ;
         n = n;
         lens = a .lens;
+        shares = a .shares;
         ready = a .ready;
         order = omega (arith, a .low);
         within = omega arith;
@@ -177,7 +179,7 @@ pub record EntriesDone (s : Bytes) (n k : ℕ) (room₀ room : Bytes) (lo at siz
   pub within : size ≤ length room₀
   pub written : room ≡ over (joined (walk .done)) room₀
 
-module _ {s : Bytes} {n : ℕ} {shares : List ℕ} {k : ℕ} (a : EntriesAsk s n shares k) (room₀ : Bytes) (whole : length room₀ ≡ length (entryPart k (names s))) where
+module _ {s : Bytes} {n : ℕ} {counts : List ℕ} {k : ℕ} (a : EntriesAsk s n counts k) (room₀ : Bytes) (whole : length room₀ ≡ length (entryPart k (names s))) where
   pub entered-start : EntriesDone s n k room₀ room₀ 0 0 0
   unfolding joined blocked-start
   entered-start = record { walk = blocked-start a; kept = refl; within = omega arith; written = refl }
@@ -240,7 +242,7 @@ pub record Tabled (s : Bytes) (n k : ℕ) (room₀ room : Bytes) (lo at size cou
   pub kept : length room ≡ length room₀
   pub noted : 2 * count ≤ length room₀ → room ≡ over (numbers (offsets 0 (walk .done))) room₀
 
-module _ {s : Bytes} {n : ℕ} {shares : List ℕ} {k : ℕ} (a : EntriesAsk s n shares k) (room₀ : Bytes) where
+module _ {s : Bytes} {n : ℕ} {counts : List ℕ} {k : ℕ} (a : EntriesAsk s n counts k) (room₀ : Bytes) where
   pub tabled-start : Tabled s n k room₀ room₀ 0 0 0 0
   unfolding offsets blocked-start numbers
   tabled-start = record { walk = blocked-start a; number = refl; kept = refl; noted = λ h. refl }
@@ -274,19 +276,19 @@ module _ {s : Bytes} {n : ℕ} {shares : List ℕ} {k : ℕ} (a : EntriesAsk s n
 -- ---- by sums
 
 -- the blocks before lo are counted; what their first names share is taken off `shared`
-pub record Surveying (s : Bytes) (n : ℕ) (shares : List ℕ) (k shared count lo : ℕ) : Type 0 where
+pub record Surveying (s : Bytes) (n : ℕ) (counts : List ℕ) (k shared count lo : ℕ) : Type 0 where
   pub reached : ℕ
   pub is : reached ≡ min lo n
   pub start : ℕ
   pub size : ℕ
   pub walk : BlocksDone s n k reached start size
   pub number : count ≡ length (walk .done)
-  pub sums : size + sharedTo shares reached + shared ≡ start + reached + sharedTo shares n
-  pub enough : sharedTo shares n ≤ shared + sharedTo shares reached
+  pub sums : size + sharedTo counts reached + shared ≡ start + reached + sharedTo counts n
+  pub enough : sharedTo counts n ≤ shared + sharedTo counts reached
   pub small : shared ≤ 510000
 
-module _ {s : Bytes} {n : ℕ} {shares : List ℕ} {k : ℕ} (a : EntriesAsk s n shares k) where
-  pub surveying-start : {r : ℕ} → SharedSum shares n r → Surveying s n shares k r 0 0
+module _ {s : Bytes} {n : ℕ} {counts : List ℕ} {k : ℕ} (a : EntriesAsk s n counts k) where
+  pub surveying-start : {r : ℕ} → SharedSum counts n r → Surveying s n counts k r 0 0
   unfolding blocked-start sharedTo
   surveying-start r = record {
     reached = 0;
@@ -300,32 +302,32 @@ module _ {s : Bytes} {n : ℕ} {shares : List ℕ} {k : ℕ} (a : EntriesAsk s n
     small = omega (arith, r .small, a .ready .few);
   }
 
-  module _ {shared count lo : ℕ} (b : Surveying s n shares k shared count lo) where
-    module _ (h : lo < n) (x : ℕ) (e : x ≡ getD shares lo 0) where
+  module _ {shared count lo : ℕ} (b : Surveying s n counts k shared count lo) where
+    module _ (h : lo < n) (x : ℕ) (e : x ≡ getD counts lo 0) where
       abbrev m : ℕ
       m = b .reached
 
       m-is : m ≡ lo
       m-is = omega (arith, b .is)
 
-      first : sharedTo shares (m + 1) ≡ sharedTo shares m + x
-      first = shared-next shares m ∙ omega (arith, ap (λ (i : ℕ). getD shares i 0) m-is)
+      first : sharedTo counts (m + 1) ≡ sharedTo counts m + x
+      first = shared-next counts m ∙ omega (arith, ap (λ (i : ℕ). getD counts i 0) m-is)
 
-      grows : (i : ℕ) → m + 1 ≤ i → sharedTo shares (m + 1) ≤ sharedTo shares i
+      grows : (i : ℕ) → m + 1 ≤ i → sharedTo counts (m + 1) ≤ sharedTo counts i
       grows i l =
           let f : m + 1 + (i - (m + 1)) ≡ i = omega arith in
-          omega (arith, shared-grows shares (m + 1) (i - (m + 1)), ap (sharedTo shares) f)
+          omega (arith, shared-grows counts (m + 1) (i - (m + 1)), ap (sharedTo counts) f)
 
       pub surveying-enough : x ≤ shared
       surveying-enough = omega (arith, b .enough, first, grows n (omega (arith, m-is)))
 
-      pub surveying-more : Surveying s n shares k (shared - x) (count + 1) (lo + k)
+      pub surveying-more : Surveying s n counts k (shared - x) (count + 1) (lo + k)
       unfolding blocked-more
       surveying-more =
           let hi : ℕ = min (m + k) n in
           let l : m < n = omega (arith, m-is) in
-          let ask : BlockAsk s shares m (b .start) hi = blocked-ask a (b .walk) l hi refl in
-          let z : BlockSums s shares m (b .start) hi hi = block-sums ask (omega (arith, a .low)) in
+          let ask : BlockAsk s counts m (b .start) hi = blocked-ask a (b .walk) l hi refl in
+          let z : BlockSums s counts m (b .start) hi hi = block-sums ask (omega (arith, a .low)) in
           record {
             reached = hi;
             is = omega (arith, m-is);
@@ -348,7 +350,7 @@ module _ {s : Bytes} {n : ℕ} {shares : List ℕ} {k : ℕ} (a : EntriesAsk s n
             arith,
             b .sums,
             at-end,
-            ap (sharedTo shares) at-end,
+            ap (sharedTo counts) at-end,
             b .walk .here ∙ ap (startOf s) at-end ∙ start-all (a .ready),
           )
 

@@ -32,11 +32,11 @@ use Rattle.blocks.specs.Writing.{BlockAsk, BlockPut, BlockSize, SharedSu
 
 -- ---- the count that a name stores
 
-pub stored-same : (lo i : ℕ) (shares : List ℕ) → i ≡ lo → 0 ≡ storedCount lo i shares
-stored-same lo i shares e = rw (eq-eqb i lo e) refl
+pub stored-same : (lo i : ℕ) (counts : List ℕ) → i ≡ lo → 0 ≡ storedCount lo i counts
+stored-same lo i counts e = rw (eq-eqb i lo e) refl
 
-pub stored-other : (lo i c : ℕ) (shares : List ℕ) → (i ≡ lo → ⊥) → c ≡ getD shares i 0 → c ≡ storedCount lo i shares
-stored-other lo i c shares n e = rw (ne-eqb i lo n) e
+pub stored-other : (lo i c : ℕ) (counts : List ℕ) → (i ≡ lo → ⊥) → c ≡ getD counts i 0 → c ≡ storedCount lo i counts
+stored-other lo i c counts n e = rw (ne-eqb i lo n) e
 
 -- ---- one entry
 
@@ -127,7 +127,7 @@ pub record Sizing (s : Bytes) (lo hi i next size : ℕ) : Type 0 where
   pub is : size ≡ length (block s lo i)
   pub small : size + 202 * lo ≤ 202 * i
 
-module _ {s : Bytes} {shares : List ℕ} {lo at hi : ℕ} (a : BlockAsk s shares lo at hi) where
+module _ {s : Bytes} {counts : List ℕ} {lo at hi : ℕ} (a : BlockAsk s counts lo at hi) where
   pub sizing-start : Sizing s lo hi lo at 0
   sizing-start = record { low = omega arith; high = a .order; here = a .here; within = omega (arith, a .here, start-within (a .ready) lo); is = sym (ap length (block-none s lo)); small = omega arith }
 
@@ -157,7 +157,7 @@ module _ {s : Bytes} {shares : List ℕ} {lo at hi : ℕ} (a : BlockAsk s shares
         pub sizing-fits : next + 1 + len ≤ length s
         sizing-fits = omega (arith, z .here, len-is, start-fits (a .ready) i in-list)
 
-        module _ (c : ℕ) (f : c ≡ storedCount lo i shares) where
+        module _ (c : ℕ) (f : c ≡ storedCount lo i counts) where
           count-is : c ≡ shared (before lo i (names s)) (getD (names s) i [])
           unfolding shared
           count-is = f ∙ elim (ℕ-discrete i lo) [
@@ -165,7 +165,7 @@ module _ {s : Bytes} {shares : List ℕ} {lo at hi : ℕ} (a : BlockAsk s shares
             | no g ↦ rw (ne-eqb i lo g) (noted i (omega (arith, z .low)) in-names)
           ]
             where
-              noted : (k : ℕ) → 0 < k → k < length (names s) → getD shares k 0 ≡ shared (getD (names s) (pred k) []) (getD (names s) k [])
+              noted : (k : ℕ) → 0 < k → k < length (names s) → getD counts k 0 ≡ shared (getD (names s) (pred k) []) (getD (names s) k [])
               noted zero m l = absurd (lt-irrefl 0 m)
               noted (suc k) m l = a .ready .noted .common k l
 
@@ -214,7 +214,7 @@ pub record Summing (s : Bytes) (lo at hi i next sum : ℕ) : Type 0 where
   pub sizing : Sizing s lo hi i next size
   pub sums : size + sum + at + lo ≡ next + i
 
-module _ {s : Bytes} {shares : List ℕ} {lo at hi : ℕ} (a : BlockAsk s shares lo at hi) where
+module _ {s : Bytes} {counts : List ℕ} {lo at hi : ℕ} (a : BlockAsk s counts lo at hi) where
   pub summing-start : Summing s lo at hi lo at 0
   summing-start = let z = sizing-start a in record {
     low = z .low;
@@ -236,10 +236,10 @@ module _ {s : Bytes} {shares : List ℕ} {lo at hi : ℕ} (a : BlockAsk s shares
       pub summing-record : next < length s
       summing-record = sizing-record a (z .sizing) h
 
-      pub summing-count : (len : ℕ) → len ≡ getD s next 0 → (c : ℕ) → c ≡ storedCount lo i shares → c ≤ len
+      pub summing-count : (len : ℕ) → len ≡ getD s next 0 → (c : ℕ) → c ≡ storedCount lo i counts → c ≤ len
       summing-count len e c f = sizing-count a (z .sizing) h len e c f
 
-      pub summing-more : (len : ℕ) → len ≡ getD s next 0 → (c : ℕ) → c ≡ storedCount lo i shares → Summing s lo at hi (i + 1) (next + (1 + len)) (sum + c)
+      pub summing-more : (len : ℕ) → len ≡ getD s next 0 → (c : ℕ) → c ≡ storedCount lo i counts → Summing s lo at hi (i + 1) (next + (1 + len)) (sum + c)
       summing-more len e c f = let y = sizing-more a (z .sizing) h len e c f in record {
         low = y .low;
         high = y .high;
@@ -256,7 +256,7 @@ pub record Filling (s : Bytes) (lo hi : ℕ) (room₀ room : Bytes) (i next size
   pub kept : length room ≡ length room₀
   pub written : room ≡ over (block s lo i) room₀
 
-module _ {s : Bytes} {shares : List ℕ} {lo at hi : ℕ} (a : BlockAsk s shares lo at hi) (room₀ : Bytes) (big : length (block s lo hi) ≤ length room₀) where
+module _ {s : Bytes} {counts : List ℕ} {lo at hi : ℕ} (a : BlockAsk s counts lo at hi) (room₀ : Bytes) (big : length (block s lo hi) ≤ length room₀) where
   pub filling-start : Filling s lo hi room₀ room₀ lo at 0
   filling-start = record { sizing = sizing-start a; kept = refl; written = ap (λ (b : Bytes). over b room₀) (sym (block-none s lo)) }
 
@@ -266,7 +266,7 @@ module _ {s : Bytes} {shares : List ℕ} {lo at hi : ℕ} (a : BlockAsk s shares
         let e : i ≡ hi = omega (arith, z .sizing .high) in
         record { sized = sizing-all a (z .sizing) h; put = z .written ∙ ap (λ (k : ℕ). over (block s lo k) room₀) e }
 
-    module _ (h : i < hi) (len : ℕ) (e : len ≡ getD s next 0) (c : ℕ) (f : c ≡ storedCount lo i shares) where
+    module _ (h : i < hi) (len : ℕ) (e : len ≡ getD s next 0) (c : ℕ) (f : c ≡ storedCount lo i counts) where
       next-size : size + (2 + len - c) ≡ length (block s lo (i + 1))
       next-size = sizing-more a (z .sizing) h len e c f .is
 
@@ -309,66 +309,66 @@ module _ {s : Bytes} {shares : List ℕ} {lo at hi : ℕ} (a : BlockAsk s shares
 
 -- ---- a block's size, by what its names share
 
-pub shared-next : (shares : List ℕ) (i : ℕ) → sharedTo shares (i + 1) ≡ sharedTo shares i + getD shares i 0
+pub shared-next : (counts : List ℕ) (i : ℕ) → sharedTo counts (i + 1) ≡ sharedTo counts i + getD counts i 0
 unfolding sharedTo
-shared-next shares i = ap (sharedTo shares) (add-one i)
+shared-next counts i = ap (sharedTo counts) (add-one i)
 
-pub shared-grows : (shares : List ℕ) (i m : ℕ) → sharedTo shares i ≤ sharedTo shares (i + m)
-shared-grows shares i zero = let e : i ≡ i + 0 = omega arith in omega (arith, ap (sharedTo shares) e)
-shared-grows shares i (suc m) =
+pub shared-grows : (counts : List ℕ) (i m : ℕ) → sharedTo counts i ≤ sharedTo counts (i + m)
+shared-grows counts i zero = let e : i ≡ i + 0 = omega arith in omega (arith, ap (sharedTo counts) e)
+shared-grows counts i (suc m) =
     let e : i + m + 1 ≡ i + suc m = omega arith in
-    omega (arith, shared-grows shares i m, shared-next shares (i + m), ap (sharedTo shares) e)
+    omega (arith, shared-grows counts i m, shared-next counts (i + m), ap (sharedTo counts) e)
 
 -- what the first i of n names share
-pub record Adding (shares : List ℕ) (n i r : ℕ) : Type 0 where
+pub record Adding (counts : List ℕ) (n i r : ℕ) : Type 0 where
   pub within : i ≤ n
-  pub sum : SharedSum shares i r
+  pub sum : SharedSum counts i r
 
-pub adding-start : (shares : List ℕ) (n : ℕ) → Adding shares n 0 0
+pub adding-start : (counts : List ℕ) (n : ℕ) → Adding counts n 0 0
 unfolding sharedTo
-adding-start shares n = record { within = zero-le; sum = record { is = refl; small = zero-le } }
+adding-start counts n = record { within = zero-le; sum = record { is = refl; small = zero-le } }
 
-module _ {shares : List ℕ} {n i r : ℕ} (k : Adding shares n i r) where
-  pub adding-more : i < n → (x : ℕ) → x ≡ getD shares i 0 → x < 256 → Adding shares n (i + 1) (r + x)
-  adding-more h x e l = record { within = omega arith; sum = record { is = omega (arith, k .sum .is, shared-next shares i); small = omega (arith, k .sum .small) } }
+module _ {counts : List ℕ} {n i r : ℕ} (k : Adding counts n i r) where
+  pub adding-more : i < n → (x : ℕ) → x ≡ getD counts i 0 → x < 256 → Adding counts n (i + 1) (r + x)
+  adding-more h x e l = record { within = omega arith; sum = record { is = omega (arith, k .sum .is, shared-next counts i); small = omega (arith, k .sum .small) } }
 
-  pub adding-all : n ≤ i → SharedSum shares n r
-  adding-all h = let e : i ≡ n = omega (arith, k .within) in subst (λ (m : ℕ). SharedSum shares m r) e (k .sum)
+  pub adding-all : n ≤ i → SharedSum counts n r
+  adding-all h = let e : i ≡ n = omega (arith, k .within) in subst (λ (m : ℕ). SharedSum counts m r) e (k .sum)
 
 -- The size of names lo to i as one block, and what they share: each but the first stores two bytes and what it does not share, and its
 -- record has a length byte and all of it.
-pub record BlockSums (s : Bytes) (shares : List ℕ) (lo at hi i : ℕ) : Type 0 where
+pub record BlockSums (s : Bytes) (counts : List ℕ) (lo at hi i : ℕ) : Type 0 where
   pub next : ℕ
   pub size : ℕ
   pub sizing : Sizing s lo hi i next size
-  pub sums : size + sharedTo shares i + at + lo ≡ next + i + sharedTo shares (lo + 1)
+  pub sums : size + sharedTo counts i + at + lo ≡ next + i + sharedTo counts (lo + 1)
 
-module _ {s : Bytes} {shares : List ℕ} {lo at hi : ℕ} (a : BlockAsk s shares lo at hi) where
-  sums-to : (m : ℕ) → lo + 1 + m ≤ hi → BlockSums s shares lo at hi (lo + 1 + m)
+module _ {s : Bytes} {counts : List ℕ} {lo at hi : ℕ} (a : BlockAsk s counts lo at hi) where
+  sums-to : (m : ℕ) → lo + 1 + m ≤ hi → BlockSums s counts lo at hi (lo + 1 + m)
   sums-to zero h =
       let z : Sizing s lo hi lo at 0 = sizing-start a in
       let one : lo + 1 ≡ lo + 1 + 0 = omega arith in
-      subst (BlockSums s shares lo at hi) one (record {
+      subst (BlockSums s counts lo at hi) one (record {
         next = _;
         size = _;
         sizing = sizing-more a z (omega arith) _ refl _ refl;
-        sums = omega (arith, stored-same lo lo shares refl);
+        sums = omega (arith, stored-same lo lo counts refl);
       })
   sums-to (suc m) h =
       let i : ℕ = lo + 1 + m in
-      let b : BlockSums s shares lo at hi (lo + 1 + m) = sums-to m (omega arith) in
+      let b : BlockSums s counts lo at hi (lo + 1 + m) = sums-to m (omega arith) in
       let len : ℕ = getD s (b .next) 0 in
-      let c : ℕ = storedCount lo i shares in
+      let c : ℕ = storedCount lo i counts in
       let one : i + 1 ≡ lo + 1 + suc m = omega arith in
-      let stored : getD shares i 0 ≡ c = stored-other lo i (getD shares i 0) shares (λ e. lt-irrefl lo (omega arith)) refl in
-      subst (BlockSums s shares lo at hi) one (record {
+      let stored : getD counts i 0 ≡ c = stored-other lo i (getD counts i 0) counts (λ e. lt-irrefl lo (omega arith)) refl in
+      subst (BlockSums s counts lo at hi) one (record {
         next = _;
         size = _;
         sizing = sizing-more a (b .sizing) (omega arith) len refl c refl;
-        sums = omega (arith, b .sums, stored, shared-next shares i, sizing-count a (b .sizing) (omega arith) len refl c refl);
+        sums = omega (arith, b .sums, stored, shared-next counts i, sizing-count a (b .sizing) (omega arith) len refl c refl);
       })
 
-  pub block-sums : lo < hi → BlockSums s shares lo at hi hi
+  pub block-sums : lo < hi → BlockSums s counts lo at hi hi
   block-sums h =
       let e : lo + 1 + (hi - (lo + 1)) ≡ hi = omega arith in
-      subst (BlockSums s shares lo at hi) e (sums-to (hi - (lo + 1)) (omega arith))
+      subst (BlockSums s counts lo at hi) e (sums-to (hi - (lo + 1)) (omega arith))

@@ -15,7 +15,7 @@ use mathlib.Core.List.{List, [], _∷_, _++_}
 use lib.Dec.{eqb}
 use lib.ListN.{length, getD}
 use lib.Seq.{slice}
-use Rattle.words.specs.Words.{Bytes, pick}
+use Rattle.words.specs.Words.{Bytes, Rule, pick}
 use Rattle.format.specs.Entries.{front}
 use Rattle.format.specs.Book.{numbers, blockPart, entryPart}
 use Rattle.format.specs.Outcomes.{over}
@@ -28,13 +28,15 @@ abbrev pub block : Bytes → ℕ → ℕ → Bytes
 block s lo hi = front [] (slice lo hi (names s))
 
 abbrev pub storedCount : ℕ → ℕ → List ℕ → ℕ
-storedCount lo i shares = pick (eqb i lo) 0 (getD shares i 0)
+storedCount lo i counts = pick (eqb i lo) 0 (getD counts i 0)
 
 -- names lo to hi of a list that was judged; record lo begins at `at`
-pub record BlockAsk (s : Bytes) (shares : List ℕ) (lo at hi : ℕ) : Type 0 where
+pub record BlockAsk (s : Bytes) (counts : List ℕ) (lo at hi : ℕ) : Type 0 where
+  pub ρ : Rule
   pub n : ℕ
   pub lens : List ℕ
-  pub ready : Ready s n lens shares
+  pub shares : List ℕ
+  pub ready : Ready ρ s n lens counts shares
   pub order : lo ≤ hi
   pub within : hi ≤ n
   pub here : at ≡ startOf s lo
@@ -51,9 +53,11 @@ pub record BlockPut (s : Bytes) (lo hi : ℕ) (room₀ room : Bytes) (size next 
   pub put : room ≡ over (block s lo hi) room₀
 
 -- the entries of n names in blocks of k
-pub record EntriesAsk (s : Bytes) (n : ℕ) (shares : List ℕ) (k : ℕ) : Type 0 where
+pub record EntriesAsk (s : Bytes) (n : ℕ) (counts : List ℕ) (k : ℕ) : Type 0 where
+  pub ρ : Rule
   pub lens : List ℕ
-  pub ready : Ready s n lens shares
+  pub shares : List ℕ
+  pub ready : Ready ρ s n lens counts shares
   pub low : 1 ≤ k
   pub high : k ≤ 64
 
@@ -64,11 +68,11 @@ pub record NumberPut (room₀ room : Bytes) (i v : ℕ) : Type 0 where
 
 -- what the first i names share with the ones before them, in all
 unfoldable pub sharedTo : List ℕ → ℕ → ℕ
-sharedTo shares zero = 0
-sharedTo shares (suc i) = sharedTo shares i + getD shares i 0
+sharedTo counts zero = 0
+sharedTo counts (suc i) = sharedTo counts i + getD counts i 0
 
-pub record SharedSum (shares : List ℕ) (i r : ℕ) : Type 0 where
-  pub is : r ≡ sharedTo shares i
+pub record SharedSum (counts : List ℕ) (i r : ℕ) : Type 0 where
+  pub is : r ≡ sharedTo counts i
   pub small : r ≤ 255 * i
 
 -- how many blocks of k there are, and the size of all entries

@@ -2,20 +2,20 @@
 ghost use mathlib.Core.Path.{_≡_};
 ghost use mathlib.Core.List.{_∷_};
 ghost use Prim.Native.Nat.{_+_, _≤_, _<_};
-ghost use lib.ListN.{length, getD, take, drop};
-ghost use Rattle.records.specs.Lists.{names, startOf};
+ghost use lib.ListN.{length, take, drop};
+ghost use Rattle.records.specs.Lists.{names};
 ghost use Rattle.format.specs.Book.{entryPart};
 ghost use Rattle.blocks.specs.Writing.{block, storedCount, BlockAsk, BlockSize, BlockPut, EntriesAsk, NumberPut, SharedSum, SumsAre, Surveyed};
 
 // The count that name i stores in a block that begins with name lo.
-fn count_of(shares: &[u8], lo: usize, i: usize) -> usize
-    requires { ⌜ i < length (now shares) ⌝ }
-    ensures { λ r. ⌜ r ≡ storedCount lo i (now (shares .entry)) ⌝ }
+fn count_of(counts: &[u8], lo: usize, i: usize) -> usize
+    requires { ⌜ i < length (now counts) ⌝ }
+    ensures { λ r. ⌜ r ≡ storedCount lo i (now (counts .entry)) ⌝ }
 {
     if i == lo {
         return 0;
     }
-    numbers::wide(shares[i])
+    numbers::wide(counts[i])
 }
 
 // A block: the size of its entries, and where the record after its names begins.
@@ -26,8 +26,8 @@ pub struct Block {
 
 // Names lo to hi as one block, of which record lo begins at `at`: what their records take, and a byte more for each, but for what they
 // share.
-fn block_size(list: &[u8], shares: &[u8], lo: usize, at: usize, hi: usize) -> Block
-    requires { ⌜ BlockAsk (now list) (now shares) lo at hi ⌝ }
+fn block_size(list: &[u8], counts: &[u8], lo: usize, at: usize, hi: usize) -> Block
+    requires { ⌜ BlockAsk (now list) (now counts) lo at hi ⌝ }
     ensures { λ r. ⌜ BlockSize (now (list .entry)) lo hi (r .size) (r .next) ⌝ }
 {
     let mut shared: usize = 0;
@@ -35,7 +35,7 @@ fn block_size(list: &[u8], shares: &[u8], lo: usize, at: usize, hi: usize) -> Bl
     let mut i = lo;
     while i < hi {
         next += 1 + numbers::wide(list[next]);
-        shared += count_of(shares, lo, i);
+        shared += count_of(counts, lo, i);
         i += 1;
     }
     Block {
@@ -58,13 +58,13 @@ fn write_entry(list: &[u8], from: usize, c: usize, rest: usize, part: &mut [u8])
 // The same, with the entries at the front of the room.
 fn write_block(
     list: &[u8],
-    shares: &[u8],
+    counts: &[u8],
     lo: usize,
     at: usize,
     hi: usize,
     room: &mut [u8],
 ) -> Block
-    requires { ⌜ BlockAsk (now list) (now shares) lo at hi ⌝ }
+    requires { ⌜ BlockAsk (now list) (now counts) lo at hi ⌝ }
     requires { ⌜ length (block (now list) lo hi) ≤ length (now room) ⌝ }
     ensures { λ r. ⌜ BlockPut (now (list .entry)) lo hi (now (room .entry)) (now (room .exit)) (r .size) (r .next) ⌝ }
 {
@@ -73,7 +73,7 @@ fn write_block(
     let mut i = lo;
     while i < hi {
         let len = numbers::wide(list[next]);
-        let c = count_of(shares, lo, i);
+        let c = count_of(counts, lo, i);
         let rest = len - c;
         let end = size + 2 + rest;
         write_entry(list, next + 1 + c, c, rest, &mut room[size..end]);
@@ -85,8 +85,8 @@ fn write_block(
 }
 
 // The entries of all names, in blocks of k.
-pub fn write_entries(list: &[u8], n: usize, shares: &[u8], k: usize, room: &mut [u8])
-    requires { ⌜ EntriesAsk (now list) n (now shares) k ⌝ }
+pub fn write_entries(list: &[u8], n: usize, counts: &[u8], k: usize, room: &mut [u8])
+    requires { ⌜ EntriesAsk (now list) n (now counts) k ⌝ }
     requires { ⌜ length (now room) ≡ length (entryPart k (names (now list))) ⌝ }
     ensures { λ _. ⌜ now (room .exit) ≡ entryPart k (names (now (list .entry))) ⌝ }
 {
@@ -95,7 +95,7 @@ pub fn write_entries(list: &[u8], n: usize, shares: &[u8], k: usize, room: &mut 
     let mut size: usize = 0;
     while lo < n {
         let hi = numbers::lesser(lo + k, n);
-        let b = write_block(list, shares, lo, at, hi, &mut room[size..]);
+        let b = write_block(list, counts, lo, at, hi, &mut room[size..]);
         size += b.size;
         at = b.next;
         lo = hi;
@@ -122,14 +122,14 @@ pub struct Survey {
 }
 
 // What the first n names share with the ones before them, in all.
-fn sum_of(shares: &[u8], n: usize) -> usize
-    requires { ⌜ (n ≤ 2000) × (n ≤ length (now shares)) ⌝ }
-    ensures { λ r. ⌜ SharedSum (now (shares .entry)) n r ⌝ }
+fn sum_of(counts: &[u8], n: usize) -> usize
+    requires { ⌜ (n ≤ 2000) × (n ≤ length (now counts)) ⌝ }
+    ensures { λ r. ⌜ SharedSum (now (counts .entry)) n r ⌝ }
 {
     let mut sum: usize = 0;
     let mut i = 0;
     while i < n {
-        sum += numbers::wide(shares[i]);
+        sum += numbers::wide(counts[i]);
         i += 1;
     }
     sum
@@ -137,15 +137,15 @@ fn sum_of(shares: &[u8], n: usize) -> usize
 
 // By sums: each name stores two bytes and what it does not share, and its record has its length byte and all of it. The first name of
 // a block stores all of it too.
-pub fn survey_blocks(list: &[u8], n: usize, shares: &[u8], k: usize) -> Survey
-    requires { ⌜ EntriesAsk (now list) n (now shares) k ⌝ }
+pub fn survey_blocks(list: &[u8], n: usize, counts: &[u8], k: usize) -> Survey
+    requires { ⌜ EntriesAsk (now list) n (now counts) k ⌝ }
     ensures { λ r. ⌜ SumsAre (now (list .entry)) k (r .count) (r .size) ⌝ }
 {
-    let mut shared = sum_of(shares, n);
+    let mut shared = sum_of(counts, n);
     let mut count: usize = 0;
     let mut lo: usize = 0;
     while lo < n {
-        shared -= numbers::wide(shares[lo]);
+        shared -= numbers::wide(counts[lo]);
         count += 1;
         lo += k;
     }
@@ -156,8 +156,8 @@ pub fn survey_blocks(list: &[u8], n: usize, shares: &[u8], k: usize) -> Survey
 }
 
 // The block table, where it fits: where each block's entries begin.
-pub fn write_table(list: &[u8], n: usize, shares: &[u8], k: usize, room: &mut [u8]) -> Survey
-    requires { ⌜ EntriesAsk (now list) n (now shares) k ⌝ }
+pub fn write_table(list: &[u8], n: usize, counts: &[u8], k: usize, room: &mut [u8]) -> Survey
+    requires { ⌜ EntriesAsk (now list) n (now counts) k ⌝ }
     ensures { λ r. ⌜ Surveyed (now (list .entry)) k (now (room .entry)) (now (room .exit)) (r .count) (r .size) ⌝ }
 {
     let mut lo: usize = 0;
@@ -167,7 +167,7 @@ pub fn write_table(list: &[u8], n: usize, shares: &[u8], k: usize, room: &mut [u
     while lo < n {
         put_number(room, count, size);
         let hi = numbers::lesser(lo + k, n);
-        let b = block_size(list, shares, lo, at, hi);
+        let b = block_size(list, counts, lo, at, hi);
         size += b.size;
         at = b.next;
         lo = hi;

@@ -1,2 +1,3 @@
 -- Laws of the whole book. No contract cites them.
 pub mod WholeBook
+pub mod Building

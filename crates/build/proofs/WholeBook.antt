@@ -15,12 +15,15 @@ use lib.ListN.{length, take, drop, length-append}
 use mir.Val.{Fits}
 use mir.Syntax.{w64}
 use borrow.Author.Tests.{le-leb, lt-leb}
-use Rattle.words.specs.Words.{Bytes, Words, pick, plain, word}
-use Rattle.format.specs.Book.{blockPart, book, entryPart, longestBook, mark, nodePart, numbers, trailer}
+use Rattle.words.specs.Words.{Bytes, Words, pick, word}
+use Rattle.format.specs.Marks.{BookKind, markOf, ruleOf}
+use Rattle.format.specs.Book.{blockPart, book, entryPart, longestBook, nodePart, numbers, trailer}
 use Rattle.format.specs.Spans.{nodeSize}
 use Rattle.format.specs.Nodes.{table}
 use Rattle.format.specs.Records.{mostNames, readList}
+use Rattle.format.proofs.Marks.{mark-length}
 use Rattle.format.proofs.Book.{book-length, book-parts, nodes-length, records, trailerAt, trailerNumbers}
+use Rattle.format.proofs.Numbers.{numbers-length}
 use Rattle.format.proofs.Groups.{table-empty}
 use Rattle.format.proofs.Spans.{table-few}
 use Rattle.format.specs.Outcomes.{given, over, refused}
@@ -37,24 +40,24 @@ use Rattle.build.specs.Whole.{BuildAsk, Sized}
 abbrev pub put : Bytes → ℕ → ℕ → Bytes → Bytes
 put room from to x = take from room ++ (x ++ drop (to - from) (drop from room))
 
-module _ {s : Bytes} {n : ℕ} {lens shares : List ℕ} {k : ℕ} (a : BuildAsk s n lens shares k) where
+module _ {κ : BookKind} {s : Bytes} {n : ℕ} {lens counts shares : List ℕ} {k : ℕ} (a : BuildAsk κ s n lens counts shares k) where
   module _ (m : ℕ) (p : NodeCount n shares m) where
-    nodes-are : m ≡ length (table (words s))
+    nodes-are : m ≡ length (table (words (ruleOf κ) s))
     unfolding NodeCount
-    nodes-are = p s lens (a .ready)
+    nodes-are = p (ruleOf κ) s lens counts (a .ready)
 
     nodes-few : m ≤ 4000
     nodes-few = go n refl
       where
         go : (i : ℕ) → i ≡ n → m ≤ 4000
-        go zero e = omega (arith, nodes-are, ap length (table-empty (words s) (omega (arith, words-length s, a .ready .total))))
-        go (suc i) e = omega (arith, nodes-are, table-few (words s) (ready-rises (a .ready)) (omega (arith, words-length s, a .ready .total)), words-length s, a .ready .total, a .ready .few)
+        go zero e = omega (arith, nodes-are, ap length (table-empty (words (ruleOf κ) s) (omega (arith, words-length (ruleOf κ) s, a .ready .total))))
+        go (suc i) e = omega (arith, nodes-are, table-few (words (ruleOf κ) s) (ready-rises (a .ready)) (omega (arith, words-length (ruleOf κ) s, a .ready .total)), words-length (ruleOf κ) s, a .ready .total, a .ready .few)
 
     pub nodes-fit : Fits w64 (m * nodeSize)
     nodes-fit = omega (arith, nodes-few)
 
     module _ {c e : ℕ} (t : SumsAre s k c e) where
-      pub sizes-are : Sized s k e (e + 2 * c) m (e + 2 * c + m * nodeSize + 16)
+      pub sizes-are : Sized κ s k e (e + 2 * c) m (e + 2 * c + m * nodeSize + 16)
       sizes-are = record {
         blocks-start = t .size-is;
         nodes-start = omega (arith, t .count-is);
@@ -69,22 +72,22 @@ module _ {s : Bytes} {n : ℕ} {lens shares : List ℕ} {k : ℕ} (a : BuildAsk 
       pub book-fits : Fits w64 (e + 2 * c + m * nodeSize + 16)
       book-fits = omega (arith, sizes-are .few)
 
-  names-words : map (word plain) (names s) ≡ words s
+  names-words : map (word (ruleOf κ)) (names s) ≡ words (ruleOf κ) s
   unfolding words
   names-words = refl
 
-  module _ {blocks nodes count total : ℕ} (z : Sized s k blocks nodes count total) where
-    trailer-at : trailerAt plain k (names s) ≡ total - 16
+  module _ {blocks nodes count total : ℕ} (z : Sized κ s k blocks nodes count total) where
+    trailer-at : trailerAt κ k (names s) ≡ total - 16
     trailer-at =
-        omega (arith, z .blocks-start, z .nodes-start, z .whole, z .number, nodes-length (records plain k (names s)), ap (λ (ws : Words). length (table ws)) names-words)
+        omega (arith, z .blocks-start, z .nodes-start, z .whole, z .number, nodes-length (records κ k (names s)), ap (λ (ws : Words). length (table ws)) names-words)
 
-    pub book-size : length (book plain k (names s)) ≡ total
-    book-size = book-length plain k (names s) ∙ omega (arith, trailer-at, z .whole)
+    pub book-size : length (book κ k (names s)) ≡ total
+    book-size = book-length κ k (names s) ∙ omega (arith, trailer-at, z .whole)
 
-    trailer-is : trailer n k blocks nodes count total ≡ numbers (trailerNumbers plain k (names s)) ++ mark
+    trailer-is : trailer κ n k blocks nodes count total ≡ numbers (trailerNumbers κ k (names s)) ++ markOf κ
     unfolding trailer
     trailer-is =
-        ap (λ (l : List ℕ). numbers l ++ mark)
+        ap (λ (l : List ℕ). numbers l ++ markOf κ)
         (six (a .ready .total) (z .blocks-start) (omega (arith, z .nodes-start, z .blocks-start))
         (z .number ∙ ap (λ (ws : Words). length (table ws)) (sym names-words)) (omega (arith, trailer-at, z .whole)))
       where
@@ -126,35 +129,36 @@ module _ {s : Bytes} {n : ℕ} {lens shares : List ℕ} {k : ℕ} (a : BuildAsk 
       nodes-part =
           part-length r₂ nodes (total - 16 - nodes) (omega (arith, ap length p₂ ∙ over-length (x ++ y) room (omega (arith, l₁₂, z .whole)), z .whole)) ∙ omega (arith, z .whole)
 
-      module _ (w v : Bytes) {m : ℕ} (q : NodesPut s (take (total - 16 - nodes) (drop nodes (put (put room 0 blocks x) blocks nodes y))) w m) (v-is : v ≡ trailer n k blocks nodes count total) where
+      module _ (w v : Bytes) {m : ℕ} (q : NodesPut (ruleOf κ) s (take (total - 16 - nodes) (drop nodes (put (put room 0 blocks x) blocks nodes y))) w m) (v-is : v ≡ trailer κ n k blocks nodes count total) where
         abbrev r₃ : Bytes
         r₃ = put r₂ nodes (total - 16) w
 
-        w-is : w ≡ nodePart (table (words s))
+        w-is : w ≡ nodePart (table (words (ruleOf κ) s))
         w-is = q .put (nodes-part ∙ ap (λ (i : ℕ). i * nodeSize) (z .number))
 
         l₃ : length w ≡ total - 16 - nodes
-        l₃ = ap length w-is ∙ omega (arith, nodes-length (table (words s)), z .number, z .whole)
+        l₃ = ap length w-is ∙ omega (arith, nodes-length (table (words (ruleOf κ) s)), z .number, z .whole)
 
         l₄ : length v ≡ 16
-        unfolding trailer numbers
-        l₄ = ap length v-is
+        l₄ =
+            ap length (v-is ∙ trailer-is) ∙ length-append (numbers (trailerNumbers κ k (names s))) (markOf κ)
+            ∙ omega (arith, numbers-length (trailerNumbers κ k (names s)), mark-length κ)
 
         p₃ : r₃ ≡ over ((x ++ y) ++ w) room
         p₃ = lent (x ++ y) room r₂ w nodes (total - 16 - nodes) p₂ l₁₂ (omega (arith, z .whole)) l₃
 
-        parts : ((x ++ y) ++ w) ++ v ≡ book plain k (names s)
+        parts : ((x ++ y) ++ w) ++ v ≡ book κ k (names s)
         parts =
             let es : Bytes = entryPart k (names s) in
             let bs : Bytes = blockPart k (names s) in
-            let ns : Bytes = nodePart (records plain k (names s)) in
-            let end : Bytes = numbers (trailerNumbers plain k (names s)) ++ mark in
+            let ns : Bytes = nodePart (records κ k (names s)) in
+            let end : Bytes = numbers (trailerNumbers κ k (names s)) ++ markOf κ in
             let grouped : ((es ++ bs) ++ ns) ++ end ≡ es ++ (bs ++ (ns ++ end)) = simp append-assoc in
             ap₂ (λ (i j : Bytes). ((i ++ y) ++ w) ++ j) x-is (v-is ∙ trailer-is)
             ∙ ap₂ (λ (i j : Bytes). ((es ++ i) ++ j) ++ end) y-is (w-is ∙ ap (λ (ws : Words). nodePart (table ws)) (sym names-words))
-            ∙ grouped ∙ sym (book-parts plain k (names s))
+            ∙ grouped ∙ sym (book-parts κ k (names s))
 
-        pub book-lent : put (put (put (put room 0 blocks x) blocks nodes y) nodes (total - 16) w) (total - 16) total v ≡ over (book plain k (names s)) room
+        pub book-lent : put (put (put (put room 0 blocks x) blocks nodes y) nodes (total - 16) w) (total - 16) total v ≡ over (book κ k (names s)) room
         book-lent =
             lent ((x ++ y) ++ w) room r₃ v (total - 16) (total - (total - 16)) p₃ (length-append (x ++ y) w ∙ omega (arith, l₁₂, l₃, z .whole)) (omega (arith, z .whole))
             (l₄ ∙ omega (arith, z .whole))
@@ -163,22 +167,22 @@ module _ {s : Bytes} {n : ℕ} {lens shares : List ℕ} {k : ℕ} (a : BuildAsk 
     -- ---- how it ends
 
     module _ (room : Bytes) where
-      chosen : (f d : Bool) → leb (length (book plain k (names s))) longestBook ≡ f → leb (length (book plain k (names s))) (length room) ≡ d
-          → builtFrom plain k room (readList plain mostNames s)
-          ≡ pick f (pick d (record { answer = given (length (book plain k (names s))) 0; room = over (book plain k (names s)) room }) (record { answer = refused 4; room = room }))
+      chosen : (f d : Bool) → leb (length (book κ k (names s))) longestBook ≡ f → leb (length (book κ k (names s))) (length room) ≡ d
+          → builtFrom κ k room (readList (ruleOf κ) mostNames s)
+          ≡ pick f (pick d (record { answer = given (length (book κ k (names s))) 0; room = over (book κ k (names s)) room }) (record { answer = refused 4; room = room }))
           (record { answer = refused 9; room = room })
       unfolding builtFrom
-      chosen f d p q = ap (builtFrom plain k room) (a .read) ∙ rw (p, q) refl
+      chosen f d p q = ap (builtFrom κ k room) (a .read) ∙ rw (p, q) refl
 
-      pub ends-nine : 65535 < total → record { answer = refused 9; room = room } ≡ builtFrom plain k room (readList plain mostNames s)
-      ends-nine h = sym (chosen false _ (lt-leb (length (book plain k (names s))) longestBook (omega (arith, book-size))) refl)
+      pub ends-nine : 65535 < total → record { answer = refused 9; room = room } ≡ builtFrom κ k room (readList (ruleOf κ) mostNames s)
+      ends-nine h = sym (chosen false _ (lt-leb (length (book κ k (names s))) longestBook (omega (arith, book-size))) refl)
 
-      pub ends-four : total ≤ 65535 → length room < total → record { answer = refused 4; room = room } ≡ builtFrom plain k room (readList plain mostNames s)
+      pub ends-four : total ≤ 65535 → length room < total → record { answer = refused 4; room = room } ≡ builtFrom κ k room (readList (ruleOf κ) mostNames s)
       ends-four h l =
-          sym (chosen true false (le-leb (length (book plain k (names s))) longestBook (omega (arith, book-size))) (lt-leb (length (book plain k (names s))) (length room) (omega (arith, book-size))))
+          sym (chosen true false (le-leb (length (book κ k (names s))) longestBook (omega (arith, book-size))) (lt-leb (length (book κ k (names s))) (length room) (omega (arith, book-size))))
 
-      pub ends-done : (new : Bytes) → total ≤ 65535 → total ≤ length room → new ≡ over (book plain k (names s)) room
-          → record { answer = given total 0; room = new } ≡ builtFrom plain k room (readList plain mostNames s)
+      pub ends-done : (new : Bytes) → total ≤ 65535 → total ≤ length room → new ≡ over (book κ k (names s)) room
+          → record { answer = given total 0; room = new } ≡ builtFrom κ k room (readList (ruleOf κ) mostNames s)
       ends-done new h l w =
           ap₂ (λ (i : ℕ) (r : Bytes). record { answer = given i 0; room = r }) (sym book-size) w
-          ∙ sym (chosen true true (le-leb (length (book plain k (names s))) longestBook (omega (arith, book-size))) (le-leb (length (book plain k (names s))) (length room) (omega (arith, book-size))))
+          ∙ sym (chosen true true (le-leb (length (book κ k (names s))) longestBook (omega (arith, book-size))) (le-leb (length (book κ k (names s))) (length room) (omega (arith, book-size))))

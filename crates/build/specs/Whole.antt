@@ -7,7 +7,8 @@ use Prim.Native.Nat.{ℕ, _+_, _*_, _≤_}
 use mathlib.Core.Path.{_≡_}
 use mathlib.Core.List.{List}
 use lib.ListN.{length}
-use Rattle.words.specs.Words.{Bytes, plain}
+use Rattle.words.specs.Words.{Bytes}
+use Rattle.format.specs.Marks.{BookKind, ruleOf}
 use Rattle.format.specs.Nodes.{table}
 use Rattle.format.specs.Records.{Names, mostNames, readList}
 use Rattle.format.specs.Book.{entryPart, blockPart}
@@ -17,16 +18,16 @@ use Rattle.records.specs.Lists.{Ready, names, words}
 use Rattle.build.specs.declared.Built.{Built}
 use Rattle.build.specs.declared.Built.the-variants.{Written as Wrote, Refused}
 
-pub record BuildAsk (s : Bytes) (n : ℕ) (lens shares : List ℕ) (k : ℕ) : Type 0 where
-  pub read : readList plain mostNames s ≡ Names (names s)
-  pub ready : Ready s n lens shares
+pub record BuildAsk (κ : BookKind) (s : Bytes) (n : ℕ) (lens counts shares : List ℕ) (k : ℕ) : Type 0 where
+  pub read : readList (ruleOf κ) mostNames s ≡ Names (names s)
+  pub ready : Ready (ruleOf κ) s n lens counts shares
   pub low : 1 ≤ k
   pub high : k ≤ 64
 
-pub record Sized (s : Bytes) (k blocks nodes count total : ℕ) : Type 0 where
+pub record Sized (κ : BookKind) (s : Bytes) (k blocks nodes count total : ℕ) : Type 0 where
   pub blocks-start : blocks ≡ length (entryPart k (names s))
   pub nodes-start : nodes ≡ blocks + length (blockPart k (names s))
-  pub number : count ≡ length (table (words s))
+  pub number : count ≡ length (table (words (ruleOf κ) s))
   pub whole : total ≡ nodes + count * nodeSize + 16
   pub few : total ≤ 1000000
 

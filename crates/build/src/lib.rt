@@ -1,15 +1,17 @@
-// Building a book from a list that has been judged: the sizes first, then four writers, each on its own part of the room, so that
-// nothing is written before it is known that all of it fits.
+// Building a book from a list: it is judged; then come the sizes, and then four writers, each on its own part of the room, so that
+// nothing is written before it is known that all of it fits. Only the writer of nodes and the trailer want to know the rule.
 ghost use mathlib.Core.Path.{_≡_};
 ghost use Prim.Native.Nat.{_≤_};
 ghost use lib.ListN.{length};
-ghost use Rattle.words.specs.Words.{plain};
 ghost use Rattle.format.specs.Records.{mostNames, readList};
 ghost use Rattle.format.specs.Book.{book};
 ghost use Rattle.format.specs.Outcomes.{over};
-ghost use Rattle.answers.specs.Calls.{builtFrom};
+ghost use Rattle.answers.specs.Calls.{build, builtFrom};
+ghost use Rattle.symbols.specs.Rules.{kindBy, ruleBy};
 ghost use Rattle.records.specs.Lists.{names};
+ghost use Rattle.shapes.specs.Shapes.{written};
 ghost use Rattle.build.specs.Whole.{BuildAsk, Sized, shownBuilt};
+use symbols::Rule;
 
 // Where the tables of a book begin, its number of nodes, and its length.
 pub struct Sizes {
@@ -20,11 +22,19 @@ pub struct Sizes {
 }
 
 // The sizes, by counting.
-fn sizes_of(list: &[u8], n: usize, lens: &[u8], shares: &[u8], k: usize) -> Sizes
-    requires { ⌜ BuildAsk (now list) n (now lens) (now shares) k ⌝ }
-    ensures { λ r. ⌜ Sized (now (list .entry)) k (r .blocks) (r .nodes) (r .count) (r .total) ⌝ }
+fn sizes_of(
+    rule: Rule,
+    list: &[u8],
+    n: usize,
+    lens: &[u8],
+    counts: &[u8],
+    shares: &[u8],
+    k: usize,
+) -> Sizes
+    requires { ⌜ BuildAsk (kindBy rule) (now list) n (now lens) (now counts) (now shares) k ⌝ }
+    ensures { λ r. ⌜ Sized (kindBy rule) (now (list .entry)) k (r .blocks) (r .nodes) (r .count) (r .total) ⌝ }
 {
-    let survey = blocks::survey_blocks(list, n, shares, k);
+    let survey = blocks::survey_blocks(list, n, counts, k);
     let count = nodes::count_nodes(n, shares);
     let nodes = survey.size + 2 * survey.count;
     Sizes {
@@ -37,26 +47,37 @@ fn sizes_of(list: &[u8], n: usize, lens: &[u8], shares: &[u8], k: usize) -> Size
 
 // The book, each part from where the one before ended.
 fn write_book(
+    rule: Rule,
     list: &[u8],
     n: usize,
     lens: &[u8],
+    counts: &[u8],
     shares: &[u8],
     k: usize,
     s: Sizes,
     room: &mut [u8],
 )
-    requires { ⌜ BuildAsk (now list) n (now lens) (now shares) k ⌝ }
-    requires { ⌜ Sized (now list) k (s .blocks) (s .nodes) (s .count) (s .total) × (s .total ≤ length (now room)) ⌝ }
-    ensures { λ _. ⌜ now (room .exit) ≡ over (book plain k (names (now (list .entry)))) (now (room .entry)) ⌝ }
+    requires { ⌜ BuildAsk (kindBy rule) (now list) n (now lens) (now counts) (now shares) k ⌝ }
+    requires { ⌜ Sized (kindBy rule) (now list) k (s .blocks) (s .nodes) (s .count) (s .total) × (s .total ≤ length (now room)) ⌝ }
+    ensures { λ _. ⌜ now (room .exit) ≡ over (book (kindBy rule) k (names (now (list .entry)))) (now (room .entry)) ⌝ }
 {
     let blocks = s.blocks;
     let nodes = s.nodes;
     let total = s.total;
     let end = total - trailer::SIZE;
-    blocks::write_entries(list, n, shares, k, &mut room[0..blocks]);
-    blocks::write_table(list, n, shares, k, &mut room[blocks..nodes]);
-    nodes::write_nodes(list, n, lens, shares, &mut room[nodes..end]);
-    trailer::put_trailer(&mut room[end..total], n, k, blocks, nodes, s.count, total);
+    blocks::write_entries(list, n, counts, k, &mut room[0..blocks]);
+    blocks::write_table(list, n, counts, k, &mut room[blocks..nodes]);
+    nodes::write_nodes(rule, list, n, lens, shares, &mut room[nodes..end]);
+    trailer::put_trailer(
+        &mut room[end..total],
+        n,
+        k,
+        blocks,
+        nodes,
+        s.count,
+        total,
+        rule,
+    );
 }
 
 // How the building of a judged list ends.
@@ -69,17 +90,19 @@ pub enum Built {
 
 // The book of a list of n names, where it is short enough and fits.
 pub fn build_judged(
+    rule: Rule,
     list: &[u8],
     n: usize,
     lens: &[u8],
+    counts: &[u8],
     shares: &[u8],
     k: usize,
     room: &mut [u8],
 ) -> Built
-    requires { ⌜ BuildAsk (now list) n (now lens) (now shares) k ⌝ }
-    ensures { λ r. ⌜ shownBuilt r (now (room .exit)) ≡ builtFrom plain k (now (room .entry)) (readList plain mostNames (now (list .entry))) ⌝ }
+    requires { ⌜ BuildAsk (kindBy rule) (now list) n (now lens) (now counts) (now shares) k ⌝ }
+    ensures { λ r. ⌜ shownBuilt r (now (room .exit)) ≡ builtFrom (kindBy rule) k (now (room .entry)) (readList (ruleBy rule) mostNames (now (list .entry))) ⌝ }
 {
-    let s = sizes_of(list, n, lens, shares, k);
+    let s = sizes_of(rule, list, n, lens, counts, shares, k);
     let total = s.total;
     if 65535 < total {
         return Built::Refused(9);
@@ -87,6 +110,36 @@ pub fn build_judged(
     if room.len() < total {
         return Built::Refused(4);
     }
-    write_book(list, n, lens, shares, k, s, room);
+    write_book(rule, list, n, lens, counts, shares, k, s, room);
     Built::Written(total)
+}
+
+// The book of a list with blocks of so many names, by a rule, at the front of the room. Refusals: 8; record by record 5, 6, 7; 9; 4.
+pub fn build_list(rule: Rule, list: &[u8], block: usize, room: &mut [u8]) -> shapes::Answer
+    ensures { λ r. ⌜ written r (now (room .exit)) ≡ build (kindBy rule) (now (list .entry)) block (now (room .entry)) ⌝ }
+{
+    if block == 0 {
+        return shapes::refuse(8, 0);
+    }
+    if 64 < block {
+        return shapes::refuse(8, 0);
+    }
+    let mut lens = [0u8; 2000];
+    let mut counts = [0u8; 2000];
+    let mut shares = [0u8; 2000];
+    let verdict = records::judge(rule, list, 2000, &mut lens, &mut counts, &mut shares);
+    match verdict {
+        records::Verdict::Bad(code, record) => shapes::refuse(code, record),
+        records::Verdict::Good(n) => {
+            let built = build_judged(rule, list, n, &lens, &counts, &shares, block, room);
+            match built {
+                Built::Refused(code) => shapes::refuse(code, 0),
+                Built::Written(total) => shapes::Answer {
+                    code: 0,
+                    first: total,
+                    second: 0,
+                },
+            }
+        }
+    }
 }

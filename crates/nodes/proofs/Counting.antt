@@ -14,7 +14,7 @@ use lib.ListN.{length, getD, drop, length-set, replicate, set, take}
 use lib.Seq.{getD-set-other, getD-set-same}
 use mir.Val.{Fits}
 use mir.Syntax.{w8}
-use Rattle.words.specs.Words.{Bytes}
+use Rattle.words.specs.Words.{Bytes, Rule}
 use Rattle.records.specs.Lists.{Ready, words}
 use Rattle.records.proofs.Starts.{ready-rises}
 use Rattle.nodes.specs.declared.LeftOpen.{LeftOpen}
@@ -57,32 +57,32 @@ abbrev SameDepths : List ℕ → List ℕ → ℕ → Type 0
 SameDepths frames depths top = (t : ℕ) → t ≤ top → depthIn frames t ≡ getD depths t 0
 
 -- the frames above number r are closed, after so many records
-record Unwound (rest : Bytes) (skip j left : ℕ) (frames : List ℕ) (top count r total : ℕ) : Type 0 where
+record Unwound (ρ : Rule) (rest : Bytes) (skip j left : ℕ) (frames : List ℕ) (top count r total : ℕ) : Type 0 where
   pub p : LeftOpen
   pub top-is : p .top ≡ r
   pub count-is : p .count ≡ total
-  pub passing : Passing rest skip j left frames top count [] p []
+  pub passing : Passing ρ rest skip j left frames top count [] p []
 
-module _ {rest : Bytes} {skip j left : ℕ} {frames : List ℕ} {first count : ℕ} (a : NameAsk rest skip j left frames first count []) where
+module _ {ρ : Rule} {rest : Bytes} {skip j left : ℕ} {frames : List ℕ} {first count : ℕ} (a : NameAsk ρ rest skip j left frames first count []) where
   -- one record for each frame
   unwound : {r : ℕ} (depths : List ℕ) → SameDepths frames depths first → Deeper depths left first r → (m : ℕ) {p : LeftOpen} → p .top ≤ first → p .top ≡ r + m
-      → Passing rest skip j left frames first count [] p [] → Unwound rest skip j left frames first count r (p .count + m)
+      → Passing ρ rest skip j left frames first count [] p [] → Unwound ρ rest skip j left frames first count r (p .count + m)
   unwound depths same d zero {p} l e k = record { p = p; top-is = omega arith; count-is = omega arith; passing = k }
   unwound {r} depths same d (suc m) {p} l e k =
       let h : left < depthIn frames (p .top) = omega (arith, d .deeper (p .top) (omega arith) l, same (p .top) l) in
-      let put = node-put (passing-deeper k refl _ refl a h) (back-full [] (p .count) _ (omega arith)) _ _ _ refl refl refl refl refl refl refl refl in
+      let put = node-put (passing-deeper k refl _ refl a h) (back-full [] (p .count) _ (omega arith)) refl _ _ _ refl refl refl refl refl refl refl refl in
       let u = unwound depths same d m (omega arith) (omega arith) (passing-on k (put .onward)) in
       record { p = u .p; top-is = u .top-is; count-is = omega (arith, u .count-is); passing = u .passing }
 
 -- ---- the walk over all names
 
 -- the writer's state where count is the number of its records, of the names that it has not yet come to and of the open nodes
-pub record Uncounted (s : Bytes) (n : ℕ) (depths : List ℕ) (top count j : ℕ) : Type 0 where
+pub record Uncounted (ρ : Rule) (s : Bytes) (n : ℕ) (depths : List ℕ) (top count j : ℕ) : Type 0 where
   pub frames : List ℕ
   pub same : SameDepths frames depths top
   pub written : ℕ
   pub end : ℕ
-  pub rowing : Rowing s n [] [] frames top written end j
+  pub rowing : Rowing ρ s n [] [] frames top written end j
   pub is : count ≡ written + j + top
   pub closed : j ≡ 0 → top ≡ 0
 
@@ -92,14 +92,14 @@ pub record Counting (n : ℕ) (shares depths : List ℕ) (top count j : ℕ) : T
   pub slots : length depths ≡ frameCount
   pub slot : top < frameCount
   pub few : count ≤ 2 * n + frameCount
-  pub state : (s : Bytes) (lens : List ℕ) → Ready s n lens shares → Uncounted s n depths top count j
+  pub state : (ρ : Rule) (s : Bytes) (lens counts : List ℕ) → Ready ρ s n lens counts shares → Uncounted ρ s n depths top count j
 
 module _ {n : ℕ} {shares : List ℕ} (a : CountAsk n shares) where
   -- what is so for every list of which this is noted is so for the one that there is
-  counting : {depths : List ℕ} {top count j : ℕ} → length depths ≡ frameCount → ((s : Bytes) (lens : List ℕ) → Ready s n lens shares → Uncounted s n depths top count j)
+  counting : {depths : List ℕ} {top count j : ℕ} → length depths ≡ frameCount → ((ρ : Rule) (s : Bytes) (lens counts : List ℕ) → Ready ρ s n lens counts shares → Uncounted ρ s n depths top count j)
       → Counting n shares depths top count j
   counting {depths} {top} {count} {j} slots state =
-      let o : Uncounted (a .list) n depths top count j = state (a .list) (a .lens) (a .ready) in
+      let o : Uncounted (a .ρ) (a .list) n depths top count j = state (a .ρ) (a .list) (a .lens) (a .counts) (a .ready) in
       record {
         low = o .rowing .low;
         sentinel = sym (o .same 0 zero-le) ∙ o .rowing .framed .sentinel;
@@ -110,7 +110,7 @@ module _ {n : ℕ} {shares : List ℕ} (a : CountAsk n shares) where
       }
 
   pub counting-start : Counting n shares (replicate frameCount 0) 0 n n
-  counting-start = counting refl (λ s lens ready. record {
+  counting-start = counting refl (λ ρ s lens counts ready. record {
     frames = replicate (frameSize * frameCount) 0;
     same = λ t l. let e : t ≡ 0 = omega arith in rw e refl;
     written = 0;
@@ -123,21 +123,21 @@ module _ {n : ℕ} {shares : List ℕ} (a : CountAsk n shares) where
   module _ {depths : List ℕ} {top count j : ℕ} (k : Counting n shares depths top count j) where
     pub counting-all : j ≤ 0 → NodeCount n shares count
     unfolding NodeCount
-    counting-all h s lens ready =
-        let o : Uncounted s n depths top count j = k .state s lens ready in
+    counting-all h ρ s lens counts ready =
+        let o : Uncounted ρ s n depths top count j = k .state ρ s lens counts ready in
         o .is ∙ omega (arith, o .closed (omega arith), rowing-all ready (o .rowing) h .nodes)
 
     module _ (h : 0 < j) (left : ℕ) where
       pub counting-narrow : (j - 1 ≡ 0 → left ≡ 0) → (0 < j - 1 → left ≡ suc (getD shares (j - 1) 0)) → Fits w8 left
       counting-narrow z l =
-          let o : Uncounted (a .list) n depths top count j = k .state (a .list) (a .lens) (a .ready) in
+          let o : Uncounted (a .ρ) (a .list) n depths top count j = k .state (a .ρ) (a .list) (a .lens) (a .counts) (a .ready) in
           omega (arith, rowing-left (a .ready) (o .rowing) h _ refl left z l)
 
       module _ {r : ℕ} (u : StaysOpen depths left top r) (z : j - 1 ≡ 0 → left ≡ 0) (l : 0 < j - 1 → left ≡ suc (getD shares (j - 1) 0)) (x : ℕ) (d : x ≡ getD depths r 0) where
         -- of a list: name j - 1 has its leaf, and the frames above number r are closed
-        module _ (s : Bytes) (lens : List ℕ) (ready : Ready s n lens shares) where
-          o : Uncounted s n depths top count j
-          o = k .state s lens ready
+        module _ (ρ : Rule) (s : Bytes) (lens counts : List ℕ) (ready : Ready ρ s n lens counts shares) where
+          o : Uncounted ρ s n depths top count j
+          o = k .state ρ s lens counts ready
 
           abbrev len : ℕ
           len = getD lens (j - 1) 0
@@ -145,10 +145,10 @@ module _ {n : ℕ} {shares : List ℕ} (a : CountAsk n shares) where
           abbrev name : Bytes
           name = take (o .end - (o .end - len)) (drop (o .end - len) s)
 
-          ask : NameAsk name 0 (j - 1) left (o .frames) top (o .written) []
+          ask : NameAsk ρ name 0 (j - 1) left (o .frames) top (o .written) []
           ask = rowing-name ready (o .rowing) h len refl left z l
 
-          closed : Unwound name 0 (j - 1) left (o .frames) top (o .written) r (o .written + 1 + (top - r))
+          closed : Unwound ρ name 0 (j - 1) left (o .frames) top (o .written) r (o .written + 1 + (top - r))
           closed =
               unwound ask depths (o .same) (u .above) (top - r) (omega arith) (omega (arith, u .above .within))
               (leaf-put (back-full [] (o .written) _ (omega arith)) ask _ _ refl refl refl .passing)
@@ -157,7 +157,7 @@ module _ {n : ℕ} {shares : List ℕ} (a : CountAsk n shares) where
           top-depth : x ≡ depthIn (o .frames) (closed .p .top)
           top-depth = d ∙ sym (o .same r (u .above .within)) ∙ ap (depthIn (o .frames)) (sym (closed .top-is))
 
-          put : NamePut name 0 (j - 1) left (o .frames) top (o .written) [] (closed .p) []
+          put : NamePut ρ name 0 (j - 1) left (o .frames) top (o .written) [] (closed .p) []
           put = record { passing = closed .passing; shallow = omega (arith, top-depth, u .shallow) }
 
           -- frames deepen, so at the first name none is left
@@ -169,23 +169,23 @@ module _ {n : ℕ} {shares : List ℕ} (a : CountAsk n shares) where
                 u .shallow,
                 top-depth,
                 closed .top-is,
-                open-depth (words s) (ready-rises ready) (o .frames) (o .rowing .framed .sentinel) (rowing-closing ready (o .rowing) h len refl left z l put .cur .open-rows),
+                open-depth (words ρ s) (ready-rises ready) (o .frames) (o .rowing .framed .sentinel) (rowing-closing ready (o .rowing) h len refl left z l put .cur .open-rows),
               )
 
-          kept : left ≤ x → Uncounted s n depths r count (j - 1)
+          kept : left ≤ x → Uncounted ρ s n depths r count (j - 1)
           kept g = record {
             frames = raised (o .frames) (closed .p .top) (closed .p .width);
             same = λ t b. frame-raised (o .frames) (closed .p .top) (closed .p .width) t .depth ∙ o .same t (omega (arith, u .above .within));
             written = closed .p .count;
             end = o .end - len - 1;
             rowing =
-                subst (λ (t : ℕ). Rowing s n [] [] (raised (o .frames) (closed .p .top) (closed .p .width)) t (closed .p .count) (o .end - len - 1) (j - 1)) (closed .top-is)
+                subst (λ (t : ℕ). Rowing ρ s n [] [] (raised (o .frames) (closed .p .top) (closed .p .width)) t (closed .p .count) (o .end - len - 1) (j - 1)) (closed .top-is)
                 (rowing-keep ready (o .rowing) h len refl left z l put x top-depth g _ refl);
             is = omega (arith, o .is, closed .count-is, u .above .within);
             closed = bottom;
           }
 
-          pushed : x < left → Uncounted s n (set depths (r + 1) left) (r + 1) (count + 1) (j - 1)
+          pushed : x < left → Uncounted ρ s n (set depths (r + 1) left) (r + 1) (count + 1) (j - 1)
           pushed g =
               let slot : r + 1 < frameCount = omega (arith, rowing-room ready (o .rowing) h len refl left z l put x top-depth g .slot, closed .top-is) in
               record {
@@ -199,17 +199,17 @@ module _ {n : ℕ} {shares : List ℕ} (a : CountAsk n shares) where
                 written = closed .p .count;
                 end = o .end - len - 1;
                 rowing =
-                    subst (λ (t : ℕ). Rowing s n [] [] (withFrame (o .frames) (t + 1) left (closed .p .width) (closed .p .end) (closed .p .mark)) (t + 1) (closed .p .count) (o .end - len - 1) (j - 1)) (closed .top-is)
+                    subst (λ (t : ℕ). Rowing ρ s n [] [] (withFrame (o .frames) (t + 1) left (closed .p .width) (closed .p .end) (closed .p .mark)) (t + 1) (closed .p .count) (o .end - len - 1) (j - 1)) (closed .top-is)
                     (rowing-push ready (o .rowing) h len refl left z l put x top-depth g _ refl);
                 is = omega (arith, o .is, closed .count-is, u .above .within);
                 closed = λ q. absurd (lt-irrefl x (omega (arith, z q)));
               }
 
         pub counting-keep : left ≤ x → Counting n shares depths r count (j - 1)
-        counting-keep g = counting (k .slots) (λ s lens ready. kept s lens ready g)
+        counting-keep g = counting (k .slots) (λ ρ s lens counts ready. kept ρ s lens counts ready g)
 
         pub counting-push : x < left → Counting n shares (set depths (r + 1) left) (r + 1) (count + 1) (j - 1)
-        counting-push g = counting (length-set depths (r + 1) left ∙ k .slots) (λ s lens ready. pushed s lens ready g)
+        counting-push g = counting (length-set depths (r + 1) left ∙ k .slots) (λ ρ s lens counts ready. pushed ρ s lens counts ready g)
 
         -- there is a slot for one frame more
         pub counting-slot : x < left → r + 1 < frameCount

@@ -1,6 +1,6 @@
 -- Laws of the writer of the node table.
 --     back-full, back-more          a record in front of those at the end of a room
---     symbol-root .. symbol-under   the symbol that leads to a node, by a piece of a name
+--     symbol-root, symbol-under, symbol-past     the symbol that leads to a node, by a piece of a name
 --     leaf-put                      the leaf of a name
 --     node-some .. node-put         the node of the top frame
 --     Shutting: shutting-start, shutting-more; passing-on, passing-deeper, passing-done     frame after frame
@@ -14,10 +14,10 @@ use mathlib.Core.Path.{_≡_, refl, sym, ap, ap₂, _∙_, subst}
 use mathlib.Core.List.{List, [], _∷_, _++_}
 use lib.ListN.{length, getD, take, drop, length-append, length-drop, length-map, replicate}
 use lib.Seq.{drop-at, drop-drop, length-take-le, getD-drop, drop-length}
-use Rattle.words.specs.Words.{Bytes, Words, at, plain, shared, word}
+use Rattle.words.specs.Words.{Bytes, Rule, Words, at, shared, word}
 use Rattle.words.specs.Rising.{nth}
 use Rattle.words.proofs.Rising.{nth-less, span-all}
-use Rattle.words.proofs.Words.{at-past, less-short, plain-injective, shared-word}
+use Rattle.words.proofs.Words.{at-past, less-short}
 use Rattle.format.specs.Book.{allFields, fields, nodePart, numbers}
 use Rattle.format.specs.Spans.{nodeSize}
 use Rattle.format.specs.Nodes.{Node, leaf, table}
@@ -63,30 +63,30 @@ module _ (skip p : ℕ) (w : List ℕ) where
   pub symbol-root : p ≡ 0 → 0 ≡ symbolOf (p - skip) w
   symbol-root e = let z : p - skip ≡ 0 = omega arith in ap (λ (i : ℕ). symbolOf i w) (sym z)
 
-  pub symbol-past : (s : Bytes) → w ≡ word plain s → (p ≡ 0 → ⊥) → skip + length s < p → 0 ≡ symbolOf (p - skip) w
-  symbol-past s e z h =
-      let i : p - skip ≡ suc (p - 1 - skip) = omega arith in
-      sym (ap (λ (x : ℕ). symbolOf x w) i ∙ at-past w (p - 1 - skip) (omega (arith, ap length e, length-map s plain)))
-
   pub symbol-under : (r : ℕ) → (p ≡ 0 → ⊥) → skip ≤ pred p → r ≡ at w (p - 1 - skip) → r ≡ symbolOf (p - skip) w
   symbol-under r z h e = let i : p - skip ≡ suc (p - 1 - skip) = omega arith in e ∙ ap (λ (x : ℕ). symbolOf x w) (sym i)
+
+pub symbol-past : (ρ : Rule) (s : Bytes) (skip p : ℕ) → (p ≡ 0 → ⊥) → skip + length s < p → 0 ≡ symbolOf (p - skip) (word ρ s)
+symbol-past ρ s skip p z h =
+    let i : p - skip ≡ suc (p - 1 - skip) = omega arith in
+    sym (ap (λ (x : ℕ). symbolOf x (word ρ s)) i ∙ at-past (word ρ s) (p - 1 - skip) (omega (arith, length-map s ρ)))
 
 -- ---- a name, and the nodes that begin with it
 
 -- since the leaf the frames above number t are closed
-pub record Shutting (rest : Bytes) (skip j left : ℕ) (frames : List ℕ) (p : LeftOpen) (room₀ : Bytes) (q : LeftOpen) (room : Bytes) (t : ℕ) : Type 0 where
+pub record Shutting (ρ : Rule) (rest : Bytes) (skip j left : ℕ) (frames : List ℕ) (p : LeftOpen) (room₀ : Bytes) (q : LeftOpen) (room : Bytes) (t : ℕ) : Type 0 where
   pub same : t ≡ q .top
-  pub onward : Onward rest skip j left frames p room₀ q room
+  pub onward : Onward ρ rest skip j left frames p room₀ q room
 
-module _ {rest : Bytes} {skip j left : ℕ} where
-  module _ {ws : Words} (a : NameAt ws rest skip j left) where
+module _ {ρ : Rule} {rest : Bytes} {skip j left : ℕ} where
+  module _ {ws : Words} (a : NameAt ρ ws rest skip j left) where
     -- no symbol is asked for that is not lent
-    symbol-is : (p : ℕ) → left ≤ p → symbolOf (p - skip) (word plain rest) ≡ symbolOf p (nth ws j)
-    symbol-is zero h = sym (symbol-root skip zero (word plain rest) refl)
+    symbol-is : (p : ℕ) → left ≤ p → symbolOf (p - skip) (word ρ rest) ≡ symbolOf p (nth ws j)
+    symbol-is zero h = sym (symbol-root skip zero (word ρ rest) refl)
     symbol-is (suc p) h =
         let i : suc p - skip ≡ suc (p - skip) = omega (arith, a .skipped) in
         let back : skip + (p - skip) ≡ p = omega (arith, a .skipped) in
-        ap (λ (x : ℕ). symbolOf x (word plain rest)) i ∙ ap (λ (x : List ℕ). at x (p - skip)) (sym (a .piece))
+        ap (λ (x : ℕ). symbolOf x (word ρ rest)) i ∙ ap (λ (x : List ℕ). at x (p - skip)) (sym (a .piece))
         ∙ getD-drop skip (nth ws j) (p - skip) 0 ∙ ap (at (nth ws j)) back
 
     module _ {frames : List ℕ} where
@@ -131,9 +131,9 @@ module _ {rest : Bytes} {skip j left : ℕ} where
             }
 
   module _ {frames : List ℕ} where
-    pub leaf-put : {room₀ room : Bytes} {count sy : ℕ} → PutBack room₀ room count (nodeBy sy (skip + length rest + 1) j 1 1 (skip + length rest)) → {top : ℕ} → NameAsk rest skip j left frames top count room₀
-        → (x p : ℕ) → x ≡ depthIn frames top → p ≡ max left x → sy ≡ symbolOf (p - skip) (word plain rest)
-        → LeafPut rest skip j left frames top count room₀ (record { top = top; count = count + 1; end = j + 1; mark = count; width = skip + length rest }) room
+    pub leaf-put : {room₀ room : Bytes} {count sy : ℕ} → PutBack room₀ room count (nodeBy sy (skip + length rest + 1) j 1 1 (skip + length rest)) → {top : ℕ} → NameAsk ρ rest skip j left frames top count room₀
+        → (x p : ℕ) → x ≡ depthIn frames top → p ≡ max left x → sy ≡ symbolOf (p - skip) (word ρ rest)
+        → LeafPut ρ rest skip j left frames top count room₀ (record { top = top; count = count + 1; end = j + 1; mark = count; width = skip + length rest }) room
     leaf-put put {top} ask x p d e f = record {
       passing = record {
         kept = put .kept;
@@ -144,7 +144,7 @@ module _ {rest : Bytes} {skip j left : ℕ} where
       same = refl;
     }
 
-    module _ {p : LeftOpen} {room₀ : Bytes} (a : NodeAsk rest skip j left frames p room₀) where
+    module _ {p : LeftOpen} {room₀ : Bytes} (a : NodeAsk ρ rest skip j left frames p room₀) where
       last : Closes (a .ws) (a .name .rises) frames (a .closing .cur)
       last = closes (a .name) (a .framed) (a .deeper) (a .closing)
 
@@ -157,17 +157,17 @@ module _ {rest : Bytes} {skip j left : ℕ} where
       pub node-mark : (m : ℕ) → m ≡ markIn frames (p .top) → m ≤ p .count
       node-mark m is = omega (arith, last .mark-behind, a .closing .written .counted)
 
-    pub node-put : {room₀ room : Bytes} {p : LeftOpen} {sy d e m w : ℕ} → NodeAsk rest skip j left frames p room₀
-        → PutBack room₀ room (p .count) (nodeBy sy (d - 1) j (e - j) (p .count - m + 1) w) → (x q y : ℕ) → d ≡ depthIn frames (p .top) → e ≡ endIn frames (p .top) → m ≡ markIn frames (p .top)
+    pub node-put : {room₀ room : Bytes} {p : LeftOpen} {sy d e m t w : ℕ} → NodeAsk ρ rest skip j left frames p room₀
+        → PutBack room₀ room (p .count) (nodeBy sy (d - 1) j (e - j) t w) → t ≡ p .count - m + 1 → (x q y : ℕ) → d ≡ depthIn frames (p .top) → e ≡ endIn frames (p .top) → m ≡ markIn frames (p .top)
         → y ≡ widthIn frames (p .top) → w ≡ max (p .width) y
-        → x ≡ depthIn frames (p .top - 1) → q ≡ max left x → sy ≡ symbolOf (q - skip) (word plain rest)
-        → NodePut rest skip j left frames p room₀ (record { top = p .top - 1; count = p .count + 1; end = e; mark = m; width = w }) room
-    node-put {p = p} {sy = sy} {w = w} a put x q y de ee me ye we xe qe f = record {
+        → x ≡ depthIn frames (p .top - 1) → q ≡ max left x → sy ≡ symbolOf (q - skip) (word ρ rest)
+        → NodePut ρ rest skip j left frames p room₀ (record { top = p .top - 1; count = p .count + 1; end = e; mark = m; width = w }) room
+    node-put {p = p} {sy = sy} {w = w} a put te x q y de ee me ye we xe qe f = record {
       onward = record {
         kept = put .kept;
         down = omega arith;
         closing = λ ws name k. rw (ee, me, wide)
-            (node-closing name (a .framed) (a .deeper) k sy (f ∙ symbol-is name q (omega arith) ∙ ap (λ (i : ℕ). symbolOf i (nth ws j)) (qe ∙ ap (max left) xe)) (rw (de, ee, me, wide) at put));
+            (node-closing name (a .framed) (a .deeper) k sy (f ∙ symbol-is name q (omega arith) ∙ ap (λ (i : ℕ). symbolOf i (nth ws j)) (qe ∙ ap (max left) xe)) (rw (de, ee, te, me, wide) at put));
       };
       fewer = omega (arith, node-some a);
     }
@@ -177,11 +177,11 @@ module _ {rest : Bytes} {skip j left : ℕ} where
 
     -- ---- frame after frame
 
-    pub shutting-start : {top count : ℕ} {room₀ room : Bytes} {p : LeftOpen} → LeafPut rest skip j left frames top count room₀ p room → Shutting rest skip j left frames p room p room top
+    pub shutting-start : {top count : ℕ} {room₀ room : Bytes} {p : LeftOpen} → LeafPut ρ rest skip j left frames top count room₀ p room → Shutting ρ rest skip j left frames p room p room top
     shutting-start l = record { same = sym (l .same); onward = record { kept = refl; down = omega arith; closing = λ ws name k. k } }
 
-    pub shutting-more : {p q r : LeftOpen} {room₀ room new : Bytes} {t : ℕ} → Shutting rest skip j left frames p room₀ q room t
-        → NodePut rest skip j left frames q room r new → Shutting rest skip j left frames p room₀ r new (r .top)
+    pub shutting-more : {p q r : LeftOpen} {room₀ room new : Bytes} {t : ℕ} → Shutting ρ rest skip j left frames p room₀ q room t
+        → NodePut ρ rest skip j left frames q room r new → Shutting ρ rest skip j left frames p room₀ r new (r .top)
     shutting-more k n = record {
       same = refl;
       onward = record {
@@ -191,19 +191,19 @@ module _ {rest : Bytes} {skip j left : ℕ} where
       };
     }
 
-    pub passing-on : {top count : ℕ} {room₀ room new : Bytes} {p q : LeftOpen} → Passing rest skip j left frames top count room₀ p room → Onward rest skip j left frames p room q new
-        → Passing rest skip j left frames top count room₀ q new
+    pub passing-on : {top count : ℕ} {room₀ room new : Bytes} {p q : LeftOpen} → Passing ρ rest skip j left frames top count room₀ p room → Onward ρ rest skip j left frames p room q new
+        → Passing ρ rest skip j left frames top count room₀ q new
     passing-on k n = record {
       kept = n .kept ∙ k .kept;
       framed = record { sentinel = k .framed .sentinel; slots = k .framed .slots; slot = omega (arith, n .down, k .framed .slot) };
       closing = λ ws name behind. n .closing ws name (k .closing ws name behind);
     }
 
-    module _ {top count : ℕ} {room₀ room : Bytes} {p : LeftOpen} (k : Passing rest skip j left frames top count room₀ p room) {t : ℕ} (e : t ≡ p .top) (x : ℕ) (d : x ≡ depthIn frames t) where
+    module _ {top count : ℕ} {room₀ room : Bytes} {p : LeftOpen} (k : Passing ρ rest skip j left frames top count room₀ p room) {t : ℕ} (e : t ≡ p .top) (x : ℕ) (d : x ≡ depthIn frames t) where
       top-depth : x ≡ depthIn frames (p .top)
       top-depth = d ∙ ap (depthIn frames) e
 
-      pub passing-deeper : NameAsk rest skip j left frames top count room₀ → left < x → NodeAsk rest skip j left frames p room
+      pub passing-deeper : NameAsk ρ rest skip j left frames top count room₀ → left < x → NodeAsk ρ rest skip j left frames p room
       passing-deeper a h = record {
         framed = k .framed;
         deeper = omega (arith, top-depth);
@@ -212,34 +212,33 @@ module _ {rest : Bytes} {skip j left : ℕ} where
         closing = k .closing (a .ws) (a .name) (a .behind);
       }
 
-      pub passing-done : x ≤ left → NamePut rest skip j left frames top count room₀ p room
+      pub passing-done : x ≤ left → NamePut ρ rest skip j left frames top count room₀ p room
       passing-done h = record { passing = k; shallow = omega (arith, top-depth) }
 
 -- ---- the walk over all names, from the last
 
-module _ {s : Bytes} {n : ℕ} {lens shares : List ℕ} (a : Ready s n lens shares) where
-  pub all-words : length (words s) ≡ n
-  all-words = omega (arith, words-length s, a .total)
+module _ {ρ : Rule} {s : Bytes} {n : ℕ} {lens counts shares : List ℕ} (a : Ready ρ s n lens counts shares) where
+  pub all-words : length (words ρ s) ≡ n
+  all-words = omega (arith, words-length ρ s, a .total)
 
   -- what a name shares with the one before was noted
-  left-is : (j left : ℕ) → j < n → (j ≡ 0 → left ≡ 0) → (0 < j → left ≡ suc (getD shares j 0)) → left ≡ leftOf (words s) j
+  left-is : (j left : ℕ) → j < n → (j ≡ 0 → left ≡ 0) → (0 < j → left ≡ suc (getD shares j 0)) → left ≡ leftOf (words ρ s) j
   left-is zero left h z l = z refl
   left-is (suc i) left h z l =
-      l (omega arith) ∙ ap suc (a .noted .common i (omega (arith, a .total)) ∙ sym (shared-word plain plain-injective (getD (names s) i []) (getD (names s) (suc i) []))
-      ∙ ap₂ shared (sym (ready-word a i)) (sym (ready-word a (suc i))))
+      l (omega arith) ∙ ap suc (a .noted .alike i (omega (arith, a .total)) ∙ ap₂ shared (sym (ready-word a i)) (sym (ready-word a (suc i))))
 
-  left-low : (j : ℕ) → j < n → leftOf (words s) j ≤ 200
+  left-low : (j : ℕ) → j < n → leftOf (words ρ s) j ≤ 200
   left-low zero h = zero-le
   left-low (suc i) h =
       omega (
         arith,
-        less-short (nth (words s) i) (nth (words s) (suc i)) (nth-less (words s) i (suc i) (ready-rises a) (omega arith) (omega (arith, all-words))),
+        less-short (nth (words ρ s) i) (nth (words ρ s) (suc i)) (nth-less (words ρ s) i (suc i) (ready-rises a) (omega arith) (omega (arith, all-words))),
         ap length (ready-word a (suc i)),
-        length-map (getD (names s) (suc i) []) plain,
+        length-map (getD (names s) (suc i) []) ρ,
         ready-size a (suc i) h .1,
       )
 
-  pub rowing-start : (room : Bytes) → Rowing s n room room (replicate (frameSize * frameCount) 0) 0 0 (length s) n
+  pub rowing-start : (room : Bytes) → Rowing ρ s n room room (replicate (frameSize * frameCount) 0) 0 0 (length s) n
   unfolding nodePart allFields numbers
   rowing-start room = record {
     low = omega arith;
@@ -253,10 +252,10 @@ module _ {s : Bytes} {n : ℕ} {lens shares : List ℕ} (a : Ready s n lens shar
       few = omega (arith, all-words);
     };
     rows = λ l. none (sym all-words);
-    all = λ e. sym (table-empty (words s) (omega (arith, all-words)));
+    all = λ e. sym (table-empty (words ρ s) (omega (arith, all-words)));
   }
 
-  module _ {room₀ room : Bytes} {frames : List ℕ} {top count end j : ℕ} (k : Rowing s n room₀ room frames top count end j) where
+  module _ {room₀ room : Bytes} {frames : List ℕ} {top count end j : ℕ} (k : Rowing ρ s n room₀ room frames top count end j) where
     module _ (h : 0 < j) (len : ℕ) (size : len ≡ getD lens (j - 1) 0) where
       abbrev i : ℕ
       i = j - 1
@@ -296,7 +295,7 @@ module _ {s : Bytes} {n : ℕ} {lens shares : List ℕ} (a : Ready s n lens shar
         pub rowing-left : left ≤ 200
         rowing-left = omega (arith, left-is i left in-list z l, left-low i in-list)
 
-        name : NameAt (words s) (take (end - (end - len)) (drop (end - len) s)) 0 i left
+        name : NameAt ρ (words ρ s) (take (end - (end - len)) (drop (end - len) s)) 0 i left
         name =
             let y : Bytes = getD (names s) i [] in
             let short : length (take (end - (end - len)) (drop (end - len) s)) ≡ length y = ap length lent-is in
@@ -304,34 +303,34 @@ module _ {s : Bytes} {n : ℕ} {lens shares : List ℕ} (a : Ready s n lens shar
               rises = ready-rises a;
               few = omega (arith, all-words, a .few);
               within = omega (arith, all-words);
-              piece = ready-word a i ∙ ap (word plain) (sym lent-is);
-              whole = ap length (ready-word a i) ∙ length-map y plain ∙ omega (arith, short);
+              piece = ready-word a i ∙ ap (word ρ) (sym lent-is);
+              whole = ap length (ready-word a i) ∙ length-map y ρ ∙ omega (arith, short);
               size = omega (arith, short, ready-size a i in-list .1);
               skipped = zero-le;
             }
 
-        behind : Behind (words s) i frames top count room
+        behind : Behind (words ρ s) i frames top count room
         behind = let b : pred j ≡ j - 1 = omega arith in record { done = k .done; written = rw is (k .written); rows = rw (is, ← b) (k .rows h) }
 
-        pub rowing-name : NameAsk (take (end - (end - len)) (drop (end - len) s)) 0 i left frames top count room
-        rowing-name = record { framed = k .framed; ws = words s; name = name; behind = behind }
+        pub rowing-name : NameAsk ρ (take (end - (end - len)) (drop (end - len) s)) 0 i left frames top count room
+        rowing-name = record { framed = k .framed; ws = words ρ s; name = name; behind = behind }
 
-        module _ {p : LeftOpen} {new : Bytes} (t : NamePut (take (end - (end - len)) (drop (end - len) s)) 0 i left frames top count room p new) where
-          pub rowing-closing : Closing (words s) i left frames p new
-          rowing-closing = t .passing .closing (words s) name behind
+        module _ {p : LeftOpen} {new : Bytes} (t : NamePut ρ (take (end - (end - len)) (drop (end - len) s)) 0 i left frames top count room p new) where
+          pub rowing-closing : Closing (words ρ s) i left frames p new
+          rowing-closing = t .passing .closing (words ρ s) name behind
 
-          cur : Cur (words s) frames i left (p .top) (p .end) (p .mark) (p .width) (rowing-closing .done)
+          cur : Cur (words ρ s) frames i left (p .top) (p .end) (p .mark) (p .width) (rowing-closing .done)
           cur = rowing-closing .cur
 
           -- no name is longer than 200 bytes
           narrow : p .width < 256
           narrow =
-              let end : p .end ≤ length (words s) = open-within (words s) (ready-rises a) frames (cur .open-rows) in
+              let end : p .end ≤ length (words ρ s) = open-within (words ρ s) (ready-rises a) frames (cur .open-rows) in
               omega (
                 arith,
                 cur .wide,
-                widest-low 200 (span-all (words s) i (p .end) (omega (arith, cur .some)) end (λ x l m.
-                    omega (arith, ap length (ready-word a x), length-map (getD (names s) x []) plain, ready-size a x (omega (arith, all-words)) .1))),
+                widest-low 200 (span-all (words ρ s) i (p .end) (omega (arith, cur .some)) end (λ x l m.
+                    omega (arith, ap length (ready-word a x), length-map (getD (names s) x []) ρ, ready-size a x (omega (arith, all-words)) .1))),
               )
 
           pub rowing-wide : RaiseAsk frames (p .top) (p .width)
@@ -341,22 +340,22 @@ module _ {s : Bytes} {n : ℕ} {lens shares : List ℕ} (a : Ready s n lens shar
           pub rowing-room : (x : ℕ) → x ≡ depthIn frames (p .top) → x < left → PushAsk frames left p
           rowing-room x d g = record {
             slots = k .framed .slots;
-            slot = omega (arith, open-depth (words s) (ready-rises a) frames (k .framed .sentinel) (cur .open-rows), rowing-left);
+            slot = omega (arith, open-depth (words ρ s) (ready-rises a) frames (k .framed .sentinel) (cur .open-rows), rowing-left);
             depth-fits = omega (arith, rowing-left);
             width-fits = narrow;
-            end-fits = omega (arith, open-within (words s) (ready-rises a) frames (cur .open-rows), all-words, a .few);
-            mark-fits = omega (arith, open-few (words s) (ready-rises a) frames (cur .open-rows) (cur .some), cur .behind, all-words, a .few);
+            end-fits = omega (arith, open-within (words ρ s) (ready-rises a) frames (cur .open-rows), all-words, a .few);
+            mark-fits = omega (arith, open-few (words ρ s) (ready-rises a) frames (cur .open-rows) (cur .some), cur .behind, all-words, a .few);
           }
 
-          left-shares : 0 < i → left ≡ suc (sharesAt (words s) i)
+          left-shares : 0 < i → left ≡ suc (sharesAt (words ρ s) i)
           left-shares g = left-is i left in-list z l ∙ go i g
             where
-              go : (m : ℕ) → 0 < m → leftOf (words s) m ≡ suc (sharesAt (words s) m)
+              go : (m : ℕ) → 0 < m → leftOf (words ρ s) m ≡ suc (sharesAt (words ρ s) m)
               go zero q = absurd (not-suc-le-zero q)
               go (suc m) q = refl
 
           pub rowing-keep : (x : ℕ) → x ≡ depthIn frames (p .top) → left ≤ x → (more : List ℕ) → more ≡ raised frames (p .top) (p .width)
-              → Rowing s n room₀ new more (p .top) (p .count) (end - len - 1) i
+              → Rowing ρ s n room₀ new more (p .top) (p .count) (end - len - 1) i
           rowing-keep x d g more e = rw e (record {
             low = omega (arith, k .low);
             here = start-is;
@@ -364,12 +363,12 @@ module _ {s : Bytes} {n : ℕ} {lens shares : List ℕ} (a : Ready s n lens shar
             framed = framed-raised (p .width) (t .passing .framed);
             done = rowing-closing .done;
             written = rowing-closing .written;
-            rows = λ q. cur-keep (words s) (ready-rises a) frames cur (k .framed .sentinel) q (left-shares q) (omega (arith, t .shallow)) (omega (arith, k .framed .slots, t .passing .framed .slot));
-            all = λ q. cur-all (words s) (ready-rises a) frames cur (k .framed .sentinel) q (z q) (t .shallow);
+            rows = λ q. cur-keep (words ρ s) (ready-rises a) frames cur (k .framed .sentinel) q (left-shares q) (omega (arith, t .shallow)) (omega (arith, k .framed .slots, t .passing .framed .slot));
+            all = λ q. cur-all (words ρ s) (ready-rises a) frames cur (k .framed .sentinel) q (z q) (t .shallow);
           })
 
           pub rowing-push : (x : ℕ) → x ≡ depthIn frames (p .top) → x < left → (more : List ℕ) → more ≡ withFrame frames (p .top + 1) left (p .width) (p .end) (p .mark)
-              → Rowing s n room₀ new more (p .top + 1) (p .count) (end - len - 1) i
+              → Rowing ρ s n room₀ new more (p .top + 1) (p .count) (end - len - 1) i
           rowing-push x d g more e = let slot : p .top + 1 < frameCount = rowing-room x d g .slot in rw (e, add-one (p .top)) (record {
             low = omega (arith, k .low);
             here = start-is;
@@ -377,13 +376,13 @@ module _ {s : Bytes} {n : ℕ} {lens shares : List ℕ} (a : Ready s n lens shar
             framed = framed-with left (p .width) (p .end) (p .mark) (t .passing .framed) (omega arith);
             done = rowing-closing .done;
             written = rowing-closing .written;
-            rows = λ q. cur-push (words s) (ready-rises a) frames cur (rowing-room x d g .end-fits) (rowing-room x d g .mark-fits) q (left-shares q) (omega arith) (omega (arith, k .framed .slots));
+            rows = λ q. cur-push (words ρ s) (ready-rises a) frames cur (rowing-room x d g .end-fits) (rowing-room x d g .mark-fits) q (left-shares q) (omega arith) (omega (arith, k .framed .slots));
             all = λ q. absurd (lt-irrefl 0 (omega (arith, z q)));
           })
 
-    pub rowing-all : j ≤ 0 → NodesPut s room₀ room count
+    pub rowing-all : j ≤ 0 → NodesPut ρ s room₀ room count
     rowing-all h =
-        let e : k .done ≡ table (words s) = k .all (omega arith) in
+        let e : k .done ≡ table (words ρ s) = k .all (omega arith) in
         record {
           nodes = k .written .counted ∙ ap length e;
           put = λ p.

@@ -1,12 +1,12 @@
 -- What counting the nodes asks and gives: a leaf for each name, and a node for each frame.
 --     Deeper, StaysOpen     frames that are deeper than a number; the top one of those that are not
---     CountAsk, NodeCount   what a judged list notes of its names; how many nodes any list has of which that is noted
+--     CountAsk, NodeCount   what a judged list notes of its names; how many nodes any list has, by any rule, of which that is noted
 -- The laws are in proofs/. Assumes nothing: these are definitions.
 use Prim.Native.Nat.{ℕ, _≤_, _<_}
 use mathlib.Core.Path.{_≡_}
 use mathlib.Core.List.{List}
 use lib.ListN.{length, getD}
-use Rattle.words.specs.Words.{Bytes}
+use Rattle.words.specs.Words.{Bytes, Rule}
 use Rattle.format.specs.Nodes.{table}
 use Rattle.records.specs.Lists.{Ready, words}
 
@@ -21,9 +21,11 @@ pub record StaysOpen (depths : List ℕ) (left top r : ℕ) : Type 0 where
   pub shallow : getD depths r 0 ≤ left
 
 pub record CountAsk (n : ℕ) (shares : List ℕ) : Type 0 where
+  pub ρ : Rule
   pub list : Bytes
   pub lens : List ℕ
-  pub ready : Ready list n lens shares
+  pub counts : List ℕ
+  pub ready : Ready ρ list n lens counts shares
 
 unfoldable pub NodeCount : ℕ → List ℕ → ℕ → Type 0
-NodeCount n shares r = (s : Bytes) (lens : List ℕ) → Ready s n lens shares → r ≡ length (table (words s))
+NodeCount n shares r = (ρ : Rule) (s : Bytes) (lens counts : List ℕ) → Ready ρ s n lens counts shares → r ≡ length (table (words ρ s))

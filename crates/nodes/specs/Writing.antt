@@ -6,18 +6,18 @@
 --     NameAsk           what is asked of a name; Passing: its leaf, and nodes in front of it; LeafPut, NamePut: none, and all of them
 --     NodeAsk, NodePut  the same of the node of one frame; Onward: of those of several
 --     PushAsk, RaiseAsk what one frame more asks, and names more in a frame
---     Rowing, NodesPut  the walk over all names; the whole table
+--     NodesAsk          what is asked of all names; Rowing: the walk over them; NodesPut: the whole table
 -- The laws are in proofs/. Assumes nothing: these are definitions.
 use Prim.Native.Nat.{ℕ, suc, pred, _+_, _*_, _≤_, _<_}
 use mathlib.Core.Path.{_≡_}
 use mathlib.Core.List.{List, _∷_}
 use lib.ListN.{length, drop}
 use Rattle.words.specs.Rising.{Rises, nth}
-use Rattle.words.specs.Words.{Bytes, Words, plain, word}
+use Rattle.words.specs.Words.{Bytes, Rule, Words, word}
 use Rattle.format.specs.Nodes.{Node, table}
 use Rattle.format.specs.Book.{nodePart}
 use Rattle.format.specs.Spans.{nodeSize}
-use Rattle.records.specs.Lists.{startOf, words}
+use Rattle.records.specs.Lists.{Ready, startOf, words}
 use Rattle.nodes.specs.Frames.{Cur, Framed, Open, Tail, depthIn, frameCount, frameSize}
 use Rattle.nodes.specs.declared.LeftOpen.{LeftOpen}
 
@@ -32,11 +32,11 @@ pub record Counted (n j w : ℕ) (room : Bytes) (done : List Node) : Type 0 wher
   pub few : w + 2 * j ≤ 2 * n
 
 -- `rest` is what word j has from symbol number `skip` on, and no symbol before it leads from a shifted depth of `left` or more
-pub record NameAt (ws : Words) (rest : Bytes) (skip j left : ℕ) : Type 0 where
+pub record NameAt (ρ : Rule) (ws : Words) (rest : Bytes) (skip j left : ℕ) : Type 0 where
   pub rises : Rises ws
   pub few : length ws ≤ 2000
   pub within : j < length ws
-  pub piece : drop skip (nth ws j) ≡ word plain rest
+  pub piece : drop skip (nth ws j) ≡ word ρ rest
   pub whole : length (nth ws j) ≡ skip + length rest
   pub size : skip + length rest ≤ 200
   pub skipped : skip ≤ pred left
@@ -55,44 +55,44 @@ pub record Closing (ws : Words) (j left : ℕ) (frames : List ℕ) (p : LeftOpen
 
 -- ---- one name
 
-pub record NameAsk (rest : Bytes) (skip j left : ℕ) (frames : List ℕ) (top count : ℕ) (room : Bytes) : Type 0 where
+pub record NameAsk (ρ : Rule) (rest : Bytes) (skip j left : ℕ) (frames : List ℕ) (top count : ℕ) (room : Bytes) : Type 0 where
   pub framed : Framed frames top
   pub ws : Words
-  pub name : NameAt ws rest skip j left
+  pub name : NameAt ρ ws rest skip j left
   pub behind : Behind ws j frames top count room
 
-pub record Passing (rest : Bytes) (skip j left : ℕ) (frames : List ℕ) (top count : ℕ) (room₀ : Bytes) (p : LeftOpen) (room : Bytes) : Type 0 where
+pub record Passing (ρ : Rule) (rest : Bytes) (skip j left : ℕ) (frames : List ℕ) (top count : ℕ) (room₀ : Bytes) (p : LeftOpen) (room : Bytes) : Type 0 where
   pub kept : length room ≡ length room₀
   pub framed : Framed frames (p .top)
-  pub closing : (ws : Words) → NameAt ws rest skip j left → Behind ws j frames top count room₀ → Closing ws j left frames p room
+  pub closing : (ws : Words) → NameAt ρ ws rest skip j left → Behind ws j frames top count room₀ → Closing ws j left frames p room
 
 -- no frame is closed yet
-pub record LeafPut (rest : Bytes) (skip j left : ℕ) (frames : List ℕ) (top count : ℕ) (room₀ : Bytes) (p : LeftOpen) (room : Bytes) : Type 0 where
-  pub passing : Passing rest skip j left frames top count room₀ p room
+pub record LeafPut (ρ : Rule) (rest : Bytes) (skip j left : ℕ) (frames : List ℕ) (top count : ℕ) (room₀ : Bytes) (p : LeftOpen) (room : Bytes) : Type 0 where
+  pub passing : Passing ρ rest skip j left frames top count room₀ p room
   pub same : p .top ≡ top
 
 -- no frame that is left is deeper than `left`
-pub record NamePut (rest : Bytes) (skip j left : ℕ) (frames : List ℕ) (top count : ℕ) (room₀ : Bytes) (p : LeftOpen) (room : Bytes) : Type 0 where
-  pub passing : Passing rest skip j left frames top count room₀ p room
+pub record NamePut (ρ : Rule) (rest : Bytes) (skip j left : ℕ) (frames : List ℕ) (top count : ℕ) (room₀ : Bytes) (p : LeftOpen) (room : Bytes) : Type 0 where
+  pub passing : Passing ρ rest skip j left frames top count room₀ p room
   pub shallow : depthIn frames (p .top) ≤ left
 
 -- ---- the nodes of frames
 
-pub record NodeAsk (rest : Bytes) (skip j left : ℕ) (frames : List ℕ) (p : LeftOpen) (room : Bytes) : Type 0 where
+pub record NodeAsk (ρ : Rule) (rest : Bytes) (skip j left : ℕ) (frames : List ℕ) (p : LeftOpen) (room : Bytes) : Type 0 where
   pub framed : Framed frames (p .top)
   pub deeper : left < depthIn frames (p .top)
   pub ws : Words
-  pub name : NameAt ws rest skip j left
+  pub name : NameAt ρ ws rest skip j left
   pub closing : Closing ws j left frames p room
 
 -- from p on to q
-pub record Onward (rest : Bytes) (skip j left : ℕ) (frames : List ℕ) (p : LeftOpen) (room₀ : Bytes) (q : LeftOpen) (room : Bytes) : Type 0 where
+pub record Onward (ρ : Rule) (rest : Bytes) (skip j left : ℕ) (frames : List ℕ) (p : LeftOpen) (room₀ : Bytes) (q : LeftOpen) (room : Bytes) : Type 0 where
   pub kept : length room ≡ length room₀
   pub down : q .top ≤ p .top
-  pub closing : (ws : Words) → NameAt ws rest skip j left → Closing ws j left frames p room₀ → Closing ws j left frames q room
+  pub closing : (ws : Words) → NameAt ρ ws rest skip j left → Closing ws j left frames p room₀ → Closing ws j left frames q room
 
-pub record NodePut (rest : Bytes) (skip j left : ℕ) (frames : List ℕ) (p : LeftOpen) (room₀ : Bytes) (q : LeftOpen) (room : Bytes) : Type 0 where
-  pub onward : Onward rest skip j left frames p room₀ q room
+pub record NodePut (ρ : Rule) (rest : Bytes) (skip j left : ℕ) (frames : List ℕ) (p : LeftOpen) (room₀ : Bytes) (q : LeftOpen) (room : Bytes) : Type 0 where
+  pub onward : Onward ρ rest skip j left frames p room₀ q room
   pub fewer : q .top < p .top
 
 -- ---- all names
@@ -111,18 +111,23 @@ pub record RaiseAsk (frames : List ℕ) (t width : ℕ) : Type 0 where
   pub slot : t < frameCount
   pub width-fits : width < 256
 
+-- a judged list
+pub record NodesAsk (ρ : Rule) (s : Bytes) (n : ℕ) (lens shares : List ℕ) : Type 0 where
+  pub counts : List ℕ
+  pub ready : Ready ρ s n lens counts shares
+
 -- The names from j on are written, and the name before j ends at `end`; the frames are those of the nodes that hold it.
-pub record Rowing (s : Bytes) (n : ℕ) (room₀ room : Bytes) (frames : List ℕ) (top count end j : ℕ) : Type 0 where
+pub record Rowing (ρ : Rule) (s : Bytes) (n : ℕ) (room₀ room : Bytes) (frames : List ℕ) (top count end j : ℕ) : Type 0 where
   pub low : j ≤ n
   pub here : end ≡ startOf s j
   pub kept : length room ≡ length room₀
   pub framed : Framed frames top
   pub done : List Node
-  pub written : Counted (length (words s)) j count room done
-  pub rows : 0 < j → Open (words s) frames (pred j) top j done
-  pub all : j ≡ 0 → done ≡ table (words s)
+  pub written : Counted (length (words ρ s)) j count room done
+  pub rows : 0 < j → Open (words ρ s) frames (pred j) top j done
+  pub all : j ≡ 0 → done ≡ table (words ρ s)
 
 -- r nodes; and their bytes, where the room is as long
-pub record NodesPut (s room₀ room : Bytes) (r : ℕ) : Type 0 where
-  pub nodes : r ≡ length (table (words s))
-  pub put : length room₀ ≡ length (table (words s)) * nodeSize → room ≡ nodePart (table (words s))
+pub record NodesPut (ρ : Rule) (s room₀ room : Bytes) (r : ℕ) : Type 0 where
+  pub nodes : r ≡ length (table (words ρ s))
+  pub put : length room₀ ≡ length (table (words ρ s)) * nodeSize → room ≡ nodePart (table (words ρ s))

@@ -6,12 +6,13 @@
 ghost use mathlib.Core.Path.{_≡_};
 ghost use Prim.Native.Nat.{suc, pred, _+_, _-_, _*_, _<_, _≤_};
 ghost use lib.ListN.{length, getD};
-ghost use Rattle.words.specs.Words.{plain, word};
+ghost use Rattle.words.specs.Words.{word};
+ghost use Rattle.symbols.specs.Rules.{ruleBy};
 ghost use Rattle.fields.specs.Node.{nodeOf};
-ghost use Rattle.records.specs.Lists.{Ready};
 ghost use Rattle.nodes.specs.Frames.{depthIn, endIn, frameCount, frameSize, markIn, raised, symbolOf, widthIn, withFrame};
 ghost use Rattle.nodes.specs.Counting.{CountAsk, NodeCount, StaysOpen};
-ghost use Rattle.nodes.specs.Writing.{LeafPut, NameAsk, NamePut, NodeAsk, NodePut, NodesPut, PushAsk, PutBack, RaiseAsk};
+ghost use Rattle.nodes.specs.Writing.{LeafPut, NameAsk, NamePut, NodeAsk, NodePut, NodesAsk, NodesPut, PushAsk, PutBack, RaiseAsk};
+use symbols::Rule;
 
 // How many bytes a frame has: one more than its node's depth and the greatest length of its names so far, in one each; where its names end
 // and how many records stand behind it, in two each.
@@ -22,9 +23,9 @@ const FRAMES: usize = 203;
 
 // What leads to a node from a parent whose depth is p - 1: symbol number p - 1 of a name that the node holds; 0 where p is 0, for the root.
 // The end symbol is 0, too: the compiler makes one test of both, and then `symbol_at` has none left.
-fn symbol_of(rest: &[u8], skip: usize, p: usize) -> usize
+fn symbol_of(rule: Rule, rest: &[u8], skip: usize, p: usize) -> usize
     requires { ⌜ (skip ≤ pred p) × (skip + length (now rest) ≤ 200) ⌝ }
-    ensures { λ r. ⌜ r ≡ symbolOf (p - skip) (word plain (now (rest .entry))) ⌝ }
+    ensures { λ r. ⌜ r ≡ symbolOf (p - skip) (word (ruleBy rule) (now (rest .entry))) ⌝ }
 {
     if p == 0 {
         return 0;
@@ -32,7 +33,7 @@ fn symbol_of(rest: &[u8], skip: usize, p: usize) -> usize
     if skip + rest.len() < p {
         return 0;
     }
-    symbols::symbol_at(rest, skip, p - 1)
+    symbols::symbol_at(rule, rest, skip, p - 1)
 }
 
 // A record in front of the w records at the end of the room, where there is place for it.
@@ -122,6 +123,7 @@ fn raise_frame(frames: &mut [u8], t: usize, width: usize)
 
 // The leaf of name j.
 fn put_leaf(
+    rule: Rule,
     rest: &[u8],
     skip: usize,
     j: usize,
@@ -131,13 +133,13 @@ fn put_leaf(
     count: usize,
     room: &mut [u8],
 ) -> LeftOpen
-    requires { ⌜ NameAsk (now rest) skip j left (now frames) top count (now room) ⌝ }
-    ensures { λ r. ⌜ LeafPut (now (rest .entry)) skip j left (now (frames .entry)) top count (now (room .entry)) r (now (room .exit)) ⌝ }
+    requires { ⌜ NameAsk (ruleBy rule) (now rest) skip j left (now frames) top count (now room) ⌝ }
+    ensures { λ r. ⌜ LeafPut (ruleBy rule) (now (rest .entry)) skip j left (now (frames .entry)) top count (now (room .entry)) r (now (room .exit)) ⌝ }
 {
     let p = numbers::greater(left, depth_in(frames, top));
     let length = skip + rest.len();
     let node = fields::Node {
-        symbol: symbol_of(rest, skip, p),
+        symbol: symbol_of(rule, rest, skip, p),
         depth: length + 1,
         first: j,
         names: 1,
@@ -156,6 +158,7 @@ fn put_leaf(
 
 // The node of the top frame, which begins with name j.
 fn close_node(
+    rule: Rule,
     rest: &[u8],
     skip: usize,
     j: usize,
@@ -164,8 +167,8 @@ fn close_node(
     p: LeftOpen,
     room: &mut [u8],
 ) -> LeftOpen
-    requires { ⌜ NodeAsk (now rest) skip j left (now frames) p (now room) ⌝ }
-    ensures { λ r. ⌜ NodePut (now (rest .entry)) skip j left (now (frames .entry)) p (now (room .entry)) r (now (room .exit)) ⌝ }
+    requires { ⌜ NodeAsk (ruleBy rule) (now rest) skip j left (now frames) p (now room) ⌝ }
+    ensures { λ r. ⌜ NodePut (ruleBy rule) (now (rest .entry)) skip j left (now (frames .entry)) p (now (room .entry)) r (now (room .exit)) ⌝ }
 {
     let top = p.top;
     let count = p.count;
@@ -174,7 +177,7 @@ fn close_node(
     let width = numbers::greater(p.width, width_in(frames, top));
     let q = numbers::greater(left, depth_in(frames, top - 1));
     let node = fields::Node {
-        symbol: symbol_of(rest, skip, q),
+        symbol: symbol_of(rule, rest, skip, q),
         depth: depth_in(frames, top) - 1,
         first: j,
         names: end - j,
@@ -193,6 +196,7 @@ fn close_node(
 
 // The leaf of name j, and in front of it each node that begins with j: those of the frames that are deeper than `left`.
 fn write_name(
+    rule: Rule,
     rest: &[u8],
     skip: usize,
     j: usize,
@@ -202,22 +206,29 @@ fn write_name(
     count: usize,
     room: &mut [u8],
 ) -> LeftOpen
-    requires { ⌜ NameAsk (now rest) skip j left (now frames) top count (now room) ⌝ }
-    ensures { λ r. ⌜ NamePut (now (rest .entry)) skip j left (now (frames .entry)) top count (now (room .entry)) r (now (room .exit)) ⌝ }
+    requires { ⌜ NameAsk (ruleBy rule) (now rest) skip j left (now frames) top count (now room) ⌝ }
+    ensures { λ r. ⌜ NamePut (ruleBy rule) (now (rest .entry)) skip j left (now (frames .entry)) top count (now (room .entry)) r (now (room .exit)) ⌝ }
 {
-    let mut p = put_leaf(rest, skip, j, left, frames, top, count, room);
+    let mut p = put_leaf(rule, rest, skip, j, left, frames, top, count, room);
     let mut frame = top;
     while left < depth_in(frames, frame) {
-        p = close_node(rest, skip, j, left, frames, p, room);
+        p = close_node(rule, rest, skip, j, left, frames, p, room);
         frame = p.top;
     }
     p
 }
 
 // The node table, where the room is as long; and the number of nodes.
-pub fn write_nodes(list: &[u8], n: usize, lens: &[u8], shares: &[u8], room: &mut [u8]) -> usize
-    requires { ⌜ Ready (now list) n (now lens) (now shares) ⌝ }
-    ensures { λ r. ⌜ NodesPut (now (list .entry)) (now (room .entry)) (now (room .exit)) r ⌝ }
+pub fn write_nodes(
+    rule: Rule,
+    list: &[u8],
+    n: usize,
+    lens: &[u8],
+    shares: &[u8],
+    room: &mut [u8],
+) -> usize
+    requires { ⌜ NodesAsk (ruleBy rule) (now list) n (now lens) (now shares) ⌝ }
+    ensures { λ r. ⌜ NodesPut (ruleBy rule) (now (list .entry)) (now (room .entry)) (now (room .exit)) r ⌝ }
 {
     let mut frames = [0u8; FRAME * FRAMES];
     let mut top: usize = 0;
@@ -228,7 +239,17 @@ pub fn write_nodes(list: &[u8], n: usize, lens: &[u8], shares: &[u8], room: &mut
         j -= 1;
         let left = left_of(shares, j);
         let from = end - numbers::wide(lens[j]);
-        let p = write_name(&list[from..end], 0, j, left, &frames, top, count, room);
+        let p = write_name(
+            rule,
+            &list[from..end],
+            0,
+            j,
+            left,
+            &frames,
+            top,
+            count,
+            room,
+        );
         end = from - 1;
         top = p.top;
         count = p.count;

@@ -1,4 +1,6 @@
 -- Laws of a list that is read. No contract cites them.
+pub mod Names
+pub mod Alike
 pub mod Reading
 pub mod Starts
 pub mod Verdicts

@@ -3,31 +3,34 @@
 --     ReadUpTo, Reads            so many names are read, and noted: reads-start
 --     StandsAt, stands-at        the next record begins here, with this length
 --     Comparing                  it is of good length, and its name agrees with the last so far: comparing-start, byte-same
---     ComesApart                     and no further: one-ends, bytes-differ
---     NewAbove                   its name is above the last: old-ends, byte-above; reads-noted, reads-passed, list-falls
+--     ComesApart                 and no further: one-ends, bytes-differ, rests-part
+--     Alike                      its name has so many symbols of the last: symbols-alike, new-there
+--     NewAbove                   its name is above the last: old-ends, symbol-above; reads-noted, reads-passed, list-falls
 --     good-list                  how a list is judged that reads well
---     no-name, long-name, cut-name, new-ends, byte-below, too-many     and one that is refused
+--     no-name, long-name, cut-name, new-ends, symbol-not-above, too-many     and one that is refused
 -- Assumes nothing.
 use Prim.Native.Nat.{ℕ, suc, _+_, _-_, _≤_, _<_, min, zero-le}
-use native.Mathlib.Nat.{lt-irrefl, not-suc-le-zero}
+use native.Mathlib.Nat.{add-zero, lt-irrefl, not-suc-le-zero}
 use native.Mathlib.Decide.{ℕ-discrete}
 use native.Mathlib.Numerals.{add-one}
 use native.Mathlib.Omega.{arith}
 use mathlib.Core.Path.{_≡_, refl, sym, ap, ap₂, _∙_, subst}
-use mathlib.Core.Bool.{Bool, true, false}
+use mathlib.Core.Bool.{Bool, true, false, not}
 use mathlib.Core.List.{List, [], _∷_, _++_, append-assoc, append-nil}
 use lib.Dec.{leb, ltb}
 use lib.ListN.{length, length-map, getD, set, take, drop, length-append, length-drop, length-set, drop-of-length-le, List·getD-append}
 use lib.Seq.{drop-cons, drop-drop, getD-at, getD-take, getD-drop, getD-set-same, getD-set-other}
-use borrow.Author.Tests.{lt-ltb, le-ltb, le-leb, lt-leb}
-use Rattle.words.specs.Words.{Bytes, at, both, less, pick, plain, shared, word}
-use Rattle.words.proofs.Words.{at-past, less-by, part-at, plain-injective, shared-comm, shared-le, shared-more, shared-word, word-at}
+use borrow.Author.Tests.{lt-ltb, le-ltb, le-leb, lt-leb, not-false, not-true}
+use Rattle.words.specs.Words.{Bytes, Lawful, Rule, at, both, less, pick, shared, word}
+use Rattle.words.proofs.Words.{at-past, less-by, part-at, shared-comm, shared-le, shared-more, word-at}
 use Rattle.format.specs.Outcomes.{given}
 use Rattle.format.specs.Records.{Names, Reading, Refused, after, goodLength, readFrom, readList}
 use Rattle.format.proofs.Records.{read-refused, read-skip}
 use Rattle.numbers.proofs.Parts.{part-length}
+use Rattle.symbols.specs.Parting.{Parted}
 use Rattle.records.specs.declared.Verdict.the-variants.{Good, Bad}
 use Rattle.records.specs.Lists.{Judged, Noted, namesIn, readingOf}
+use Rattle.records.proofs.Alike.{alike-on, part-rest}
 
 -- ---- which of two names is less
 
@@ -35,34 +38,34 @@ abbrev pub part : Bytes → ℕ → ℕ → Bytes
 part s from size = take size (drop from s)
 
 -- symbol number i of the name there
-abbrev symbol : Bytes → ℕ → ℕ → ℕ → ℕ
-symbol s from size i = at (word plain (part s from size)) i
+abbrev symbol : Rule → Bytes → ℕ → ℕ → ℕ → ℕ
+symbol ρ s from size i = at (word ρ (part s from size)) i
 
 module _ (s : Bytes) (from size : ℕ) (inside : from + size ≤ length s) where
   part-byte : (i : ℕ) → i < size → getD (part s from size) i 0 ≡ getD s (from + i) 0
   part-byte i h = rw (getD-take, getD-drop)
 
-  symbol-in : (i : ℕ) → i < size → symbol s from size i ≡ suc (getD s (from + i) 0)
-  symbol-in i h = word-at plain (part s from size) i (omega (arith, part-length s from size inside)) ∙ ap suc (part-byte i h)
+  symbol-in : (ρ : Rule) (i : ℕ) → i < size → symbol ρ s from size i ≡ ρ (getD s (from + i) 0)
+  symbol-in ρ i h = word-at ρ (part s from size) i (omega (arith, part-length s from size inside)) ∙ ap ρ (part-byte i h)
 
-  symbol-past : (i : ℕ) → size ≤ i → symbol s from size i ≡ 0
-  symbol-past i h = at-past (word plain (part s from size)) i (omega (arith, part-length s from size inside, length-map (part s from size) plain))
+  symbol-past : (ρ : Rule) (i : ℕ) → size ≤ i → symbol ρ s from size i ≡ 0
+  symbol-past ρ i h = at-past (word ρ (part s from size)) i (omega (arith, part-length s from size inside, length-map (part s from size) ρ))
 
 -- ---- what is noted
 
-noted-none : (lens shares : List ℕ) → Noted [] lens shares
-noted-none lens shares = record {
+noted-none : (ρ : Rule) (lens counts shares : List ℕ) → Noted ρ [] lens counts shares
+noted-none ρ lens counts shares = record {
   lens-room = zero-le;
+  counts-room = zero-le;
   shares-room = zero-le;
   sizes = λ i h. absurd (not-suc-le-zero h);
   first = λ h. absurd (not-suc-le-zero h);
   common = λ i h. absurd (not-suc-le-zero h);
+  alike = λ i h. absurd (not-suc-le-zero h);
 }
 
--- one name more, of m bytes, that shares k with the last
-module _ (xs : List Bytes) (x : Bytes) (lens shares : List ℕ) (n m k : ℕ) (noted : Noted xs lens shares) (counted : length xs ≡ n)
-    (in-lens : n < length lens) (in-shares : n < length shares) (size : length x ≡ m)
-    (alone : n ≡ 0 → k ≡ 0) (next : (i : ℕ) → suc i ≡ n → k ≡ shared (getD xs i []) x) where
+-- one name more
+module _ (xs : List Bytes) (x : Bytes) (n : ℕ) (counted : length xs ≡ n) where
   longer : length (xs ++ (x ∷ [])) ≡ suc n
   longer = length-append xs (x ∷ []) ∙ omega arith
 
@@ -72,23 +75,34 @@ module _ (xs : List Bytes) (x : Bytes) (lens shares : List ℕ) (n m k : ℕ) (n
   old-at : (i : ℕ) → i < n → getD (xs ++ (x ∷ [])) i [] ≡ getD xs i []
   old-at i h = List·getD-append xs (x ∷ []) [] i (omega arith)
 
-  noted-more : Noted (xs ++ (x ∷ [])) (set lens n m) (set shares n k)
-  noted-more = record {
+  -- a row that has a number for each name and the one before: one number more, that of the last name and this one
+  row-more : (of : Bytes → Bytes → ℕ) (row : List ℕ) (k : ℕ) → n < length row → ((i : ℕ) → suc i ≡ n → k ≡ of (getD xs i []) x)
+      → ((i : ℕ) → suc i < length xs → getD row (suc i) 0 ≡ of (getD xs i []) (getD xs (suc i) []))
+      → (i : ℕ) → suc i < length (xs ++ (x ∷ [])) → getD (set row n k) (suc i) 0 ≡ of (getD (xs ++ (x ∷ [])) i []) (getD (xs ++ (x ∷ [])) (suc i) [])
+  row-more of row k inside next so-far i h = elim (ℕ-discrete (suc i) n) [
+    | yes e ↦ rw (old-at i (omega arith), new-at (suc i) e, ← e, getD-set-same row (suc i) k 0 (omega arith)) (next i e)
+    | no o ↦ getD-set-other row n (suc i) k 0 o ∙ so-far i (omega (arith, longer))
+        ∙ ap₂ of (sym (old-at i (omega (arith, longer)))) (sym (old-at (suc i) (omega (arith, longer))))
+  ]
+
+  -- it has m bytes, and shares k of them and j symbols with the last
+  noted-more : {ρ : Rule} {lens counts shares : List ℕ} (m k j : ℕ) → Noted ρ xs lens counts shares → n < length lens → n < length counts → n < length shares → length x ≡ m
+      → (n ≡ 0 → k ≡ 0) → ((i : ℕ) → suc i ≡ n → k ≡ shared (getD xs i []) x) → ((i : ℕ) → suc i ≡ n → j ≡ shared (word ρ (getD xs i [])) (word ρ x))
+      → Noted ρ (xs ++ (x ∷ [])) (set lens n m) (set counts n k) (set shares n j)
+  noted-more {ρ} {lens} {counts} {shares} m k j noted in-lens in-counts in-shares size alone next alike = record {
     lens-room = omega (arith, longer, length-set lens n m);
-    shares-room = omega (arith, longer, length-set shares n k);
+    counts-room = omega (arith, longer, length-set counts n k);
+    shares-room = omega (arith, longer, length-set shares n j);
     sizes = λ i h. elim (ℕ-discrete i n) [
       | yes e ↦ rw (e, getD-set-same lens n m 0 in-lens, new-at n refl) (sym size)
       | no o ↦ getD-set-other lens n i m 0 o ∙ noted .sizes i (omega (arith, longer)) ∙ ap length (sym (old-at i (omega (arith, longer))))
     ];
     first = λ h. elim (ℕ-discrete 0 n) [
-      | yes e ↦ rw (← e, getD-set-same shares 0 k 0 (omega arith)) (alone (sym e))
-      | no o ↦ getD-set-other shares n 0 k 0 o ∙ noted .first (omega arith)
+      | yes e ↦ rw (← e, getD-set-same counts 0 k 0 (omega arith)) (alone (sym e))
+      | no o ↦ getD-set-other counts n 0 k 0 o ∙ noted .first (omega arith)
     ];
-    common = λ i h. elim (ℕ-discrete (suc i) n) [
-      | yes e ↦ rw (old-at i (omega arith), new-at (suc i) e, ← e, getD-set-same shares (suc i) k 0 (omega arith)) (next i e)
-      | no o ↦ getD-set-other shares n (suc i) k 0 o ∙ noted .common i (omega (arith, longer))
-          ∙ ap₂ shared (sym (old-at i (omega (arith, longer)))) (sym (old-at (suc i) (omega (arith, longer))))
-    ];
+    common = row-more shared counts k in-counts next (noted .common);
+    alike = row-more (λ a b. shared (word ρ a) (word ρ b)) shares j in-shares alike (noted .alike);
   }
 
 -- ---- the walk over the records
@@ -107,27 +121,29 @@ onto-after xs x (Names ys) = ap Names (sym (append-assoc xs (x ∷ []) ys))
 onto-after xs x (Refused code record-number) = refl
 
 -- n names are read, which are noted; the next record begins at o, and the last name has m bytes at p
-pub record ReadUpTo (s : Bytes) (most : ℕ) (lens shares : List ℕ) (o p m n : ℕ) : Type 0 where
+pub record ReadUpTo (ρ : Rule) (s : Bytes) (most : ℕ) (lens counts shares : List ℕ) (o p m n : ℕ) : Type 0 where
+  pub lawful : Lawful ρ
   pub within : o ≤ length s
   pub inside : p + m ≤ length s
   pub few : n ≤ most
-  pub rows : length lens ≡ length shares
+  pub counts-row : length lens ≡ length counts
+  pub shares-row : length lens ≡ length shares
   pub done : List Bytes
   pub counted : length done ≡ n
   pub alone : n ≡ 0 → m ≡ 0
   pub last : (i : ℕ) → suc i ≡ n → getD done i [] ≡ part s p m
-  pub noted : most ≤ length lens → Noted done lens shares
-  pub so-far : readList plain most s ≡ onto done (readFrom plain most n (part s p m) 0 (drop o s))
+  pub noted : most ≤ length lens → Noted ρ done lens counts shares
+  pub so-far : readList ρ most s ≡ onto done (readFrom ρ most n (part s p m) 0 (drop o s))
 
 -- a record begins at o, with the length len
-pub record StandsAt (s : Bytes) (most : ℕ) (lens shares : List ℕ) (o p m n len : ℕ) : Type 0 where
-  pub read : ReadUpTo s most lens shares o p m n
+pub record StandsAt (ρ : Rule) (s : Bytes) (most : ℕ) (lens counts shares : List ℕ) (o p m n len : ℕ) : Type 0 where
+  pub read : ReadUpTo ρ s most lens counts shares o p m n
   pub here : o < length s
   pub byte : len ≡ getD s o 0
 
 -- all of it is there, and its name agrees with the last in the first i bytes
-pub record Comparing (s : Bytes) (most : ℕ) (lens shares : List ℕ) (o p m n len i : ℕ) : Type 0 where
-  pub stands : StandsAt s most lens shares o p m n len
+pub record Comparing (ρ : Rule) (s : Bytes) (most : ℕ) (lens counts shares : List ℕ) (o p m n len i : ℕ) : Type 0 where
+  pub stands : StandsAt ρ s most lens counts shares o p m n len
   pub some : 0 < len
   pub short : len ≤ 200
   pub whole : o + 1 + len ≤ length s
@@ -135,90 +151,100 @@ pub record Comparing (s : Bytes) (most : ℕ) (lens shares : List ℕ) (o p m n 
   pub in-new : i ≤ len
   pub agree : i ≤ shared (part s p m) (part s (o + 1) len)
 
-module _ {s : Bytes} {most : ℕ} {lens shares : List ℕ} {o p m n len i : ℕ} where
+module _ {ρ : Rule} {s : Bytes} {most : ℕ} {lens counts shares : List ℕ} {o p m n len i : ℕ} where
   -- and in no more
-  pub record ComesApart (k : Comparing s most lens shares o p m n len i) : Type 0 where
+  pub record ComesApart (k : Comparing ρ s most lens counts shares o p m n len i) : Type 0 where
     pub common : i ≡ shared (part s p m) (part s (o + 1) len)
 
-  pub record NewAbove (k : Comparing s most lens shares o p m n len i) : Type 0 where
+  -- the names have j symbols in common
+  pub record Alike (k : Comparing ρ s most lens counts shares o p m n len i) (j : ℕ) : Type 0 where
     pub parted : ComesApart k
-    pub above : less (word plain (part s p m)) (word plain (part s (o + 1) len)) ≡ true
+    pub common : j ≡ shared (word ρ (part s p m)) (word ρ (part s (o + 1) len))
+    pub in-old : j ≤ m
+    pub in-new : j ≤ len
 
-reading-start : (s : Bytes) (most : ℕ) (lens shares : List ℕ) → length lens ≡ length shares → ReadUpTo s most lens shares 0 0 0 0
+  pub record NewAbove (k : Comparing ρ s most lens counts shares o p m n len i) (j : ℕ) : Type 0 where
+    pub alike : Alike k j
+    pub above : less (word ρ (part s p m)) (word ρ (part s (o + 1) len)) ≡ true
+
+reading-start : (ρ : Rule) → Lawful ρ → (s : Bytes) (most : ℕ) (lens counts shares : List ℕ) → length lens ≡ length counts → length lens ≡ length shares → ReadUpTo ρ s most lens counts shares 0 0 0 0
 unfolding readList
-reading-start s most lens shares l = record {
+reading-start ρ lw s most lens counts shares a b = record {
+  lawful = lw;
   within = zero-le;
   inside = zero-le;
   few = zero-le;
-  rows = l;
+  counts-row = a;
+  shares-row = b;
   done = [];
   counted = refl;
   alone = λ e. refl;
   last = λ i e. refl;
-  noted = λ b. noted-none lens shares;
-  so-far = onto-none (readFrom plain most 0 [] 0 s);
+  noted = λ h. noted-none ρ lens counts shares;
+  so-far = onto-none (readFrom ρ most 0 [] 0 s);
 }
 
 -- .. and the rows are as long as they were
-pub record Reads (s : Bytes) (most : ℕ) (lens₀ shares₀ lens shares : List ℕ) (o p m n : ℕ) : Type 0 where
-  pub read : ReadUpTo s most lens shares o p m n
+pub record Reads (ρ : Rule) (s : Bytes) (most : ℕ) (lens₀ counts₀ shares₀ lens counts shares : List ℕ) (o p m n : ℕ) : Type 0 where
+  pub read : ReadUpTo ρ s most lens counts shares o p m n
   pub lens-kept : length lens ≡ length lens₀
+  pub counts-kept : length counts ≡ length counts₀
   pub shares-kept : length shares ≡ length shares₀
 
-pub reads-start : (s : Bytes) (most : ℕ) (lens shares : List ℕ) → length lens ≡ length shares → Reads s most lens shares lens shares 0 0 0 0
-reads-start s most lens shares l = record { read = reading-start s most lens shares l; lens-kept = refl; shares-kept = refl }
+pub reads-start : (ρ : Rule) → Lawful ρ → (s : Bytes) (most : ℕ) (lens counts shares : List ℕ) → length lens ≡ length counts → length lens ≡ length shares → Reads ρ s most lens counts shares lens counts shares 0 0 0 0
+reads-start ρ lw s most lens counts shares a b = record { read = reading-start ρ lw s most lens counts shares a b; lens-kept = refl; counts-kept = refl; shares-kept = refl }
 
-pub good-list : {s : Bytes} {most : ℕ} {lens shares : List ℕ} {o p m n : ℕ} → ReadUpTo s most lens shares o p m n → o ≡ length s → Judged s most lens shares (Good n)
+pub good-list : {ρ : Rule} {s : Bytes} {most : ℕ} {lens counts shares : List ℕ} {o p m n : ℕ} → ReadUpTo ρ s most lens counts shares o p m n → o ≡ length s → Judged ρ s most lens counts shares (Good n)
 unfolding readFrom readingOf
-good-list {s} {most} {lens} {shares} {o} r h =
-    let e : readList plain most s ≡ Names (r .done) = r .so-far ∙ rw (drop-of-length-le s {i = o} (omega arith)) (ap Names (append-nil (r .done))) in
+good-list {ρ} {s} {most} {lens} {counts} {shares} {o} r h =
+    let e : readList ρ most s ≡ Names (r .done) = r .so-far ∙ rw (drop-of-length-le s {i = o} (omega arith)) (ap Names (append-nil (r .done))) in
     record {
       verdict = rw e (ap (λ (n : ℕ). given n 0) (sym (r .counted)));
       refuses = λ code i q. absurd (let z : _≡_ {A = ℕ} 0 1 = cc in omega arith);
-      noted = λ b. subst (λ (x : Reading). Noted (namesIn x) lens shares) (sym e) (r .noted b);
+      noted = λ b. subst (λ (x : Reading). Noted ρ (namesIn x) lens counts shares) (sym e) (r .noted b);
     }
 
-refused : (s : Bytes) (most : ℕ) (lens shares : List ℕ) (code n : ℕ) → readList plain most s ≡ Refused code n → Judged s most lens shares (Bad code n)
+refused : (ρ : Rule) (s : Bytes) (most : ℕ) (lens counts shares : List ℕ) (code n : ℕ) → readList ρ most s ≡ Refused code n → Judged ρ s most lens counts shares (Bad code n)
 unfolding readingOf
-refused s most lens shares code n e = record {
+refused ρ s most lens counts shares code n e = record {
   verdict = rw e refl;
-  refuses = λ c i q. let same : code ≡ c = cc in omega (arith, read-refused plain most s code n e);
-  noted = λ b. subst (λ (x : Reading). Noted (namesIn x) lens shares) (sym e) (noted-none lens shares);
+  refuses = λ c i q. let same : code ≡ c = cc in omega (arith, read-refused ρ most s code n e);
+  noted = λ b. subst (λ (x : Reading). Noted ρ (namesIn x) lens counts shares) (sym e) (noted-none ρ lens counts shares);
 }
 
 -- question 5, as the reading asks it
 abbrev wellSized : Bytes → ℕ → ℕ → Bool
 wellSized s o len = both (goodLength len) (leb len (length (drop (o + 1) s)))
 
-module _ {s : Bytes} {most : ℕ} {lens shares : List ℕ} {o p m n len : ℕ} (r : StandsAt s most lens shares o p m n len) where
+module _ {ρ : Rule} {s : Bytes} {most : ℕ} {lens counts shares : List ℕ} {o p m n len : ℕ} (r : StandsAt ρ s most lens counts shares o p m n len) where
   -- a record is asked 5, then 6, then 7
-  asked : (a b c : Bool) → wellSized s o len ≡ a → less (word plain (part s p m)) (word plain (part s (o + 1) len)) ≡ b → ltb n most ≡ c
-      → readList plain most s ≡ onto (r .read .done) (pick a (pick b (pick c
-      (after (part s (o + 1) len) (readFrom plain most (suc n) (part s (o + 1) len) len (drop (o + 1) s))) (Refused 7 n)) (Refused 6 n)) (Refused 5 n))
+  asked : (a b c : Bool) → wellSized s o len ≡ a → less (word ρ (part s p m)) (word ρ (part s (o + 1) len)) ≡ b → ltb n most ≡ c
+      → readList ρ most s ≡ onto (r .read .done) (pick a (pick b (pick c
+      (after (part s (o + 1) len) (readFrom ρ most (suc n) (part s (o + 1) len) len (drop (o + 1) s))) (Refused 7 n)) (Refused 6 n)) (Refused 5 n))
   unfolding readFrom
   asked a b c ea eb ec =
       let opened : drop o s ≡ len ∷ drop (o + 1) s = drop-cons s o 0 (r .here) ∙ ap₂ (λ (l k : ℕ). l ∷ drop k s) (sym (r .byte)) (sym (add-one o)) in
       r .read .so-far ∙ rw (opened, ea, eb, ec)
 
-  bad-length : wellSized s o len ≡ false → Judged s most lens shares (Bad 5 n)
-  bad-length e = refused s most lens shares 5 n (asked false _ _ e refl refl)
+  bad-length : wellSized s o len ≡ false → Judged ρ s most lens counts shares (Bad 5 n)
+  bad-length e = refused ρ s most lens counts shares 5 n (asked false _ _ e refl refl)
 
 -- where the list has not ended, and its next length byte is read
-module _ {s : Bytes} {most : ℕ} {lens shares : List ℕ} {o p m n len : ℕ} (r : ReadUpTo s most lens shares o p m n) (more : o ≡ length s → ⊥) (byte : len ≡ getD s o 0) where
-  pub stands-at : StandsAt s most lens shares o p m n len
+module _ {ρ : Rule} {s : Bytes} {most : ℕ} {lens counts shares : List ℕ} {o p m n len : ℕ} (r : ReadUpTo ρ s most lens counts shares o p m n) (more : o ≡ length s → ⊥) (byte : len ≡ getD s o 0) where
+  pub stands-at : StandsAt ρ s most lens counts shares o p m n len
   stands-at = record { read = r; here = omega (arith, r .within); byte = byte }
 
-  pub no-name : len ≡ 0 → Judged s most lens shares (Bad 5 n)
+  pub no-name : len ≡ 0 → Judged ρ s most lens counts shares (Bad 5 n)
   no-name e = bad-length stands-at (rw (le-ltb 0 len (omega arith)))
 
-  pub long-name : 200 < len → Judged s most lens shares (Bad 5 n)
+  pub long-name : 200 < len → Judged ρ s most lens counts shares (Bad 5 n)
   long-name l = bad-length stands-at (rw (lt-ltb 0 len (omega arith), lt-leb len 200 l))
 
   module _ (some : len ≡ 0 → ⊥) (l : len ≤ 200) where
-    pub cut-name : length s - (o + 1) < len → Judged s most lens shares (Bad 5 n)
+    pub cut-name : length s - (o + 1) < len → Judged ρ s most lens counts shares (Bad 5 n)
     cut-name f = bad-length stands-at (rw (lt-ltb 0 len (omega arith), le-leb len 200 l, length-drop (o + 1) s, lt-leb len (length s - (o + 1)) f))
 
-    pub comparing-start : len ≤ length s - (o + 1) → Comparing s most lens shares o p m n len 0
+    pub comparing-start : len ≤ length s - (o + 1) → Comparing ρ s most lens counts shares o p m n len 0
     comparing-start f = record {
       stands = stands-at;
       some = omega arith;
@@ -229,7 +255,7 @@ module _ {s : Bytes} {most : ℕ} {lens shares : List ℕ} {o p m n len : ℕ} (
       agree = zero-le;
     }
 
-module _ {s : Bytes} {most : ℕ} {lens shares : List ℕ} {o p m n len i : ℕ} (k : Comparing s most lens shares o p m n len i) where
+module _ {ρ : Rule} {s : Bytes} {most : ℕ} {lens counts shares : List ℕ} {o p m n len i : ℕ} (k : Comparing ρ s most lens counts shares o p m n len i) where
   sized : wellSized s o len ≡ true
   sized = rw (lt-ltb 0 len (k .some), le-leb len 200 (k .short), length-drop (o + 1) s, le-leb len (length s - (o + 1)) (omega (arith, k .whole)))
 
@@ -271,7 +297,7 @@ module _ {s : Bytes} {most : ℕ} {lens shares : List ℕ} {o p m n len i : ℕ}
         common = sym (part-at (part s p m) (part s (o + 1) len) i (k .agree) (λ e. d (sym (old-byte old-left) ∙ e ∙ new-byte new-left)));
       }
 
-      pub byte-same : getD s (p + i) 0 ≡ getD s (o + 1 + i) 0 → Comparing s most lens shares o p m n len (i + 1)
+      pub byte-same : getD s (p + i) 0 ≡ getD s (o + 1 + i) 0 → Comparing ρ s most lens counts shares o p m n len (i + 1)
       byte-same e = record {
         stands = k .stands;
         some = k .some;
@@ -282,91 +308,141 @@ module _ {s : Bytes} {most : ℕ} {lens shares : List ℕ} {o p m n len i : ℕ}
         agree = omega (arith, one-more old-left new-left e);
       }
 
--- where they part, their symbols tell which name is less
-module _ {s : Bytes} {most : ℕ} {lens shares : List ℕ} {o p m n len i : ℕ} {k : Comparing s most lens shares o p m n len i} (q : ComesApart k) where
-  order : less (word plain (part s p m)) (word plain (part s (o + 1) len)) ≡ ltb (symbol s p m i) (symbol s (o + 1) len i)
-  order =
-      let e : shared (word plain (part s p m)) (word plain (part s (o + 1) len)) ≡ i =
-      shared-word plain plain-injective (part s p m) (part s (o + 1) len) ∙ sym (q .common) in
-      less-by (word plain (part s p m)) (word plain (part s (o + 1) len)) i e
+-- behind the bytes that are the same symbols are compared
+module _ {ρ : Rule} {s : Bytes} {most : ℕ} {lens counts shares : List ℕ} {o p m n len i : ℕ} {k : Comparing ρ s most lens counts shares o p m n len i} (q : ComesApart k) {shorter : ℕ}
+    (least : shorter ≡ min len m) where
+  -- what is left of either name, up to the end of the shorter
+  abbrev old-rest : Bytes
+  old-rest = take (p + shorter - (p + i)) (drop (p + i) s)
 
-  not-less : symbol s (o + 1) len i ≤ symbol s p m i → Judged s most lens shares (Bad 6 n)
-  not-less l = refused s most lens shares 6 n (asked (k .stands) true false _ (sized k) (order ∙ le-ltb (symbol s p m i) (symbol s (o + 1) len i) l) refl)
+  abbrev new-rest : Bytes
+  new-rest = take (o + 1 + shorter - (o + 1 + i)) (drop (o + 1 + i) s)
 
-  is-less : symbol s p m i < symbol s (o + 1) len i → NewAbove k
-  is-less l = record { parted = q; above = order ∙ lt-ltb (symbol s p m i) (symbol s (o + 1) len i) l }
+  old-inside : p + i + (p + shorter - (p + i)) ≤ length s
+  old-inside = omega (arith, k .stands .read .inside, k .in-old, k .in-new)
 
-  pub new-ends : i ≡ len → Judged s most lens shares (Bad 6 n)
-  new-ends e = not-less (omega (arith, symbol-past s (o + 1) len (k .whole) i (omega arith)))
+  new-inside : o + 1 + i + (o + 1 + shorter - (o + 1 + i)) ≤ length s
+  new-inside = omega (arith, k .whole, k .in-old, k .in-new)
 
-  module _ (left : i ≡ len → ⊥) where
-    some-left : i < len
-    some-left = omega (arith, k .in-new)
+  pub rests-part : Parted (take (p + shorter - (p + i)) (drop (p + i) s)) (take (o + 1 + shorter - (o + 1 + i)) (drop (o + 1 + i) s))
+  rests-part = record {
+    differ = λ a b e.
+        let l : i < shorter = omega (arith, part-length s (p + i) (p + shorter - (p + i)) old-inside) in
+        let same : getD s (p + i) 0 ≡ getD s (o + 1 + i) 0 =
+        simp add-zero at (sym (part-byte s (p + i) (p + shorter - (p + i)) old-inside 0 (omega arith)) ∙ e ∙ part-byte s (o + 1 + i) (o + 1 + shorter - (o + 1 + i)) new-inside 0 (omega arith)) in
+        lt-irrefl i (omega (arith, one-more k (omega arith) (omega arith) same, q .common));
+  }
 
-    new-symbol : symbol s (o + 1) len i ≡ suc (getD s (o + 1 + i) 0)
-    new-symbol = symbol-in s (o + 1) len (k .whole) i some-left
+  pub symbols-alike : {t : ℕ} → t ≡ shared (word ρ (take (p + shorter - (p + i)) (drop (p + i) s))) (word ρ (take (o + 1 + shorter - (o + 1 + i)) (drop (o + 1 + i) s))) → Alike k (i + t)
+  symbols-alike {t} e =
+      let x : Bytes = part s p m in
+      let y : Bytes = part s (o + 1) len in
+      let is : i + t ≡ shared (word ρ x) (word ρ y) =
+      ap (λ (c : ℕ). i + c) (e ∙ ap₂ (λ (a b : Bytes). shared (word ρ a) (word ρ b)) (part-rest s p m i shorter (omega arith)) (part-rest s (o + 1) len i shorter (omega arith)))
+      ∙ sym (alike-on ρ x y i shorter (k .agree) (omega (arith, k .in-old, k .in-new)) (omega (arith, old-length k, new-length k))) in
+      record {
+        parted = q;
+        common = is;
+        in-old = omega (arith, shared-le (word ρ x) (word ρ y), length-map x ρ, old-length k);
+        in-new = omega (arith, shared-le (word ρ y) (word ρ x), shared-comm (word ρ x) (word ρ y), length-map y ρ, new-length k);
+      }
 
-    pub old-ends : m ≤ i → NewAbove k
-    old-ends h = is-less (omega (arith, new-symbol, symbol-past s p m (k .stands .read .inside) i h))
+-- where the names part, their symbols tell which one is less
+module _ {ρ : Rule} {s : Bytes} {most : ℕ} {lens counts shares : List ℕ} {o p m n len i : ℕ} {k : Comparing ρ s most lens counts shares o p m n len i} {j : ℕ} (q : Alike k j) where
+  order : less (word ρ (part s p m)) (word ρ (part s (o + 1) len)) ≡ ltb (symbol ρ s p m j) (symbol ρ s (o + 1) len j)
+  order = less-by (word ρ (part s p m)) (word ρ (part s (o + 1) len)) j (sym (q .common))
 
-    module _ (h : i < m) where
-      old-symbol : symbol s p m i ≡ suc (getD s (p + i) 0)
-      old-symbol = symbol-in s p m (k .stands .read .inside) i h
+  not-less : ltb (symbol ρ s p m j) (symbol ρ s (o + 1) len j) ≡ false → Judged ρ s most lens counts shares (Bad 6 n)
+  not-less e = refused ρ s most lens counts shares 6 n (asked (k .stands) true false _ (sized k) (order ∙ e) refl)
 
-      pub byte-below : getD s (o + 1 + i) 0 < getD s (p + i) 0 → Judged s most lens shares (Bad 6 n)
-      byte-below l = not-less (omega (arith, old-symbol, new-symbol))
+  is-less : ltb (symbol ρ s p m j) (symbol ρ s (o + 1) len j) ≡ true → NewAbove k j
+  is-less e = record { alike = q; above = order ∙ e }
 
-      pub byte-above : getD s (p + i) 0 ≤ getD s (o + 1 + i) 0 → NewAbove k
-      byte-above l =
-          let differ : getD s (p + i) 0 ≡ getD s (o + 1 + i) 0 → ⊥ = λ e. omega (arith, one-more k h some-left e, q .common) in
-          is-less (omega (arith, old-symbol, new-symbol))
+  pub new-ends : j ≡ len → Judged ρ s most lens counts shares (Bad 6 n)
+  new-ends e = not-less (le-ltb (symbol ρ s p m j) (symbol ρ s (o + 1) len j) (omega (arith, symbol-past s (o + 1) len (k .whole) ρ j (omega arith))))
 
-module _ {s : Bytes} {most : ℕ} {lens shares : List ℕ} {o p m n len i : ℕ} {k : Comparing s most lens shares o p m n len i} (a : NewAbove k) where
-  pub too-many : most ≤ n → Judged s most lens shares (Bad 7 n)
-  too-many h = refused s most lens shares 7 n (asked (k .stands) true true false (sized k) (a .above) (le-ltb n most h))
+  module _ (left : j ≡ len → ⊥) where
+    pub new-there : o + 1 + j < length s
+    new-there = omega (arith, q .in-new, k .whole)
+
+    new-symbol : symbol ρ s (o + 1) len j ≡ ρ (getD s (o + 1 + j) 0)
+    new-symbol = symbol-in s (o + 1) len (k .whole) ρ j (omega (arith, q .in-new))
+
+    pub old-ends : m ≤ j → NewAbove k j
+    old-ends h = is-less (lt-ltb (symbol ρ s p m j) (symbol ρ s (o + 1) len j) (omega (arith, new-symbol, k .stands .read .lawful .low (getD s (o + 1 + j) 0), symbol-past s p m (k .stands .read .inside) ρ j h)))
+
+    -- v says whether the symbol of the new name is higher
+    module _ (h : j < m) (v : Bool) (e : v ≡ ltb (ρ (getD s (p + j) 0)) (ρ (getD s (o + 1 + j) 0))) where
+      higher : ltb (symbol ρ s p m j) (symbol ρ s (o + 1) len j) ≡ v
+      higher = ap₂ ltb (symbol-in s p m (k .stands .read .inside) ρ j h) new-symbol ∙ sym e
+
+      pub symbol-not-above : not v ≡ true → Judged ρ s most lens counts shares (Bad 6 n)
+      symbol-not-above f = not-less (higher ∙ not-true v f)
+
+      pub symbol-above : not v ≡ false → NewAbove k j
+      symbol-above f = is-less (higher ∙ not-false v f)
+
+module _ {ρ : Rule} {s : Bytes} {most : ℕ} {lens counts shares : List ℕ} {o p m n len i : ℕ} {k : Comparing ρ s most lens counts shares o p m n len i} {j : ℕ} (a : NewAbove k j) where
+  pub too-many : most ≤ n → Judged ρ s most lens counts shares (Bad 7 n)
+  too-many h = refused ρ s most lens counts shares 7 n (asked (k .stands) true true false (sized k) (a .above) (le-ltb n most h))
 
   pub list-falls : length s - (o + 1 + len) < length s - o
   list-falls = omega (arith, k .whole)
 
   -- one name more, whatever the rows hold then
-  one-read : (lens′ shares′ : List ℕ) → length lens′ ≡ length shares′ → (most ≤ length lens′ → Noted (k .stands .read .done ++ (part s (o + 1) len ∷ [])) lens′ shares′)
-      → n < most → ReadUpTo s most lens′ shares′ (o + 1 + len) (o + 1) len (n + 1)
-  one-read lens′ shares′ rows noted h =
-      let r : ReadUpTo s most lens shares o p m n = k .stands .read in
+  one-read : (lens′ counts′ shares′ : List ℕ) → length lens′ ≡ length counts′ → length lens′ ≡ length shares′
+      → (most ≤ length lens′ → Noted ρ (k .stands .read .done ++ (part s (o + 1) len ∷ [])) lens′ counts′ shares′)
+      → n < most → ReadUpTo ρ s most lens′ counts′ shares′ (o + 1 + len) (o + 1) len (n + 1)
+  one-read lens′ counts′ shares′ counts-row shares-row noted h =
+      let r : ReadUpTo ρ s most lens counts shares o p m n = k .stands .read in
       let x : Bytes = part s (o + 1) len in
       let rest : Bytes = drop (o + 1 + len) s in
-      let skipped : readFrom plain most (suc n) x len (drop (o + 1) s) ≡ readFrom plain most (n + 1) x 0 rest =
-      read-skip plain most (suc n) x len (drop (o + 1) s) ∙ rw (drop-drop len (o + 1) s, add-one n) in
+      let skipped : readFrom ρ most (suc n) x len (drop (o + 1) s) ≡ readFrom ρ most (n + 1) x 0 rest =
+      read-skip ρ most (suc n) x len (drop (o + 1) s) ∙ rw (drop-drop len (o + 1) s, add-one n) in
       record {
+        lawful = r .lawful;
         within = k .whole;
         inside = k .whole;
         few = omega arith;
-        rows = rows;
+        counts-row = counts-row;
+        shares-row = shares-row;
         done = r .done ++ (x ∷ []);
         counted = length-append (r .done) (x ∷ []) ∙ ap (λ (c : ℕ). c + 1) (r .counted);
         alone = λ e. absurd (omega arith);
-        last = λ j e. getD-at (r .done) x [] [] j (r .counted ∙ omega arith);
+        last = λ c e. getD-at (r .done) x [] [] c (r .counted ∙ omega arith);
         noted = noted;
         so-far =
             asked (k .stands) true true true (sized k) (a .above) (lt-ltb n most h)
             ∙ ap (λ (y : Reading). onto (r .done) (after x y)) skipped
-            ∙ onto-after (r .done) x (readFrom plain most (n + 1) x 0 rest);
+            ∙ onto-after (r .done) x (readFrom ρ most (n + 1) x 0 rest);
       }
 
-  module _ {lens₀ shares₀ : List ℕ} (lens-kept : length lens ≡ length lens₀) (shares-kept : length shares ≡ length shares₀) (h : n < most) where
-    pub reads-noted : n < length lens → Reads s most lens₀ shares₀ (set lens n len) (set shares n i) (o + 1 + len) (o + 1) len (n + 1)
-    reads-noted l =
-        let r : ReadUpTo s most lens shares o p m n = k .stands .read in
-        let x : Bytes = part s (o + 1) len in
-        record {
-          read = one-read (set lens n len) (set shares n i) (length-set lens n len ∙ r .rows ∙ sym (length-set shares n i))
-              (λ b. noted-more (r .done) x lens shares n len i (r .noted (omega (arith, length-set lens n len))) (r .counted) l (omega (arith, r .rows)) (new-length k)
-              (λ e. omega (arith, k .in-old, r .alone e))
-              (λ j e. a .parted .common ∙ ap (λ (y : Bytes). shared y x) (sym (r .last j e)))) h;
-          lens-kept = length-set lens n len ∙ lens-kept;
-          shares-kept = length-set shares n i ∙ shares-kept;
-        }
+  module _ {lens₀ counts₀ shares₀ : List ℕ} (lens-kept : length lens ≡ length lens₀) (counts-kept : length counts ≡ length counts₀) (shares-kept : length shares ≡ length shares₀) (h : n < most) where
+    -- the rows as they are then
+    module _ {lens′ counts′ shares′ : List ℕ} where
+      pub reads-noted : n < length lens → lens′ ≡ set lens n len → counts′ ≡ set counts n i → shares′ ≡ set shares n j
+          → Reads ρ s most lens₀ counts₀ shares₀ lens′ counts′ shares′ (o + 1 + len) (o + 1) len (n + 1)
+      reads-noted l new-lens new-counts new-shares =
+          let r : ReadUpTo ρ s most lens counts shares o p m n = k .stands .read in
+          let x : Bytes = part s (o + 1) len in
+          rw (new-lens, new-counts, new-shares) (record {
+            read = one-read (set lens n len) (set counts n i) (set shares n j)
+                (length-set lens n len ∙ r .counts-row ∙ sym (length-set counts n i)) (length-set lens n len ∙ r .shares-row ∙ sym (length-set shares n j))
+                (λ b. noted-more (r .done) x n (r .counted) len i j (r .noted (omega (arith, length-set lens n len))) l (omega (arith, r .counts-row)) (omega (arith, r .shares-row)) (new-length k)
+                (λ e. omega (arith, k .in-old, r .alone e))
+                (λ c e. a .alike .parted .common ∙ ap (λ (y : Bytes). shared y x) (sym (r .last c e)))
+                (λ c e. a .alike .common ∙ ap (λ (y : Bytes). shared (word ρ y) (word ρ x)) (sym (r .last c e)))) h;
+            lens-kept = length-set lens n len ∙ lens-kept;
+            counts-kept = length-set counts n i ∙ counts-kept;
+            shares-kept = length-set shares n j ∙ shares-kept;
+          })
 
-    -- there is no place to note it, so not all that may come can be noted
-    pub reads-passed : length lens ≤ n → Reads s most lens₀ shares₀ lens shares (o + 1 + len) (o + 1) len (n + 1)
-    reads-passed l = record { read = one-read lens shares (k .stands .read .rows) (λ b. absurd (lt-irrefl n (omega arith))) h; lens-kept = lens-kept; shares-kept = shares-kept }
+      -- there is no place to note it, so not all that may come can be noted
+      pub reads-passed : length lens ≤ n → lens′ ≡ lens → counts′ ≡ counts → shares′ ≡ shares
+          → Reads ρ s most lens₀ counts₀ shares₀ lens′ counts′ shares′ (o + 1 + len) (o + 1) len (n + 1)
+      reads-passed l new-lens new-counts new-shares = rw (new-lens, new-counts, new-shares) (record {
+        read = one-read lens counts shares (k .stands .read .counts-row) (k .stands .read .shares-row) (λ b. absurd (lt-irrefl n (omega arith))) h;
+        lens-kept = lens-kept;
+        counts-kept = counts-kept;
+        shares-kept = shares-kept;
+      })

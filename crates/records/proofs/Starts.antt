@@ -12,10 +12,9 @@ use mathlib.Core.List.{List, [], _∷_, _++_, append-nil}
 use lib.ListN.{length, getD, take, drop, length-append, length-map, take-append-drop}
 use lib.Seq.{getD-drop, take-suc, take-all}
 use Rattle.words.specs.Rising.{Rises, nth}
-use Rattle.words.specs.Words.{Bytes, plain, word}
+use Rattle.words.specs.Words.{Bytes, Rule, word}
 use Rattle.words.proofs.Lists.{all-at}
 use Rattle.words.proofs.Rising.{nth-word}
-use Rattle.words.proofs.Words.{plain-lawful}
 use Rattle.format.specs.Records.{encode, sound}
 use Rattle.format.proofs.Records.{encode-append, encode-fits, encode-from, encode-name, rising-sizes, sound-rises, sound-rising}
 use Rattle.records.specs.Lists.{Ready, names, startOf, words}
@@ -24,21 +23,21 @@ encode-one : (x : Bytes) → encode (x ∷ []) ≡ length x ∷ x
 unfolding encode
 encode-one x = ap (λ (l : Bytes). length x ∷ l) (append-nil x)
 
-pub words-length : (s : Bytes) → length (words s) ≡ length (names s)
+pub words-length : (ρ : Rule) (s : Bytes) → length (words ρ s) ≡ length (names s)
 unfolding words
-words-length s = length-map (names s) (word plain)
+words-length ρ s = length-map (names s) (word ρ)
 
-module _ {s : Bytes} {n : ℕ} {lens shares : List ℕ} (a : Ready s n lens shares) where
-  pub ready-rises : Rises (words s)
+module _ {ρ : Rule} {s : Bytes} {n : ℕ} {lens counts shares : List ℕ} (a : Ready ρ s n lens counts shares) where
+  pub ready-rises : Rises (words ρ s)
   unfolding words
-  ready-rises = sound-rises plain plain-lawful (names s) (a .sound)
+  ready-rises = sound-rises ρ (a .lawful) (names s) (a .sound)
 
-  pub ready-word : (i : ℕ) → nth (words s) i ≡ word plain (getD (names s) i [])
+  pub ready-word : (i : ℕ) → nth (words ρ s) i ≡ word ρ (getD (names s) i [])
   unfolding words
-  ready-word i = nth-word plain (names s) i
+  ready-word i = nth-word ρ (names s) i
 
   pub ready-size : (i : ℕ) → i < n → (1 ≤ length (getD (names s) i [])) × (length (getD (names s) i []) ≤ 200)
-  ready-size i h = all-at [] (names s) (rising-sizes plain [] (names s) (sound-rising plain (names s) (a .sound))) i (omega (arith, a .total))
+  ready-size i h = all-at [] (names s) (rising-sizes ρ [] (names s) (sound-rising ρ (names s) (a .sound))) i (omega (arith, a .total))
 
   pub start-none : startOf s 0 ≡ 0
   unfolding encode

@@ -1,13 +1,15 @@
 // Judging a list: document 01, 'The first bad record ends the reading'. One loop over the records yields the verdict by `break`; the
-// comparison of a name with the one before is nested inside and left by its label. It finds the bytes that both begin with; the next
-// byte then tells the order, in one test. What it learns on the way, each name's length and what it shares with the name before, is
-// noted for those who write the book, as far as there are places to note it.
+// comparison of a name with the one before is nested inside and left by its label. It finds the bytes that both begin with; from there on
+// symbols are compared, and the first that differs tells the order. What it learns on the way, each name's length and how many bytes and
+// how many symbols it shares with the name before, is noted for those who write the book, as far as there are places to note it.
 // And a record is put at its place in a room, where there is room for it.
 ghost use mathlib.Core.Path.{_≡_};
 ghost use Prim.Native.Nat.{_+_, _≤_};
 ghost use lib.ListN.{length};
+ghost use Rattle.symbols.specs.Rules.{ruleBy};
 ghost use Rattle.records.specs.Lists.{Judged};
 ghost use Rattle.records.specs.Putting.{RecordPut};
+use symbols::Rule;
 
 // What the reading of a list gives.
 pub enum Verdict {
@@ -18,9 +20,16 @@ pub enum Verdict {
 }
 
 // Reads a list that may have `limit` names. The name before stands at `prev` and has `before` bytes: at first there is none.
-pub fn judge(list: &[u8], limit: usize, lens: &mut [u8], shares: &mut [u8]) -> Verdict
-    requires { ⌜ length (now lens) ≡ length (now shares) ⌝ }
-    ensures { λ r. ⌜ Judged (now (list .entry)) limit (now (lens .exit)) (now (shares .exit)) r ⌝ }
+pub fn judge(
+    rule: Rule,
+    list: &[u8],
+    limit: usize,
+    lens: &mut [u8],
+    counts: &mut [u8],
+    shares: &mut [u8],
+) -> Verdict
+    requires { ⌜ (length (now lens) ≡ length (now counts)) × (length (now lens) ≡ length (now shares)) ⌝ }
+    ensures { λ r. ⌜ Judged (ruleBy rule) (now (list .entry)) limit (now (lens .exit)) (now (counts .exit)) (now (shares .exit)) r ⌝ }
 {
     let mut at: usize = 0;
     let mut prev: usize = 0;
@@ -52,11 +61,16 @@ pub fn judge(list: &[u8], limit: usize, lens: &mut [u8], shares: &mut [u8]) -> V
             }
             i += 1;
         }
-        if i == len {
+        let from = prev + i;
+        let to = prev + most;
+        let own = start + i;
+        let end = start + most;
+        let j = i + symbols::shared_on(rule, &list[from..to], &list[own..end]);
+        if j == len {
             break 'records Verdict::Bad(6, n);
         }
-        if i < before {
-            if list[start + i] < list[prev + i] {
+        if j < before {
+            if !symbols::is_higher(rule, list[prev + j], list[start + j]) {
                 break 'records Verdict::Bad(6, n);
             }
         }
@@ -65,7 +79,8 @@ pub fn judge(list: &[u8], limit: usize, lens: &mut [u8], shares: &mut [u8]) -> V
         }
         if n < lens.len() {
             lens[n] = len as u8;
-            shares[n] = i as u8;
+            counts[n] = i as u8;
+            shares[n] = j as u8;
         }
         prev = start;
         before = len;

@@ -8,10 +8,10 @@ use Rattle.blocks.proofs.block_size.Statement.{statement}
 use Rattle.blocks.proofs.block_size.Tie as tie
 
 abbrev Inv-loop : tie.InvT-loop
-Inv-loop list shares lo at hi shared₀ next₀ i₀ shared next i = Summing list lo at hi i next shared
+Inv-loop list counts lo at hi shared₀ next₀ i₀ shared next i = Summing list lo at hi i next shared
 
 abbrev μ-loop : tie.MeasureT-loop
-μ-loop list shares lo at hi shared₀ next₀ i₀ shared next i = hi - i
+μ-loop list counts lo at hi shared₀ next₀ i₀ shared next i = hi - i
 
 add-shared : tie.Need-add-shared Inv-loop μ-loop
 add-shared c =

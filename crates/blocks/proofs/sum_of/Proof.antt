@@ -8,10 +8,10 @@ use Rattle.blocks.proofs.sum_of.Statement.{statement}
 use Rattle.blocks.proofs.sum_of.Tie as tie
 
 abbrev Inv-loop : tie.InvT-loop
-Inv-loop shares n sum₀ i₀ sum i = Adding shares n i sum
+Inv-loop counts n sum₀ i₀ sum i = Adding counts n i sum
 
 abbrev μ-loop : tie.MeasureT-loop
-μ-loop shares n sum₀ i₀ sum i = n - i
+μ-loop counts n sum₀ i₀ sum i = n - i
 
 pub sum-of-spec : {M : Type 1} → statement M
 sum-of-spec =

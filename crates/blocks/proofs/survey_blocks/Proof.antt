@@ -8,10 +8,10 @@ use Rattle.blocks.proofs.survey_blocks.Statement.{statement}
 use Rattle.blocks.proofs.survey_blocks.Tie as tie
 
 abbrev Inv-loop : tie.InvT-loop
-Inv-loop list n shares k shared₀ count₀ lo₀ shared count lo = Surveying list n shares k shared count lo
+Inv-loop list n counts k shared₀ count₀ lo₀ shared count lo = Surveying list n counts k shared count lo
 
 abbrev μ-loop : tie.MeasureT-loop
-μ-loop list n shares k shared₀ count₀ lo₀ shared count lo = n - lo
+μ-loop list n counts k shared₀ count₀ lo₀ shared count lo = n - lo
 
 loop-again : tie.Need-loop-again Inv-loop μ-loop
 loop-again c =

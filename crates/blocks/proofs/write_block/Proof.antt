@@ -8,10 +8,10 @@ use Rattle.blocks.proofs.write_block.Statement.{statement}
 use Rattle.blocks.proofs.write_block.Tie as tie
 
 abbrev Inv-loop : tie.InvT-loop
-Inv-loop list shares lo at hi room₀ size₀ next₀ i₀ room size next i = Filling list lo hi room₀ room i next size
+Inv-loop list counts lo at hi room₀ size₀ next₀ i₀ room size next i = Filling list lo hi room₀ room i next size
 
 abbrev μ-loop : tie.MeasureT-loop
-μ-loop list shares lo at hi room₀ size₀ next₀ i₀ room size next i = hi - i
+μ-loop list counts lo at hi room₀ size₀ next₀ i₀ room size next i = hi - i
 
 add-write-entry-2 : tie.Need-add-write-entry-2 Inv-loop μ-loop
 add-write-entry-2 c =

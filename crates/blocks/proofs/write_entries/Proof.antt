@@ -8,10 +8,10 @@ use Rattle.blocks.proofs.write_entries.Statement.{statement}
 use Rattle.blocks.proofs.write_entries.Tie as tie
 
 abbrev Inv-loop : tie.InvT-loop
-Inv-loop list n shares k room₀ lo₀ at₀ size₀ room lo at size = EntriesDone list n k room₀ room lo at size
+Inv-loop list n counts k room₀ lo₀ at₀ size₀ room lo at size = EntriesDone list n k room₀ room lo at size
 
 abbrev μ-loop : tie.MeasureT-loop
-μ-loop list n shares k room₀ lo₀ at₀ size₀ room lo at size = n - lo
+μ-loop list n counts k room₀ lo₀ at₀ size₀ room lo at size = n - lo
 
 pub write-entries-spec : {M : Type 1} → statement M
 write-entries-spec =

@@ -8,10 +8,10 @@ use Rattle.blocks.proofs.write_table.Statement.{statement}
 use Rattle.blocks.proofs.write_table.Tie as tie
 
 abbrev Inv-loop : tie.InvT-loop
-Inv-loop list n shares k room₀ lo₀ at₀ size₀ count₀ room lo at size count = Tabled list n k room₀ room lo at size count
+Inv-loop list n counts k room₀ lo₀ at₀ size₀ count₀ room lo at size count = Tabled list n k room₀ room lo at size count
 
 abbrev μ-loop : tie.MeasureT-loop
-μ-loop list n shares k room₀ lo₀ at₀ size₀ count₀ room lo at size count = n - lo
+μ-loop list n counts k room₀ lo₀ at₀ size₀ count₀ room lo at size count = n - lo
 
 pub write-table-spec : {M : Type 1} → statement M
 write-table-spec =

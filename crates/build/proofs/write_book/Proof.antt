@@ -7,7 +7,7 @@ use Rattle.build.proofs.write_book.Tie as tie
 
 returns : tie.Need-returns
 returns c =
-    let start : tie.Start = c .before .before .before .before .before .before .before .before .before .before .before .before .before .before .before .before .before .before .before .before in
+    let start : tie.Start = c .before .before .before .before .before .before .before .before .before .before .before .before .before .before .before .before .before .before .before .before .before in
     book-lent (start .pre .0) (start .pre .1 .0) _ _ _ (start .pre .1 .1)
     (c .before .before .before .before .before .before .before .before .before .before .before .before .before .before .write-entries .ensures)
     (c .before .before .before .before .before .before .before .before .before .before .write-table .ensures) _ _

@@ -3,15 +3,16 @@
 -- Assumes nothing.
 use native.Mathlib.Omega.{arith}
 use borrow.Author.Needs.{needs}
+use Rattle.symbols.specs.Rules.{ruleBy}
 use Rattle.nodes.proofs.Writing.{Shutting, shutting-start, shutting-more, passing-on, passing-deeper, passing-done}
 use Rattle.nodes.proofs.write_name.Statement.{statement}
 use Rattle.nodes.proofs.write_name.Tie as tie
 
 abbrev Inv-loop : tie.InvT-loop
-Inv-loop rest skip j left frames top count room₀ p₀ frame₀ room p frame = Shutting rest skip j left frames p₀ room₀ p room frame
+Inv-loop rule rest skip j left frames top count room₀ p₀ frame₀ room p frame = Shutting (ruleBy rule) rest skip j left frames p₀ room₀ p room frame
 
 abbrev μ-loop : tie.MeasureT-loop
-μ-loop rest skip j left frames top count room₀ p₀ frame₀ room p frame = frame
+μ-loop rule rest skip j left frames top count room₀ p₀ frame₀ room p frame = frame
 
 close-node-requires : tie.Need-close-node-requires Inv-loop μ-loop
 close-node-requires c κs =

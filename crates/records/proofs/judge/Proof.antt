@@ -1,26 +1,29 @@
 -- `records::judge` meets its contract. The loop over the records keeps `ReadUpTo`, and the loop over two names' bytes `Comparing`; each way
 -- that the code goes is a law of proofs/Reading.antt. The measures are what is left of the list and of the shorter name. Assumes nothing.
-use Prim.Native.Nat.{_-_}
+use Prim.Native.Nat.{_+_, _-_}
 use native.Mathlib.Omega.{arith}
 use mathlib.Core.Logic.{⊎-elim}
 use borrow.Author.Count.{falls}
 use borrow.Author.Needs.{needs}
 use lib.ListN.{length}
+use Rattle.symbols.specs.Rules.{ruleBy}
+use Rattle.symbols.proofs.Symbols.{rule-lawful}
 use Rattle.records.proofs.Reading as law
 use Rattle.records.proofs.judge.Statement.{statement}
 use Rattle.records.proofs.judge.Tie as tie
 
 abbrev Inv-bytes : tie.InvT-bytes
-Inv-bytes list limit lens shares at prev before n len start most i₀ i = law.Comparing list limit lens shares at prev before n len i
+Inv-bytes rule list limit lens counts shares at prev before n len start most i₀ i = law.Comparing (ruleBy rule) list limit lens counts shares at prev before n len i
 
 abbrev μ-bytes : tie.MeasureT-bytes
-μ-bytes list limit lens shares at prev before n len start most i₀ i = most - i
+μ-bytes rule list limit lens counts shares at prev before n len start most i₀ i = most - i
 
 abbrev Inv-records : tie.InvT-records
-Inv-records list limit lens₀ shares₀ at₀ prev₀ before₀ n₀ lens shares at prev before n = law.Reads list limit lens₀ shares₀ lens shares at prev before n
+Inv-records rule list limit lens₀ counts₀ shares₀ at₀ prev₀ before₀ n₀ lens counts shares at prev before n =
+    law.Reads (ruleBy rule) list limit lens₀ counts₀ shares₀ lens counts shares at prev before n
 
 abbrev μ-records : tie.MeasureT-records
-μ-records list limit lens₀ shares₀ at₀ prev₀ before₀ n₀ lens shares at prev before n = length list - at
+μ-records rule list limit lens₀ counts₀ shares₀ at₀ prev₀ before₀ n₀ lens counts shares at prev before n = length list - at
 
 -- the comparison was left by either `break 'bytes`
 parted : (c : tie.Left-bytes Inv-bytes μ-bytes Inv-records μ-records) → law.ComesApart (c .before .bytes .inv)
@@ -29,12 +32,27 @@ parted c = ⊎-elim
     (λ w. search law.bytes-differ)
     (c .bytes-test .came)
 
--- the name before has a byte there, or none
-above : (c : tie.Joined7 Inv-bytes μ-bytes Inv-records μ-records) → law.NewAbove (c .before .before .before .bytes .inv)
+-- behind it so many symbols more are the same
+alike : (c : tie.After-shared-on Inv-bytes μ-bytes Inv-records μ-records)
+    → let k = c .before .before .before .before .bytes in law.Alike (k .inv) (k .i + c .shared-on .result)
+alike c = law.symbols-alike (parted (c .before .before .before)) (c .before .before .before .before .before .lesser .ensures) (c .shared-on .ensures)
+
+-- the name before has a symbol there, or none
+above : (c : tie.Joined7 Inv-bytes μ-bytes Inv-records μ-records)
+    → let s = c .before .before in let k = s .before .before .before .before .bytes in law.NewAbove (k .inv) (k .i + s .shared-on .result)
 above c = ⊎-elim
-    (λ w. law.byte-above (parted (c .before .before)) (c .before .if6 .left) (w .0 .taken) (w .3 .left))
-    (λ w. law.old-ends (parted (c .before .before)) (c .before .if6 .left) (w .left))
+    (λ w. law.symbol-above (alike (c .before .before)) (c .before .if6 .left) (w .0 .taken) _ (w .3 .ensures) (w .4 .left))
+    (λ w. law.old-ends (alike (c .before .before)) (c .before .if6 .left) (w .left))
     (c .if7 .came)
+
+-- the name is noted, or there is no place for it
+again : tie.Need-records-again Inv-bytes μ-bytes Inv-records μ-records
+again c =
+    let kept = c .before .before .before .before .before .before .before .before .before .before .before .before .before .before .before .before .records .inv in
+    ⊎-elim
+    (λ w. law.reads-noted (above (c .before .before)) (kept .lens-kept) (kept .counts-kept) (kept .shares-kept) (c .before .if9 .left) (w .0 .taken) (w .1) (w .2) (w .3))
+    (λ w. law.reads-passed (above (c .before .before)) (kept .lens-kept) (kept .counts-kept) (kept .shares-kept) (c .before .if9 .left) (w .0 .left) (w .1) (w .2) (w .3))
+    (c .if10 .came)
 
 pub judge-spec : {M : Type 1} → statement M
 judge-spec =
@@ -44,7 +62,7 @@ judge-spec =
     μ-bytes
     Inv-records
     μ-records
-    (λ c. search law.reads-start)
+    (λ c. search (law.reads-start, rule-lawful (c .before .before .before .before .args .rule)))
     (λ c. omega arith)
     (λ c κs. search needs)
     (λ c. omega arith)
@@ -68,31 +86,50 @@ judge-spec =
     (λ c. omega arith)
     (λ c. omega arith)
     (λ c. omega arith)
+    (λ c κs. law.rests-part (parted (c .before .before)) (c .before .before .before .before .lesser .ensures))
+    (λ c. omega (arith, alike c))
+    (λ c. omega (arith, alike (c .before .before)))
+    (λ c. omega (arith, alike (c .before .before .before)))
+    (λ c. omega (arith, alike (c .before .before .before)))
+    (λ c. law.new-there (alike (c .before .before .before .before)) (c .before .before .before .if6 .left))
+    (λ c κs. search needs)
+    (λ c. omega arith)
+    (λ c. omega arith)
+    (λ c. omega (arith, alike (c .before .before .before .before)))
+    (λ c. omega arith)
+    (λ c. omega (arith, alike (c .before .before .before .before)))
+    (λ c. omega arith)
+    (λ c. omega arith)
+    (λ c. omega arith)
     (λ c. law.list-falls (above (c .before .before)))
-    (λ c.
-    let inv = c .before .before .before .before .before .before .before .before .before .before .before .before .before .records .inv in
-    ⊎-elim
-    (λ w. rw (w .1, w .2) (law.reads-noted (above (c .before .before)) (inv .lens-kept) (inv .shares-kept) (c .before .if9 .left) (w .0 .taken)))
-    (λ w. rw (w .1, w .2) (law.reads-passed (above (c .before .before)) (inv .lens-kept) (inv .shares-kept) (c .before .if9 .left) (w .0 .left)))
-    (c .if10 .came))
+    again
+    (λ c. omega arith)
     (λ c. omega arith)
     (λ c. omega arith)
     (λ c. search law.good-list)
     (λ c. omega arith)
     (λ c. omega arith)
+    (λ c. omega arith)
     (λ c. search law.no-name)
+    (λ c. omega arith)
     (λ c. omega arith)
     (λ c. omega arith)
     (λ c. search law.long-name)
     (λ c. omega arith)
     (λ c. omega arith)
+    (λ c. omega arith)
     (λ c. search law.cut-name)
-    (λ c. omega arith)
-    (λ c. omega arith)
-    (λ c. law.new-ends (parted (c .before)) (c .if6 .taken))
-    (λ c. omega arith)
-    (λ c. omega arith)
-    (λ c. search (law.byte-below, parted (c .before .before .before .before .before)))
-    (λ c. omega arith)
-    (λ c. omega arith)
+    (λ c. c .before .before .before .before .before .before .before .before .before .before .before .before .before .records .inv .lens-kept)
+    (λ c. c .before .before .before .before .before .before .before .before .before .before .before .before .before .records .inv .counts-kept)
+    (λ c. c .before .before .before .before .before .before .before .before .before .before .before .before .before .records .inv .shares-kept)
+    (λ c. law.new-ends (alike (c .before)) (c .if6 .taken))
+    (λ c. c .before .before .before .before .before .before .before .before .before .before .before .before .before .before .before .before .before .before .records .inv .lens-kept)
+    (λ c. c .before .before .before .before .before .before .before .before .before .before .before .before .before .before .before .before .before .before .records .inv .counts-kept)
+    (λ c. c .before .before .before .before .before .before .before .before .before .before .before .before .before .before .before .before .before .before .records .inv .shares-kept)
+    (λ c.
+    let s = c .before .before .before .before .before in
+    law.symbol-not-above (alike (s .before)) (s .if6 .left) (c .before .before .before .before .if7 .taken) _ (c .before .is-higher .ensures) (c .if8 .taken))
+    (λ c. c .before .before .before .before .before .before .before .before .before .before .before .before .before .before .before .records .inv .lens-kept)
+    (λ c. c .before .before .before .before .before .before .before .before .before .before .before .before .before .before .before .records .inv .counts-kept)
+    (λ c. c .before .before .before .before .before .before .before .before .before .before .before .before .before .before .before .records .inv .shares-kept)
     (λ c. law.too-many (above (c .before)) (c .if9 .taken)))

@@ -1,0 +1,93 @@
+-- How the build of a list ends, by the ways that the code goes.
+--     build-low, build-high, build-bad     block size 0; above 64; a bad record
+--     build-refused, build-written         what building a judged list gave
+--     judged-asks       a judged list is ready to be built
+-- Assumes nothing.
+use Prim.Native.Nat.{ℕ, _≤_, _<_}
+use native.Mathlib.Omega.{arith}
+use mathlib.Core.Path.{_≡_, refl, sym, ap, _∙_, subst}
+use mathlib.Core.Bool.{Bool, true, false}
+use mathlib.Core.List.{List}
+use lib.ListN.{length}
+use borrow.Author.Tests.{le-leb, lt-leb}
+use Rattle.words.specs.Words.{Bytes, pick}
+use Rattle.format.specs.Marks.{BookKind, ruleOf}
+use Rattle.format.proofs.Marks.{kind-lawful}
+use Rattle.format.specs.Book.{goodBlock}
+use Rattle.format.specs.Records.{Names, Reading, Refused, mostNames, readList, sound}
+use Rattle.format.proofs.Records.{read-refused, read-sound, sound-few}
+use Rattle.format.specs.Outcomes.{Answer as Numbers, Written, given, numbered, refused}
+use Rattle.answers.specs.Calls.{build, builtFrom}
+use Rattle.records.specs.Lists.{Judged, Noted, names, namesIn, verdictNumbers, readingOf}
+use Rattle.records.proofs.Names.{names-are}
+use Rattle.build.specs.Whole.{BuildAsk, shownBuilt}
+use Rattle.build.specs.declared.Built.{Built}
+use Rattle.build.specs.declared.Built.the-variants.{Refused as Stopped, Written as Wrote}
+use Rattle.records.specs.declared.Verdict.{Verdict}
+use Rattle.records.specs.declared.Verdict.the-variants.{Good, Bad}
+use Rattle.shapes.specs.Shapes.{answered, written}
+use Rattle.shapes.specs.declared.Answer.{Answer}
+
+module _ (κ : BookKind) (s : Bytes) (k : ℕ) (room : Bytes) where
+  gate : (t : Bool) → goodBlock k ≡ t → build κ s k room ≡ pick t (builtFrom κ k room (readList (ruleOf κ) mostNames s)) (record { answer = refused 8; room = room })
+  unfolding build
+  gate t p = rw p refl
+
+  -- an answer with these numbers, and the room as it was
+  abbrev pub Ends : Answer → ℕ → ℕ → Type 0
+  Ends r code first = answered r ≡ numbered code first
+
+  pub build-low : (r : Answer) → Ends r 8 0 → k ≡ 0 → written r room ≡ build κ s k room
+  build-low r e h = ap (λ (a : Numbers). record { answer = a; room = room }) e ∙ sym (gate false (rw (lt-leb 1 k (omega arith)) refl))
+
+  pub build-high : (r : Answer) → Ends r 8 0 → 64 < k → written r room ≡ build κ s k room
+  build-high r e h = ap (λ (a : Numbers). record { answer = a; room = room }) e ∙ sym (gate false (rw (le-leb 1 k (omega arith), lt-leb k 64 h) refl))
+
+  module _ (z : k ≡ 0 → ⊥) (h : k ≤ 64) where
+    build-good : (w : Written) → w ≡ builtFrom κ k room (readList (ruleOf κ) mostNames s) → w ≡ build κ s k room
+    build-good w p = p ∙ sym (gate true (rw (le-leb 1 k (omega arith), le-leb k 64 h) refl))
+
+    pub build-bad : (r : Answer) (code i : ℕ) → Ends r code i → {most : ℕ} {lens counts shares : List ℕ} {v : Verdict} → Judged (ruleOf κ) s most lens counts shares v → most ≡ mostNames → v ≡ Bad code i
+        → written r room ≡ build κ s k room
+    unfolding builtFrom readingOf
+    build-bad r code i e j limit u =
+        build-good (written r room) (ap (λ (a : Numbers). record { answer = a; room = room }) e ∙ go (readList (ruleOf κ) mostNames s)
+        (ap verdictNumbers (sym u) ∙ j .verdict ∙ ap (λ (m : ℕ). readingOf (readList (ruleOf κ) m s)) limit))
+      where
+        go : (x : Reading) → numbered code i ≡ readingOf x → record { answer = numbered code i; room = room } ≡ builtFrom κ k room x
+        go (Names xs) f = absurd (let y : code ≡ 0 = ap (λ (a : Numbers). a .code) f in omega (arith, j .refuses code i u))
+        go (Refused c j) f = ap (λ (a : Numbers). record { answer = a; room = room }) f
+
+    pub judged-asks : (n : ℕ) (lens counts shares : List ℕ) (v : Verdict) → Judged (ruleOf κ) s mostNames lens counts shares v → v ≡ Good n → length lens ≡ mostNames → BuildAsk κ s n lens counts shares k
+    unfolding readingOf
+    judged-asks n lens counts shares v j e places = go (readList (ruleOf κ) mostNames s) refl (ap verdictNumbers (sym e) ∙ j .verdict)
+      where
+        go : (x : Reading) → readList (ruleOf κ) mostNames s ≡ x → given n 0 ≡ readingOf x → BuildAsk κ s n lens counts shares k
+        go (Refused c i) p f = absurd (let y : 0 ≡ c = ap (λ (a : Numbers). a .code) f in omega (arith, read-refused (ruleOf κ) mostNames s c i p))
+        go (Names xs) p f =
+            let all : names s ≡ xs = names-are (ruleOf κ) mostNames s xs p in
+            let b = read-sound (ruleOf κ) s (names s) (p ∙ ap Names (sym all)) in
+            let count : n ≡ length xs = ap (λ (a : Numbers). a .first) f in
+            let size : n ≡ length (names s) = count ∙ ap length (sym all) in
+            record {
+              read = p ∙ ap Names (sym all);
+              ready = record {
+                lawful = kind-lawful κ;
+                bytes = b .0;
+                total = size;
+                few = omega (arith, sound-few (ruleOf κ) (names s) (b .1));
+                sound = b .1;
+                noted = subst (λ (ys : List Bytes). Noted (ruleOf κ) ys lens counts shares) (ap namesIn p ∙ sym all) (j .noted (omega arith));
+              };
+              low = omega arith;
+              high = h;
+            }
+
+    -- what building a judged list gave, as the call's own answer
+    module _ (new : Bytes) (v : Built) (p : shownBuilt v new ≡ builtFrom κ k room (readList (ruleOf κ) mostNames s)) where
+      pub build-refused : (r : Answer) (code : ℕ) → Ends r code 0 → v ≡ Stopped code → written r new ≡ build κ s k room
+      build-refused r code e u =
+          build-good (written r new) (ap (λ (a : Numbers). record { answer = a; room = new }) e ∙ subst (λ (w : Built). shownBuilt w new ≡ builtFrom κ k room (readList (ruleOf κ) mostNames s)) u p)
+
+      pub build-written : (total : ℕ) → v ≡ Wrote total → record { answer = given total 0; room = new } ≡ build κ s k room
+      build-written total u = build-good (shownBuilt (Wrote total) new) (subst (λ (w : Built). shownBuilt w new ≡ builtFrom κ k room (readList (ruleOf κ) mostNames s)) u p)
