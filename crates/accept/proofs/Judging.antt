@@ -1,6 +1,6 @@
 -- What the check answers, way by way.
 --     unsound, sound    bytes of which a part fails; of which all stand
---     walk-ask, entries-fail, table-ask, table-says     after a trailer that passes: what the two walks ask, and what their answers
+--     walked-own, walk-ask, entries-fail, table-ask, table-says     after a trailer that passes: what the two walks ask, and what their answers
 --                       come to
 --     SoundBook, sound-book, checked-sound     what an accepting answer says
 -- Assumes nothing.
@@ -10,9 +10,13 @@ use mathlib.Core.Path.{_≡_, _∙_, ap, refl, subst, sym}
 use mathlib.Core.Bool.{Bool, false, not, true}
 use mathlib.Core.List.{[]}
 use lib.ListN.{length}
-use Rattle.words.specs.Words.{Bytes, InBytes, plain}
+use Rattle.words.specs.Words.{Bytes, InBytes, Rule}
 use Rattle.words.proofs.Words.{false≠true}
+use Rattle.format.specs.Marks.{kindOf, ruleIn}
+use Rattle.format.proofs.Marks.{kind-lawful}
 use Rattle.format.specs.Book.{Book, NoBook, Opened, opened, trailerSize, namesOf, told}
+use Rattle.symbols.specs.Rules.{ruleBy}
+use Rattle.symbols.proofs.Symbols.{rule-by}
 use Rattle.trailer.specs.Trailer.{Trail, TrailSays, trailerIn}
 use Rattle.trailer.specs.declared.Trailer.{Trailer}
 use Rattle.streams.specs.Runs.{Frame, Has}
@@ -36,19 +40,19 @@ pub sound≠unsound : {t : Trailer} → Sound t ≡ Unsound → ⊥
 unfolding accepts
 sound≠unsound q = let z : _≡_ {A = ℕ} 1 0 = ap accepts q in absurd (omega arith)
 
-pub unsound : (b : Bytes) → (Parts b → ⊥) → Unsound ≡ checkOn b (opened plain b)
+pub unsound : (b : Bytes) → (Parts b → ⊥) → Unsound ≡ checkOn b (opened (kindOf b) b)
 unfolding checkOn
-unsound b fails = go (opened plain b) refl
+unsound b fails = go (opened (kindOf b) b) refl
   where
-    go : (o : Opened) → opened plain b ≡ o → Unsound ≡ checkOn b o
-    go (Book k xs) e = absurd (fails (opened-parts b k xs e))
+    go : (o : Opened) → opened (kindOf b) b ≡ o → Unsound ≡ checkOn b o
+    go (Book k xs) e = absurd (fails (opened-parts (kindOf b) b k xs e))
     go NoBook e = refl
 
-pub sound : (b : Bytes) → Held b → (t : Trailer) → t ≡ trailerIn b → Parts b → Sound t ≡ checkOn b (opened plain b)
+pub sound : (b : Bytes) → Held b → (t : Trailer) → t ≡ trailerIn b → Parts b → Sound t ≡ checkOn b (opened (kindOf b) b)
 unfolding checkOn
 sound b held t e p = ap Sound e ∙ ap (checkOn b) (sym (parts-opened b (held-bytes b held) p))
 
-pub parts-sound : (b : Bytes) → Held b → (r : Bool) → r ≡ true → PartsSay b r → (t : Trailer) → t ≡ trailerIn b → Sound t ≡ checkOn b (opened plain b)
+pub parts-sound : (b : Bytes) → Held b → (r : Bool) → r ≡ true → PartsSay b r → (t : Trailer) → t ≡ trailerIn b → Sound t ≡ checkOn b (opened (kindOf b) b)
 parts-sound b held true h p t e = sound b held t e p
 parts-sound b held false h p t e = absurd (false≠true h)
 
@@ -56,7 +60,7 @@ pub parts-long : (b : Bytes) (r : Bool) → r ≡ true → PartsSay b r → trai
 parts-long b true h p = p .trail .long
 parts-long b false h p = absurd (false≠true h)
 
-pub parts-unsound : (b : Bytes) (r : Bool) → r ≡ false → PartsSay b r → Unsound ≡ checkOn b (opened plain b)
+pub parts-unsound : (b : Bytes) (r : Bool) → r ≡ false → PartsSay b r → Unsound ≡ checkOn b (opened (kindOf b) b)
 parts-unsound b true h = absurd (false≠true (sym h))
 parts-unsound b false h = unsound b
 
@@ -85,6 +89,10 @@ asked b n k s u t p e ne ke se ue = record {
   nodes = ue ∙ ap (λ (x : Trailer). x .nodes) e;
 }
 
+-- the walk over the entries goes by the rule that the trailer tells
+pub walked-own : (b : Bytes) (t : Trailer) (k s u n : ℕ) (r : Bool) → t ≡ trailerIn b → WalkSays (ruleBy (t .rule)) b k s u n r → WalkSays (ruleIn b) b k s u n r
+walked-own b t k s u n r e says = subst (λ (ρ : Rule). WalkSays ρ b k s u n r) (ap (λ (x : Trailer). ruleBy (x .rule)) e ∙ rule-by (kindOf b)) says
+
 module _ (b : Bytes) (n k s u : ℕ) (a : NumbersRead b n k s u) where
   abbrev inside : s ≤ length b
   inside = omega (arith, a .trail .total, a .trail .order, a .table, a .nodes)
@@ -97,32 +105,32 @@ module _ (b : Bytes) (n k s u : ℕ) (a : NumbersRead b n k s u) where
     room = omega (arith, a .trail .total, a .nodes);
   }
 
-  here : Has b (told b 1) (told b 2) (told b 3) (told b 0) (told b 2) 0 [] → Has b k s u n s 0 []
-  here = has-at b (told b 1) k (told b 2) s (told b 3) u (told b 0) n (sym (a .block)) (sym (a .table)) (sym (a .nodes)) (sym (a .names))
+  here : Has (ruleIn b) b (told b 1) (told b 2) (told b 3) (told b 0) (told b 2) 0 [] → Has (ruleIn b) b k s u n s 0 []
+  here = has-at (ruleIn b) b (told b 1) k (told b 2) s (told b 3) u (told b 0) n (sym (a .block)) (sym (a .table)) (sym (a .nodes)) (sym (a .names))
 
-  there : Has b k s u n s 0 [] → Has b (told b 1) (told b 2) (told b 3) (told b 0) (told b 2) 0 []
-  there = has-at b k (told b 1) s (told b 2) u (told b 3) n (told b 0) (a .block) (a .table) (a .nodes) (a .names)
+  there : Has (ruleIn b) b k s u n s 0 [] → Has (ruleIn b) b (told b 1) (told b 2) (told b 3) (told b 0) (told b 2) 0 []
+  there = has-at (ruleIn b) b k (told b 1) s (told b 2) u (told b 3) n (told b 0) (a .block) (a .table) (a .nodes) (a .names)
 
-  pub entries-fail : (r : Bool) → not r ≡ true → WalkSays b k s u n r → PartsSay b false
+  pub entries-fail : (r : Bool) → not r ≡ true → WalkSays (ruleIn b) b k s u n r → PartsSay b false
   entries-fail true h = absurd (false≠true h)
   entries-fail false h = λ says p. says (here (p .entries))
 
-  pub table-ask : (r : Bool) → not r ≡ false → WalkSays b k s u n r → TableAsk b u (length b - trailerSize) n
+  pub table-ask : (r : Bool) → not r ≡ false → WalkSays (ruleIn b) b k s u n r → TableAsk b u (length b - trailerSize) n
   table-ask false h says = absurd (false≠true (sym h))
   table-ask true h has =
       let low : 1 ≤ k = omega (arith, a .trail .low, a .block) in
-      let e : namesOf b ≡ has .names = has-names b k s u n inside has low (sym (a .table)) in
+      let e : namesOf b ≡ has .names = has-names (ruleIn b) b k s u n inside has low (sym (a .table)) in
       let c : length (namesOf b) ≡ n = ap length e ∙ has .count in
       record {
-        known = has-known b k s u n inside has low (sym (a .table)) (omega (arith, a .trail .few, a .names)) (a .trail .short);
-        blocks = subst (λ (m : ℕ). InBlocks b m (told b 2)) (a .block) (subst (InBlocks b k) (a .table) (has-blocks b k s u n walk-ask has (sym (a .table))));
+        known = has-known (ruleIn b) b k s u n inside has low (sym (a .table)) (kind-lawful (kindOf b)) (omega (arith, a .trail .few, a .names)) (a .trail .short);
+        blocks = subst (λ (m : ℕ). InBlocks b m (told b 2)) (a .block) (subst (InBlocks b k) (a .table) (has-blocks (ruleIn b) (kind-lawful (kindOf b)) b k s u n walk-ask has (sym (a .table))));
         count = sym c;
         order = omega (arith, a .trail .total, a .nodes);
         long = omega (arith, a .trail .long);
       }
 
   -- the node table decides
-  pub table-says : (r : Bool) → not r ≡ false → WalkSays b k s u n r → (q : Bool) → q ≡ isTable b u (length b - trailerSize) → PartsSay b q
+  pub table-says : (r : Bool) → not r ≡ false → WalkSays (ruleIn b) b k s u n r → (q : Bool) → q ≡ isTable b u (length b - trailerSize) → PartsSay b q
   table-says false h says q e = absurd (false≠true (sym h))
   table-says true h has true e = record {
     trail = a .trail;
@@ -135,7 +143,7 @@ module _ (b : Bytes) (n k s u : ℕ) (a : NumbersRead b n k s u) where
 pub record SoundBook (b : Bytes) (t : Trailer) : Type 0 where
   pub parts : Parts b
   pub told : t ≡ trailerIn b
-  pub book : opened plain b ≡ Book (t .block) (namesOf b)
+  pub book : opened (kindOf b) b ≡ Book (t .block) (namesOf b)
   pub count : t .names ≡ length (namesOf b)
 
 -- the names are as many as the trailer tells
@@ -143,16 +151,16 @@ names-told : (b : Bytes) → Parts b → told b 0 ≡ length (namesOf b)
 names-told b p =
     let inside : told b 2 ≤ length b = omega (arith, p .trail .total, p .trail .order) in
     let has = p .entries in
-    sym (ap length (has-names b (told b 1) (told b 2) (told b 3) (told b 0) inside has (p .trail .low) refl) ∙ has .count)
+    sym (ap length (has-names (ruleIn b) b (told b 1) (told b 2) (told b 3) (told b 0) inside has (p .trail .low) refl) ∙ has .count)
 
-pub sound-book : (b : Bytes) (t : Trailer) → InBytes b → Sound t ≡ checkOn b (opened plain b) → SoundBook b t
+pub sound-book : (b : Bytes) (t : Trailer) → InBytes b → Sound t ≡ checkOn b (opened (kindOf b) b) → SoundBook b t
 unfolding checkOn
-sound-book b t bytes s = go (opened plain b) refl s
+sound-book b t bytes s = go (opened (kindOf b) b) refl s
   where
-    go : (o : Opened) → opened plain b ≡ o → Sound t ≡ checkOn b o → SoundBook b t
+    go : (o : Opened) → opened (kindOf b) b ≡ o → Sound t ≡ checkOn b o → SoundBook b t
     go NoBook e q = absurd (sound≠unsound q)
     go (Book j xs) e q =
-        let p : Parts b = opened-parts b j xs e in
+        let p : Parts b = opened-parts (kindOf b) b j xs e in
         let is : t ≡ trailerIn b = cc in
         record {
           parts = p;
@@ -161,6 +169,6 @@ sound-book b t bytes s = go (opened plain b) refl s
           count = ap (λ (x : Trailer). x .names) is ∙ names-told b p;
         }
 
-module _ (b : Bytes) (t : Trailer) (held : Held b) (v : Checked) (s : v ≡ checkOn b (opened plain b)) (u : v ≡ Sound t) where
+module _ (b : Bytes) (t : Trailer) (held : Held b) (v : Checked) (s : v ≡ checkOn b (opened (kindOf b) b)) (u : v ≡ Sound t) where
   pub checked-sound : SoundBook b t
   checked-sound = sound-book b t (held-bytes b held) (sym u ∙ s)

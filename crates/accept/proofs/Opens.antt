@@ -8,16 +8,18 @@ use mathlib.Core.Path.{_≡_, _∙_, ap, ap₂, refl, subst, sym}
 use mathlib.Core.List.{List, [], _++_, _∷_, map}
 use lib.ListN.{drop, getD, length, length-append, take, take-append-drop}
 use lib.Seq.{drop-append-le, getD-drop, length-take-le, slice, take-at, take-length}
-use Rattle.words.specs.Words.{Bytes, InBytes, plain, same, word}
+use Rattle.words.specs.Words.{Bytes, InBytes, Rule, same, word}
 use Rattle.words.proofs.Words.{same-refl, same-true}
 use Rattle.format.specs.Spans.{wordsOf}
-use Rattle.format.specs.Book.{Book, blockPart, book, entryPart, mark, nodePart, number, numbers, opened, trailerSize, namesOf, told}
+use Rattle.format.specs.Marks.{BookKind, FoldedBook, PlainBook, kindOf, markOf, ruleIn, ruleOf}
+use Rattle.format.specs.Book.{Book, blockPart, book, entryPart, nodePart, number, numbers, opened, trailer, trailerSize, namesOf, told}
 use Rattle.format.specs.Nodes.{Node, table}
-use Rattle.format.proofs.Book.{Fits, blocksAt, book-length, book-opened, fits-parts, from-nodes, from-trailer, nodes-length, nodesAt, opened-book, parts-fits, read-field, records, trailerAt, trailerNumbers}
+use Rattle.format.proofs.Book.{Fits, blocksAt, book-length, book-opened, fits-parts, from-nodes, from-trailer, kind-of-book, nodes-length, nodesAt, opened-book, parts-fits, read-field, records, trailerAt, trailerNumbers}
 use Rattle.format.proofs.Book as layout
 use Rattle.format.proofs.Records.{sound-few}
 use Rattle.format.proofs.Numbers.{numbers-are}
 use Rattle.trailer.specs.Trailer.{Trail, markBack, markFront}
+use Rattle.trailer.proofs.Telling.{trailer-is as numbers-trailer}
 use Rattle.streams.specs.Runs.{Has}
 use Rattle.streams.proofs.Laid.{book-stands}
 use Rattle.streams.proofs.Walks.{ends-at, has-length, has-names, has-sound}
@@ -32,13 +34,13 @@ slice-drop b u e h k =
 
 -- the mark is two numbers more
 trailer-is : (b : Bytes) → InBytes b → (n k s u m t : ℕ) → Trail b → told b 0 ≡ n → told b 1 ≡ k → told b 2 ≡ s → told b 3 ≡ u → told b 4 ≡ m → told b 5 ≡ t
-    → drop (length b - trailerSize) b ≡ numbers (n ∷ k ∷ s ∷ u ∷ m ∷ t ∷ []) ++ mark
-unfolding numbers
+    → drop (length b - trailerSize) b ≡ trailer (kindOf b) n k s u m t
 trailer-is b bytes n k s u m t h en ek es eu em et =
     ap (drop (length b - trailerSize)) (sym (take-length b))
-    ∙ numbers-are b bytes (n ∷ k ∷ s ∷ u ∷ m ∷ t ∷ markFront ∷ markBack ∷ []) (length b - trailerSize) (length b) (omega (arith, h .long)) (omega arith) at
+    ∙ numbers-trailer (kindOf b) _ n k s u m t _ refl
+    (numbers-are b bytes (n ∷ k ∷ s ∷ u ∷ m ∷ t ∷ markFront ∷ markBack (kindOf b) ∷ []) (length b - trailerSize) (length b) (omega (arith, h .long)) (omega arith) at)
   where
-    at : (j : ℕ) → j < 8 → told b j ≡ getD (n ∷ k ∷ s ∷ u ∷ m ∷ t ∷ markFront ∷ markBack ∷ []) j 0
+    at : (j : ℕ) → j < 8 → told b j ≡ getD (n ∷ k ∷ s ∷ u ∷ m ∷ t ∷ markFront ∷ markBack (kindOf b) ∷ []) j 0
     at zero l = en
     at (suc zero) l = ek
     at (suc (suc zero)) l = es
@@ -59,57 +61,57 @@ module _ (b : Bytes) (bytes : InBytes b) (p : Parts b) where
   xs = p .entries .names
 
   abbrev rs : List Node
-  rs = table (map (word plain) xs)
+  rs = table (map (word (ruleIn b)) xs)
 
   abbrev inside : told b 2 ≤ length b
   inside = omega (arith, p .trail .total, p .trail .order)
 
   names-here : namesOf b ≡ xs
-  names-here = has-names b k (told b 2) (told b 3) (told b 0) inside (p .entries) (p .trail .low) refl
+  names-here = has-names (ruleIn b) b k (told b 2) (told b 3) (told b 0) inside (p .entries) (p .trail .low) refl
 
   nodes-are : nodePart rs ≡ slice (told b 3) (length b - trailerSize) b
   unfolding isTable wordsOf
   nodes-are =
-      ap (λ (ys : List Bytes). nodePart (table (map (word plain) ys))) (sym names-here)
-      ∙ same-true (nodePart (table (wordsOf plain b))) (slice (told b 3) (length b - trailerSize) b) (p .nodes)
+      ap (λ (ys : List Bytes). nodePart (table (map (word (ruleIn b)) ys))) (sym names-here)
+      ∙ same-true (nodePart (table (wordsOf (ruleIn b) b))) (slice (told b 3) (length b - trailerSize) b) (p .nodes)
 
   table-is : drop (told b 3) b ≡ nodePart rs ++ drop (length b - trailerSize) b
   table-is =
       slice-drop b (told b 3) (length b - trailerSize) (omega (arith, p .trail .total)) (omega arith)
       ∙ ap (λ (y : Bytes). y ++ drop (length b - trailerSize) b) (sym nodes-are)
 
-  pub parts-book : book plain k xs ≡ b
-  unfolding blockPart
+  pub parts-book : book (kindOf b) k xs ≡ b
+  unfolding blockPart trailer
   parts-book =
-      let l1 : blocksAt plain k xs ≡ told b 2 = has-length b k (told b 2) (told b 3) (told b 0) inside (p .entries) in
+      let l1 : blocksAt (kindOf b) k xs ≡ told b 2 = has-length (ruleIn b) b k (told b 2) (told b 3) (told b 0) inside (p .entries) in
       let l2 : told b 2 + length (blockPart k xs) ≡ told b 3 =
       ends-at b (blockPart k xs) (told b 2) (told b 3) inside (omega (arith, p .trail .total)) (p .entries .rest .places) in
       let l3 : told b 3 + length (nodePart rs) ≡ length b - trailerSize =
       ends-at b (nodePart rs) (told b 3) (length b - trailerSize) (omega (arith, p .trail .total)) (omega arith) table-is in
-      let t : drop (length b - trailerSize) b ≡ numbers (trailerNumbers plain k xs) ++ mark =
-      trailer-is b bytes (length xs) k (blocksAt plain k xs) (nodesAt plain k xs) (length rs) (trailerAt plain k xs + trailerSize) (p .trail)
+      let t : drop (length b - trailerSize) b ≡ numbers (trailerNumbers (kindOf b) k xs) ++ markOf (kindOf b) =
+      trailer-is b bytes (length xs) k (blocksAt (kindOf b) k xs) (nodesAt (kindOf b) k xs) (length rs) (trailerAt (kindOf b) k xs + trailerSize) (p .trail)
       (sym (p .entries .count)) refl (sym l1) (omega arith) (omega (arith, nodes-length rs, p .trail .total))
       (omega (arith, p .trail .whole, p .trail .long)) in
-      layout.book-parts plain k xs
+      layout.book-parts (kindOf b) k xs
       ∙ sym (p .entries .rest .entries ∙ ap (λ (y : Bytes). entryPart k xs ++ y) (p .entries .rest .places
       ∙ ap (λ (y : Bytes). blockPart k xs ++ y) (table-is ∙ ap (λ (y : Bytes). nodePart rs ++ y) t)))
 
-  pub parts-opened : opened plain b ≡ Book k (namesOf b)
+  pub parts-opened : opened (kindOf b) b ≡ Book k (namesOf b)
   parts-opened =
-      let f : Fits plain k xs = record {
+      let f : Fits (kindOf b) k xs = record {
         low = p .trail .low;
         high = p .trail .high;
-        sound = has-sound b k (told b 2) (told b 3) (told b 0) inside (p .entries) (p .trail .few);
+        sound = has-sound (ruleIn b) b k (told b 2) (told b 3) (told b 0) inside (p .entries) (p .trail .few);
         short = omega (arith, ap length parts-book, p .trail .short);
       } in
-      ap (opened plain) (sym parts-book) ∙ opened-book plain k xs (parts-fits plain k xs f) ∙ ap (Book k) (sym names-here)
+      ap (opened (kindOf b)) (sym parts-book) ∙ opened-book (kindOf b) k xs (parts-fits (kindOf b) k xs f) ∙ ap (Book k) (sym names-here)
 
 -- ---- a book's parts
 
-pub has-at : (b : Bytes) (k j s r u v n m : ℕ) → k ≡ j → s ≡ r → u ≡ v → n ≡ m → Has b k s u n s 0 [] → Has b j r v m r 0 []
-has-at b k j s r u v n m p q x y h =
-    subst (λ (z : ℕ). Has b z r v m r 0 []) p
-    (subst (λ (z : ℕ). Has b k z v m z 0 []) q (subst (λ (z : ℕ). Has b k s z m s 0 []) x (subst (λ (z : ℕ). Has b k s u z s 0 []) y h)))
+pub has-at : (ρ : Rule) (b : Bytes) (k j s r u v n m : ℕ) → k ≡ j → s ≡ r → u ≡ v → n ≡ m → Has ρ b k s u n s 0 [] → Has ρ b j r v m r 0 []
+has-at ρ b k j s r u v n m p q x y h =
+    subst (λ (z : ℕ). Has ρ b z r v m r 0 []) p
+    (subst (λ (z : ℕ). Has ρ b k z v m z 0 []) q (subst (λ (z : ℕ). Has ρ b k s z m s 0 []) x (subst (λ (z : ℕ). Has ρ b k s u z s 0 []) y h)))
 
 cut-slice : (b p t : Bytes) (u e : ℕ) → u ≤ e → e ≤ length b → drop u b ≡ p ++ t → drop e b ≡ t → slice u e b ≡ p
 cut-slice b p t u e h k d g =
@@ -123,65 +125,67 @@ number-at b e i =
     let z : e + i + 1 ≡ e + (i + 1) = omega arith in
     ap₂ (λ (x y : ℕ). x + 256 * y) (sym (getD-drop e b i 0)) (ap (λ (n : ℕ). getD b n 0) z ∙ sym (getD-drop e b (i + 1) 0))
 
-module _ (k : ℕ) (xs : List Bytes) (f : Fits plain k xs) where
+-- the mark as two numbers
+mark-numbers : (κ : BookKind) (n k s u m t : ℕ)
+    → let b = numbers (n ∷ k ∷ s ∷ u ∷ m ∷ t ∷ []) ++ markOf κ in (number b (2 * 6) ≡ markFront) × (number b (2 * 7) ≡ markBack κ)
+unfolding number numbers
+mark-numbers PlainBook n k s u m t = (refl, refl)
+mark-numbers FoldedBook n k s u m t = (refl, refl)
+
+module _ (κ : BookKind) (k : ℕ) (xs : List Bytes) (f : Fits κ k xs) where
   abbrev B : Bytes
-  B = book plain k xs
+  B = book κ k xs
 
   abbrev ns : Bytes
-  ns = nodePart (records plain k xs)
+  ns = nodePart (records κ k xs)
 
   abbrev end : Bytes
-  end = numbers (trailerNumbers plain k xs) ++ mark
+  end = numbers (trailerNumbers κ k xs) ++ markOf κ
 
-  at-end : length B - trailerSize ≡ trailerAt plain k xs
-  at-end = omega (arith, book-length plain k xs)
+  at-end : length B - trailerSize ≡ trailerAt κ k xs
+  at-end = omega (arith, book-length κ k xs)
 
   -- number j of the trailer, the mark's two among them
   marked : (j : ℕ) → told B j ≡ number end (2 * j)
-  marked j = number-at B (length B - trailerSize) (2 * j) ∙ ap (λ (s : Bytes). number s (2 * j)) (ap (λ (x : ℕ). drop x B) at-end ∙ from-trailer plain k xs)
+  marked j = number-at B (length B - trailerSize) (2 * j) ∙ ap (λ (s : Bytes). number s (2 * j)) (ap (λ (x : ℕ). drop x B) at-end ∙ from-trailer κ k xs)
 
-  mark-front : told B 6 ≡ markFront
-  unfolding number numbers
-  mark-front = marked 6
-
-  mark-back : told B 7 ≡ markBack
-  unfolding number numbers
-  mark-back = marked 7
-
-  here : Has B k (blocksAt plain k xs) (nodesAt plain k xs) (length xs) (blocksAt plain k xs) 0 []
-  here = record { names = xs; count = refl; rest = book-stands k xs f }
+  here : Has (ruleOf κ) B k (blocksAt κ k xs) (nodesAt κ k xs) (length xs) (blocksAt κ k xs) 0 []
+  here = record { names = xs; count = refl; rest = book-stands κ k xs f }
 
   pub book-passes : Parts B
   unfolding isTable wordsOf here
   book-passes =
-      let tn : told B 0 ≡ length xs = read-field plain k xs f 0 (omega arith) in
-      let tk : told B 1 ≡ k = read-field plain k xs f 1 (omega arith) in
-      let ts : told B 2 ≡ blocksAt plain k xs = read-field plain k xs f 2 (omega arith) in
-      let tu : told B 3 ≡ nodesAt plain k xs = read-field plain k xs f 3 (omega arith) in
-      let tm : told B 4 ≡ length (records plain k xs) = read-field plain k xs f 4 (omega arith) in
-      let tt : told B 5 ≡ trailerAt plain k xs + trailerSize = read-field plain k xs f 5 (omega arith) in
-      let l : length B ≡ trailerAt plain k xs + trailerSize = book-length plain k xs in
-      let nm : namesOf B ≡ xs = has-names B k (blocksAt plain k xs) (nodesAt plain k xs) (length xs) (omega arith) here (f .low) ts in
+      let own : kindOf B ≡ κ = kind-of-book κ k xs in
+      let marks = mark-numbers κ (length xs) k (blocksAt κ k xs) (nodesAt κ k xs) (length (records κ k xs)) (trailerAt κ k xs + trailerSize) in
+      let tn : told B 0 ≡ length xs = read-field κ k xs f 0 (omega arith) in
+      let tk : told B 1 ≡ k = read-field κ k xs f 1 (omega arith) in
+      let ts : told B 2 ≡ blocksAt κ k xs = read-field κ k xs f 2 (omega arith) in
+      let tu : told B 3 ≡ nodesAt κ k xs = read-field κ k xs f 3 (omega arith) in
+      let tm : told B 4 ≡ length (records κ k xs) = read-field κ k xs f 4 (omega arith) in
+      let tt : told B 5 ≡ trailerAt κ k xs + trailerSize = read-field κ k xs f 5 (omega arith) in
+      let l : length B ≡ trailerAt κ k xs + trailerSize = book-length κ k xs in
+      let nm : namesOf B ≡ xs = has-names (ruleOf κ) B k (blocksAt κ k xs) (nodesAt κ k xs) (length xs) (omega arith) here (f .low) ts in
       record {
         trail = record {
           long = omega arith;
           short = f .short;
-          few = omega (arith, tn, sound-few plain xs (f .sound));
+          few = omega (arith, tn, sound-few (ruleOf κ) xs (f .sound));
           low = omega (arith, tk, f .low);
           high = omega (arith, tk, f .high);
           order = omega (arith, ts, tu);
-          total = omega (arith, tu, tm, l, nodes-length (records plain k xs));
+          total = omega (arith, tu, tm, l, nodes-length (records κ k xs));
           whole = omega (arith, tt, l);
-          front = mark-front;
-          back = mark-back;
+          front = marked 6 ∙ marks .0;
+          back = marked 7 ∙ marks .1 ∙ ap markBack (sym own);
         };
-        entries = has-at B k (told B 1) (blocksAt plain k xs) (told B 2) (nodesAt plain k xs) (told B 3) (length xs) (told B 0) (sym tk) (sym ts) (sym tu) (sym tn) here;
+        entries = subst (λ (z : BookKind). Has (ruleOf z) B (told B 1) (told B 2) (told B 3) (told B 0) (told B 2) 0 []) (sym own)
+            (has-at (ruleOf κ) B k (told B 1) (blocksAt κ k xs) (told B 2) (nodesAt κ k xs) (told B 3) (length xs) (told B 0) (sym tk) (sym ts) (sym tu) (sym tn) here);
         nodes =
-            ap₂ (λ (y z : Bytes). same y z) (ap (λ (ys : List Bytes). nodePart (table (map (word plain) ys))) nm)
+            ap₂ (λ (y z : Bytes). same y z) (ap₂ (λ (z : BookKind) (ys : List Bytes). nodePart (table (map (word (ruleOf z)) ys))) own nm)
             (ap (λ (x : ℕ). slice x (length B - trailerSize) B) tu
-            ∙ cut-slice B ns end (nodesAt plain k xs) (length B - trailerSize) (omega arith) (omega arith) (from-nodes plain k xs) (ap (λ (x : ℕ). drop x B) at-end ∙ from-trailer plain k xs))
+            ∙ cut-slice B ns end (nodesAt κ k xs) (length B - trailerSize) (omega arith) (omega arith) (from-nodes κ k xs) (ap (λ (x : ℕ). drop x B) at-end ∙ from-trailer κ k xs))
             ∙ same-refl ns;
       }
 
-pub opened-parts : (b : Bytes) (k : ℕ) (xs : List Bytes) → opened plain b ≡ Book k xs → Parts b
-opened-parts b k xs e = let o = book-opened plain b k xs e in subst Parts (o .1) (book-passes k xs (fits-parts plain k xs (o .0)))
+pub opened-parts : (κ : BookKind) (b : Bytes) (k : ℕ) (xs : List Bytes) → opened κ b ≡ Book k xs → Parts b
+opened-parts κ b k xs e = let o = book-opened κ b k xs e in subst Parts (o .1) (book-passes κ k xs (fits-parts κ k xs (o .0)))

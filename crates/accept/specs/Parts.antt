@@ -8,6 +8,7 @@ use mathlib.Core.Bool.{Bool, false, true}
 use mathlib.Core.List.{[]}
 use lib.ListN.{length}
 use Rattle.words.specs.Words.{Bytes}
+use Rattle.format.specs.Marks.{ruleIn}
 use Rattle.format.specs.Book.{Book, NoBook, Opened, told, trailerSize}
 use Rattle.trailer.specs.Trailer.{Trail, trailerIn}
 use Rattle.streams.specs.Runs.{Has}
@@ -17,7 +18,7 @@ use Rattle.accept.specs.declared.Checked.the-variants.{Sound, Unsound}
 
 pub record Parts (b : Bytes) : Type 0 where
   pub trail : Trail b
-  pub entries : Has b (told b 1) (told b 2) (told b 3) (told b 0) (told b 2) 0 []
+  pub entries : Has (ruleIn b) b (told b 1) (told b 2) (told b 3) (told b 0) (told b 2) 0 []
   pub nodes : isTable b (told b 3) (length b - trailerSize) ≡ true
 
 abbrev pub PartsSay : Bytes → Bool → Type 0

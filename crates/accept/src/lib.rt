@@ -1,7 +1,8 @@
-// Whether bytes are a book: the trailer's numbers, then a walk over the entries, then one over the node table.
+// Whether bytes are a book of the kind that their mark tells: the trailer's numbers, then a walk over the entries, then one over the node
+// table.
 ghost use mathlib.Core.Path.{_≡_};
-ghost use Rattle.words.specs.Words.{plain};
 ghost use Rattle.format.specs.Book.{opened};
+ghost use Rattle.format.specs.Marks.{kindOf};
 ghost use Rattle.trailer.specs.Trailer.{Trail};
 ghost use Rattle.accept.specs.Parts.{PartsSay, checkOn};
 
@@ -17,9 +18,11 @@ fn check_parts(book: &[u8]) -> bool
     ensures { λ r. ⌜ PartsSay (now (book .entry)) r ⌝ }
 {
     let t = trailer::read(book);
+    let rule = t.rule;
     let n = numbers::wide16(t.names);
     let nodes_at = numbers::wide16(t.nodes);
     if !entries::check_entries(
+        rule,
         book,
         n,
         numbers::wide16(t.block),
@@ -45,7 +48,7 @@ pub fn is_book(book: &[u8]) -> bool
 
 // Whether bytes are a book; then its trailer is read once for all who go on.
 pub fn check_book(book: &[u8]) -> Checked
-    ensures { λ r. ⌜ r ≡ checkOn (now (book .entry)) (opened plain (now (book .entry))) ⌝ }
+    ensures { λ r. ⌜ r ≡ checkOn (now (book .entry)) (opened (kindOf (now (book .entry))) (now (book .entry))) ⌝ }
 {
     if is_book(book) {
         Checked::Sound(trailer::read(book))

@@ -11,63 +11,69 @@ use mathlib.Core.List.{[]}
 use lib.Dec.{eqb}
 use lib.ListN.{length, replicate, take, length-replicate}
 use borrow.Author.Tests.{eqb-false, eqb-true}
-use Rattle.words.specs.Words.{Bytes}
+use Rattle.words.specs.Words.{Bytes, Lawful, Rule}
 use Rattle.words.proofs.Words.{false≠true}
 use Rattle.format.specs.Book.{number}
 use Rattle.numbers.proofs.Parts.{Held, held-bytes}
+use Rattle.symbols.specs.Rules.{ruleBy}
+use Rattle.symbols.specs.declared.Rule.{Rule as ByRule}
+use Rattle.symbols.proofs.Symbols.{rule-lawful}
 use Rattle.streams.specs.Runs.{Frame, endOf}
 use Rattle.streams.proofs.Walks.{Walked, walked-bad, walked-done, walked-more, walked-past, walked-place, walked-room, walked-short, walked-start, walked-table}
 use Rattle.entries.specs.Judging.{NextSays, WalkSays}
 
-pub record Walking (b : Bytes) (k s u n t o : ℕ) (name : Bytes) (len i : ℕ) : Type 0 where
+pub record Walking (ρ : Rule) (b : Bytes) (k s u n t o : ℕ) (name : Bytes) (len i : ℕ) : Type 0 where
+  pub lawful : Lawful ρ
   pub size : length name ≡ 200
   pub room : len ≤ 200
-  pub walked : Walked b k s u n t o (take len name) (n - i)
+  pub walked : Walked ρ b k s u n t o (take len name) (n - i)
 
-pub walking-start : (b : Bytes) (k s u n : ℕ) → Frame b k s u → Held b → Walking b k s u n s 0 (replicate 200 0) 0 0
-walking-start b k s u n a held =
+pub walking-start : (r : ByRule) (b : Bytes) (k s u n : ℕ) → Frame b k s u → Held b → Walking (ruleBy r) b k s u n s 0 (replicate 200 0) 0 0
+walking-start r b k s u n a held =
     let z : n ≡ n - 0 = omega arith in
     record {
+      lawful = rule-lawful r;
       size = length-replicate {A = ℕ} 200 0;
       room = omega arith;
-      walked = subst (Walked b k s u n s 0 []) z (walked-start b k s u n a (held-bytes b held));
+      walked = subst (Walked (ruleBy r) b k s u n s 0 []) z (walked-start (ruleBy r) (rule-lawful r) b k s u n a (held-bytes b held));
     }
 
 -- all that the record tells is left to it
-module _ {b : Bytes} {k s u n t o : ℕ} {name : Bytes} {len i : ℕ} (w : Walking b k s u n t o name len i) where
-  pub walking-room : i < n → u - t < 2 → WalkSays b k s u n false
-  walking-room h g = walked-room b k s u n t o (take len name) (n - i) (w .walked) (omega arith) g
+module _ {ρ : Rule} {b : Bytes} {k s u n t o : ℕ} {name : Bytes} {len i : ℕ} (w : Walking ρ b k s u n t o name len i) where
+  pub walking-room : i < n → u - t < 2 → WalkSays ρ b k s u n false
+  walking-room h g = walked-room ρ (w .lawful) b k s u n t o (take len name) (n - i) (w .walked) (omega arith) g
 
-  pub walking-place : i < n → (x : ℕ) → x ≡ number b t → (x ≡ o → ⊥) → WalkSays b k s u n false
-  walking-place h x e g = walked-place b k s u n t o (take len name) (n - i) (w .walked) (omega arith) x e g
+  pub walking-place : i < n → (x : ℕ) → x ≡ number b t → (x ≡ o → ⊥) → WalkSays ρ b k s u n false
+  walking-place h x e g = walked-place ρ (w .lawful) b k s u n t o (take len name) (n - i) (w .walked) (omega arith) x e g
 
-  pub walking-past : i < n → (e : ℕ) → e ≡ endOf b k s t (n - i) → s < e → WalkSays b k s u n false
-  walking-past h e q g = walked-past b k s u n t o (take len name) (n - i) (w .walked) (omega arith) e q g
+  pub walking-past : i < n → (e : ℕ) → e ≡ endOf b k s t (n - i) → s < e → WalkSays ρ b k s u n false
+  walking-past h e q g = walked-past ρ (w .lawful) b k s u n t o (take len name) (n - i) (w .walked) (omega arith) e q g
 
   module _ {e m : ℕ} (eq : e ≡ endOf b k s t (n - i)) (mq : m ≡ min (n - i) k) (some : i < n) (name' : Bytes) (len' : ℕ) where
-    pub walking-bad : (r : Bool) → not r ≡ true → NextSays b o e m (take len name) r name' len' → WalkSays b k s u n false
+    pub walking-bad : (r : Bool) → not r ≡ true → NextSays ρ b o e m (take len name) r name' len' → WalkSays ρ b k s u n false
     walking-bad true h says = absurd (false≠true h)
-    walking-bad false h says = walked-bad b k s u n t o (take len name) (n - i) (w .walked) e m eq mq (omega arith) says
+    walking-bad false h says = walked-bad ρ (w .lawful) b k s u n t o (take len name) (n - i) (w .walked) e m eq mq (omega arith) says
 
-    pub walking-more : (r : Bool) → not r ≡ false → len' ≤ 200 → length name' ≡ 200 → NextSays b o e m (take len name) r name' len'
-        → 2 ≤ u - t → (x : ℕ) → x ≡ number b t → x ≡ o → e ≤ s → Walking b k s u n (t + 2) e name' len' (i + m)
+    pub walking-more : (r : Bool) → not r ≡ false → len' ≤ 200 → length name' ≡ 200 → NextSays ρ b o e m (take len name) r name' len'
+        → 2 ≤ u - t → (x : ℕ) → x ≡ number b t → x ≡ o → e ≤ s → Walking ρ b k s u n (t + 2) e name' len' (i + m)
     walking-more false h lr ls says tr x xe here es = absurd (false≠true (sym h))
     walking-more true h lr ls says tr x xe here es =
         let z : n - i - m ≡ n - (i + m) = omega arith in
-        let v = walked-more b k s u n t o (take len name) (n - i) (w .walked) e m eq mq (omega arith) (take len' name') (says .0) (says .1)
+        let v = walked-more ρ (w .lawful) b k s u n t o (take len name) (n - i) (w .walked) e m eq mq (omega arith) (take len' name') (says .0) (says .1)
         (omega (arith, w .walked)) (omega arith) es in
         record {
+          lawful = w .lawful;
           size = ls;
           room = lr;
-          walked = subst (Walked b k s u n (t + 2) e (take len' name')) z v;
+          walked = subst (Walked ρ b k s u n (t + 2) e (take len' name')) z v;
         }
 
-  pub walking-apart : n ≤ i → (o ≡ s → ⊥) → WalkSays b k s u n false
-  walking-apart h q = walked-short b k s u n t o (take len name) (n - i) (w .walked) (omega arith) q
+  pub walking-apart : n ≤ i → (o ≡ s → ⊥) → WalkSays ρ b k s u n false
+  walking-apart h q = walked-short ρ (w .lawful) b k s u n t o (take len name) (n - i) (w .walked) (omega arith) q
 
-  pub walking-end : n ≤ i → o ≡ s → WalkSays b k s u n (eqb t u)
+  pub walking-end : n ≤ i → o ≡ s → WalkSays ρ b k s u n (eqb t u)
   walking-end h p = go (eqb t u) refl
     where
-      go : (r : Bool) → r ≡ eqb t u → WalkSays b k s u n r
-      go true q = walked-done b k s u n t o (take len name) (n - i) (w .walked) (omega arith) p (eqb-true t u (sym q))
-      go false q = walked-table b k s u n t o (take len name) (n - i) (w .walked) (omega arith) (eqb-false t u (sym q))
+      go : (r : Bool) → r ≡ eqb t u → WalkSays ρ b k s u n r
+      go true q = walked-done ρ (w .lawful) b k s u n t o (take len name) (n - i) (w .walked) (omega arith) p (eqb-true t u (sym q))
+      go false q = walked-table ρ (w .lawful) b k s u n t o (take len name) (n - i) (w .walked) (omega arith) (eqb-false t u (sym q))

@@ -12,7 +12,7 @@ use mathlib.Core.Path.{_≡_}
 use mathlib.Core.Bool.{Bool, true, false}
 use mathlib.Core.List.{List, []}
 use lib.ListN.{getD, length, take}
-use Rattle.words.specs.Words.{Bytes, less, plain, word}
+use Rattle.words.specs.Words.{Bytes, Rule, less, word}
 use Rattle.format.specs.Records.{longest}
 use Rattle.streams.specs.Streams.{Stream, entryEnd, nameAt}
 use Rattle.streams.specs.Runs.{Has, RunTo, Step}
@@ -23,26 +23,26 @@ pub record NameRead (b : Bytes) (o : ℕ) (prev : Bytes) (next len : ℕ) (name 
   pub room : len ≤ longest
   pub size : length name ≡ longest
 
-abbrev pub EntrySays : Bytes → ℕ → ℕ → Bytes → Bool → Type 0
-EntrySays b o e prev true = Step b o e prev
-EntrySays b o e prev false = Step b o e prev → ⊥
+abbrev pub EntrySays : Rule → Bytes → ℕ → ℕ → Bytes → Bool → Type 0
+EntrySays ρ b o e prev true = Step ρ b o e prev
+EntrySays ρ b o e prev false = Step ρ b o e prev → ⊥
 
 -- m names of a block stand from o to e, the last of them in the first len bytes
-abbrev pub BlockSays : Bytes → ℕ → ℕ → ℕ → Bool → Bytes → ℕ → Type 0
-BlockSays b o e m true name len = RunTo b e o [] m (take len name)
-BlockSays b o e m false name len = (l : Bytes) → RunTo b e o [] m l → ⊥
+abbrev pub BlockSays : Rule → Bytes → ℕ → ℕ → ℕ → Bool → Bytes → ℕ → Type 0
+BlockSays ρ b o e m true name len = RunTo ρ b e o [] m (take len name)
+BlockSays ρ b o e m false name len = (l : Bytes) → RunTo ρ b e o [] m l → ⊥
 
 -- the block's first name is above prev
-abbrev pub FirstAbove : Bytes → ℕ → Bytes → Type 0
-FirstAbove b o prev = less (word plain prev) (word plain (nameAt b o [])) ≡ true
+abbrev pub FirstAbove : Rule → Bytes → ℕ → Bytes → Type 0
+FirstAbove ρ b o prev = less (word ρ prev) (word ρ (nameAt b o [])) ≡ true
 
-abbrev pub NextSays : Bytes → ℕ → ℕ → ℕ → Bytes → Bool → Bytes → ℕ → Type 0
-NextSays b o e m prev true name len = RunTo b e o [] m (take len name) × FirstAbove b o prev
-NextSays b o e m prev false name len = (l : Bytes) → RunTo b e o [] m l → FirstAbove b o prev → ⊥
+abbrev pub NextSays : Rule → Bytes → ℕ → ℕ → ℕ → Bytes → Bool → Bytes → ℕ → Type 0
+NextSays ρ b o e m prev true name len = RunTo ρ b e o [] m (take len name) × FirstAbove ρ b o prev
+NextSays ρ b o e m prev false name len = (l : Bytes) → RunTo ρ b e o [] m l → FirstAbove ρ b o prev → ⊥
 
-abbrev pub WalkSays : Bytes → ℕ → ℕ → ℕ → ℕ → Bool → Type 0
-WalkSays b k s u n true = Has b k s u n s 0 []
-WalkSays b k s u n false = Has b k s u n s 0 [] → ⊥
+abbrev pub WalkSays : Rule → Bytes → ℕ → ℕ → ℕ → ℕ → Bool → Type 0
+WalkSays ρ b k s u n true = Has ρ b k s u n s 0 []
+WalkSays ρ b k s u n false = Has ρ b k s u n s 0 [] → ⊥
 
 -- entry number count after the one at start can be read: some names stand there, from a block's first on, and it is one of them
 pub record ReadAsk (b : Bytes) (start count : ℕ) : Type 0 where

@@ -1,11 +1,14 @@
-// The entries of a book, read and judged: block by block, each judged alone, from its offset in the block table to the next one's.
+// The entries of a book, read and judged: block by block, each judged alone, from its offset in the block table to the next one's. What
+// an entry stores is counted in bytes, under every rule; that names rise is asked of their symbols.
 // No list of the names is kept: a name is read from the one before it, into the same array.
 ghost use mathlib.Core.Path.{_≡_};
 ghost use Prim.Native.Nat.{_+_, _<_, _≤_};
 ghost use lib.ListN.{length, take};
 ghost use Rattle.streams.specs.Streams.{EntryAt};
 ghost use Rattle.streams.specs.Runs.{Frame, endOf};
+ghost use Rattle.symbols.specs.Rules.{ruleBy};
 ghost use Rattle.entries.specs.Judging.{BlockSays, EntrySays, NameIs, NameRead, NextSays, ReadAsk, WalkSays};
+use symbols::Rule;
 
 // Where an entry stands.
 pub struct Cursor {
@@ -31,11 +34,11 @@ pub struct Last {
     pub len: usize,
 }
 
-// Whether an entry that ends by `end` stands at an offset, after the name prev. The last test is both: that the count is the greatest
-// possible, and that the name is above prev.
-fn is_entry(book: &[u8], at: usize, end: usize, prev: &[u8]) -> bool
+// Whether an entry that ends by `end` stands at an offset, after the name prev. Where prev goes on behind the count, the next bytes differ,
+// so the count is the greatest possible; and the symbols from there on rise: by the plain rule those bytes tell it.
+fn is_entry(rule: Rule, book: &[u8], at: usize, end: usize, prev: &[u8]) -> bool
     requires { ⌜ end ≤ length (now book) ⌝ }
-    ensures { λ r. ⌜ EntrySays (now (book .entry)) at end (now (prev .entry)) r ⌝ }
+    ensures { λ r. ⌜ EntrySays (ruleBy rule) (now (book .entry)) at end (now (prev .entry)) r ⌝ }
 {
     if end < 2 {
         return false;
@@ -60,10 +63,15 @@ fn is_entry(book: &[u8], at: usize, end: usize, prev: &[u8]) -> bool
     if prev.len() == c {
         return true;
     }
-    if book[at + 2] <= prev[c] {
+    let from = at + 2;
+    if prev[c] == book[from] {
         return false;
     }
-    true
+    let to = from + n;
+    match rule {
+        Rule::Plain => prev[c] < book[from],
+        Rule::Folded => symbols::is_less(Rule::Folded, &prev[c..], &book[from..to]),
+    }
 }
 
 impl Cursor {
@@ -86,17 +94,18 @@ impl Cursor {
     }
 }
 
-// Whether the entries of a block of m names stand from an offset to `end`; then the first bytes of the lent name are its last one.
-pub fn check_block(book: &[u8], start: usize, end: usize, m: usize, name: &mut [u8]) -> Last
+// Whether the entries of a block of m names of a plain book stand from an offset to `end`; then the first bytes of the lent name are its last
+// one. By a constant rule the compiler leaves the other one out, and puts the loop where the check is, with its copies (DECISIONS 126).
+fn plain_block(book: &[u8], start: usize, end: usize, m: usize, name: &mut [u8]) -> Last
     requires { ⌜ (end ≤ length (now book)) × (length (now name) ≡ 200) ⌝ }
-    ensures { λ r. ⌜ (r .len ≤ 200) × (length (now (name .exit)) ≡ 200) × BlockSays (now (book .entry)) start end m (r .ok) (now (name .exit)) (r .len) ⌝ }
+    ensures { λ r. ⌜ (r .len ≤ 200) × (length (now (name .exit)) ≡ 200) × BlockSays (ruleBy Rule.Plain) (now (book .entry)) start end m (r .ok) (now (name .exit)) (r .len) ⌝ }
 {
     let mut cur = Cursor { at: start };
     let mut len: usize = 0;
     let mut left = m;
     while 0 < left {
         let at = cur.at;
-        if !is_entry(book, at, end, &name[0..len]) {
+        if !is_entry(Rule::Plain, book, at, end, &name[0..len]) {
             return Last { ok: false, len };
         }
         let ahead = cur.next(book, name, len);
@@ -108,6 +117,48 @@ pub fn check_block(book: &[u8], start: usize, end: usize, m: usize, name: &mut [
         return Last { ok: false, len };
     }
     Last { ok: true, len }
+}
+
+// The same of a folded book.
+fn folded_block(book: &[u8], start: usize, end: usize, m: usize, name: &mut [u8]) -> Last
+    requires { ⌜ (end ≤ length (now book)) × (length (now name) ≡ 200) ⌝ }
+    ensures { λ r. ⌜ (r .len ≤ 200) × (length (now (name .exit)) ≡ 200) × BlockSays (ruleBy Rule.Folded) (now (book .entry)) start end m (r .ok) (now (name .exit)) (r .len) ⌝ }
+{
+    let mut cur = Cursor { at: start };
+    let mut len: usize = 0;
+    let mut left = m;
+    while 0 < left {
+        let at = cur.at;
+        if !is_entry(Rule::Folded, book, at, end, &name[0..len]) {
+            return Last { ok: false, len };
+        }
+        let ahead = cur.next(book, name, len);
+        len = ahead.len;
+        cur = ahead.next;
+        left -= 1;
+    }
+    if end != cur.at {
+        return Last { ok: false, len };
+    }
+    Last { ok: true, len }
+}
+
+// The same by any rule, which is decided once a block.
+pub fn check_block(
+    rule: Rule,
+    book: &[u8],
+    start: usize,
+    end: usize,
+    m: usize,
+    name: &mut [u8],
+) -> Last
+    requires { ⌜ (end ≤ length (now book)) × (length (now name) ≡ 200) ⌝ }
+    ensures { λ r. ⌜ (r .len ≤ 200) × (length (now (name .exit)) ≡ 200) × BlockSays (ruleBy rule) (now (book .entry)) start end m (r .ok) (now (name .exit)) (r .len) ⌝ }
+{
+    match rule {
+        Rule::Plain => plain_block(book, start, end, m, name),
+        Rule::Folded => folded_block(book, start, end, m, name),
+    }
 }
 
 // Where the block ends whose offset stands at `slot`: at the next offset, or, as the last one, where the block table starts.
@@ -124,6 +175,7 @@ fn block_end(book: &[u8], k: usize, blocks: usize, slot: usize, left: usize) -> 
 // Whether a block of m names stands from an offset to `end`, its first name above the first `before` bytes of the lent name, whose place
 // its last name takes. So the first name, which its entry has whole, is compared before the block is gone over.
 fn next_block(
+    rule: Rule,
     book: &[u8],
     start: usize,
     end: usize,
@@ -132,25 +184,31 @@ fn next_block(
     before: usize,
 ) -> Last
     requires { ⌜ (end ≤ length (now book)) × (0 < m) × (length (now name) ≡ 200) × (before ≤ 200) ⌝ }
-    ensures { λ r. ⌜ (r .len ≤ 200) × (length (now (name .exit)) ≡ 200) × NextSays (now (book .entry)) start end m (take before (now (name .entry))) (r .ok) (now (name .exit)) (r .len) ⌝ }
+    ensures { λ r. ⌜ (r .len ≤ 200) × (length (now (name .exit)) ≡ 200) × NextSays (ruleBy rule) (now (book .entry)) start end m (take before (now (name .entry))) (r .ok) (now (name .exit)) (r .len) ⌝ }
 {
-    if !is_entry(book, start, end, &name[0..0]) {
+    if !is_entry(rule, book, start, end, &name[0..0]) {
         return Last { ok: false, len: 0 };
     }
     let from = start + 2;
     let to = from + numbers::wide(book[start + 1]);
-    let shares = symbols::shared_symbols(&name[0..before], &book[from..to]);
-    if !symbols::is_above(&name[0..before], &book[from..to], shares) {
+    if !symbols::is_less(rule, &name[0..before], &book[from..to]) {
         return Last { ok: false, len: 0 };
     }
-    check_block(book, start, end, m, name)
+    check_block(rule, book, start, end, m, name)
 }
 
 // Whether the bytes before `blocks` are the entries of some sound list of n names in blocks of k, and those from there to `nodes` their
 // offsets.
-pub fn check_entries(book: &[u8], n: usize, k: usize, blocks: usize, nodes: usize) -> bool
+pub fn check_entries(
+    rule: Rule,
+    book: &[u8],
+    n: usize,
+    k: usize,
+    blocks: usize,
+    nodes: usize,
+) -> bool
     requires { ⌜ Frame (now book) k blocks nodes ⌝ }
-    ensures { λ r. ⌜ WalkSays (now (book .entry)) k blocks nodes n r ⌝ }
+    ensures { λ r. ⌜ WalkSays (ruleBy rule) (now (book .entry)) k blocks nodes n r ⌝ }
 {
     let mut at: usize = 0;
     let mut slot = blocks;
@@ -169,7 +227,7 @@ pub fn check_entries(book: &[u8], n: usize, k: usize, blocks: usize, nodes: usiz
             return false;
         }
         let m = numbers::lesser(n - i, k);
-        let last = next_block(book, at, end, m, &mut name, len);
+        let last = next_block(rule, book, at, end, m, &mut name, len);
         if !last.ok {
             return false;
         }

@@ -1,16 +1,37 @@
 -- The symbol that the entry at hand tells.
---     symbol-told       the rest of the entry is lent, and it tells the symbol
+--     lead-in, lead-past       ways out of `leads`: a byte of the entry has the symbol; the name has ended
 -- Assumes nothing.
-use Prim.Native.Nat.{ℕ, _+_, _-_}
+use Prim.Native.Nat.{ℕ, _+_, _-_, _≤_, _<_}
 use native.Mathlib.Omega.{arith}
-use mathlib.Core.Path.{_≡_, ap₂, _∙_}
-use lib.ListN.{getD, take, drop}
-use Rattle.words.specs.Words.{Bytes, at, plain, word}
+use mathlib.Core.Path.{_≡_, sym, ap, _∙_}
+use mathlib.Core.Bool.{Bool}
+use lib.Dec.{eqb}
+use lib.ListN.{getD, length, drop, length-drop, length-map, length-take}
+use lib.Seq.{getD-drop, getD-take}
+use Rattle.words.specs.Words.{Bytes, Rule, at, word}
+use Rattle.words.proofs.Words.{at-past, word-at}
+use Rattle.format.specs.Marks.{kindOf, ruleIn}
+use Rattle.symbols.specs.Rules.{byKind, ruleBy}
+use Rattle.symbols.specs.declared.Rule.{Rule as ByRule}
+use Rattle.symbols.proofs.Symbols.{rule-by}
 use Rattle.streams.specs.Streams.{restAt}
+use Rattle.inspect.specs.Check.{LeadAsk}
 
 -- c and l are what the code read at a and after it
-pub symbol-told : (b : Bytes) (a c l d r : ℕ) → c ≡ getD b a 0 → l ≡ getD b (a + 1) 0 → r ≡ at (word plain (take (a + 2 + l - (a + 2)) (drop (a + 2) b))) (d - c)
-    → r ≡ at (word plain (restAt b a)) (d - getD b a 0)
-symbol-told b a c l d r ce le e =
-    let size : a + 2 + l - (a + 2) ≡ getD b (a + 1) 0 = omega arith in
-    e ∙ ap₂ (λ (n i : ℕ). at (word plain (take n (drop (a + 2) b))) (d - i)) size ce
+module _ (b : Bytes) (a d s c l : ℕ) (ask : LeadAsk b a d) (ce : c ≡ getD b a 0) (le : l ≡ getD b (a + 1) 0) where
+  size : length (restAt b a) ≡ l
+  size = omega (arith, ask .fits, length-take (getD b (a + 1) 0) (drop (a + 2) b), length-drop (a + 2) b)
+
+  -- t is the book's rule, and v says whether the byte there has the symbol
+  pub lead-in : d - c < l → (t : ByRule) → t ≡ byKind (kindOf b) → (v : Bool) → v ≡ eqb s (ruleBy t (getD b (a + 2 + (d - c)) 0))
+      → v ≡ eqb s (at (word (ruleIn b) (restAt b a)) (d - getD b a 0))
+  lead-in h t te v ve =
+      ve
+      ∙ ap (eqb s) (ap (λ (ρ : Rule). ρ (getD b (a + 2 + (d - c)) 0)) (ap ruleBy te ∙ rule-by (kindOf b))
+      ∙ sym (word-at (ruleIn b) (restAt b a) (d - c) (omega (arith, size)) ∙ ap (ruleIn b) (getD-take (getD b (a + 1) 0) (drop (a + 2) b) (d - c) 0 (omega arith) ∙ getD-drop (a + 2) b (d - c) 0))
+      ∙ ap (λ (n : ℕ). at (word (ruleIn b) (restAt b a)) (d - n)) ce)
+
+  pub lead-past : l ≤ d - c → eqb s 0 ≡ eqb s (at (word (ruleIn b) (restAt b a)) (d - getD b a 0))
+  lead-past h =
+      ap (eqb s) (sym (at-past (word (ruleIn b) (restAt b a)) (d - c) (omega (arith, size, length-map (restAt b a) (ruleIn b))))
+      ∙ ap (λ (n : ℕ). at (word (ruleIn b) (restAt b a)) (d - n)) ce)

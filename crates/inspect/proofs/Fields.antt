@@ -8,26 +8,27 @@ use native.Mathlib.Nat.{lt-irrefl}
 use native.Mathlib.Omega.{arith}
 use native.Mathlib.Numerals.{add-one}
 use mathlib.Core.Path.{_≡_, refl, sym, ap, _∙_}
-use mathlib.Core.Bool.{Bool, true, false}
+use mathlib.Core.Bool.{Bool, true, false, not}
 use lib.Dec.{eqb, leb}
 use lib.ListN.{getD}
-use borrow.Author.Tests.{eqb-true, eqb-false, leb-true, leb-false}
-use Rattle.words.specs.Words.{Bytes, at, plain, word}
+use borrow.Author.Tests.{eqb-true, eqb-false, leb-true, leb-false, not-false, not-true}
+use Rattle.words.specs.Words.{Bytes, at, word}
+use Rattle.format.specs.Marks.{ruleIn}
 use Rattle.format.specs.Spans.{nodeSize}
 use Rattle.streams.specs.Streams.{restAt}
 use Rattle.standing.specs.Maps.{inRows, recordAt}
 use Rattle.inspect.specs.Check.{ForkSays, LeafSays, LedSays}
 
--- x is the symbol that the record tells, s the one that the entry tells, z the first name
-module _ (b : Bytes) (o i d a x s : ℕ) (xe : x ≡ recordAt inRows b o .symbol) (se : s ≡ at (word plain (restAt b a)) (d - getD b a 0)) where
-  pub led-symbol : (x ≡ s → ⊥) → LedSays b o i d a false
-  led-symbol n k = n (xe ∙ k .0 ∙ sym se)
+-- x is the symbol that the record tells, v says whether the entry tells it too, z is the first name
+module _ (b : Bytes) (o i d a x : ℕ) (v : Bool) (xe : x ≡ recordAt inRows b o .symbol) (ve : v ≡ eqb x (at (word (ruleIn b) (restAt b a)) (d - getD b a 0))) where
+  pub led-symbol : not v ≡ true → LedSays b o i d a false
+  led-symbol h k = eqb-false x _ (sym ve ∙ not-true v h) (xe ∙ k .0)
 
-  pub led-first : x ≡ s → (z : ℕ) → z ≡ recordAt inRows b o .first → LedSays b o i d a (eqb z i)
-  led-first same z ze = go (eqb z i) refl
+  pub led-first : not v ≡ false → (z : ℕ) → z ≡ recordAt inRows b o .first → LedSays b o i d a (eqb z i)
+  led-first h z ze = go (eqb z i) refl
     where
       go : (t : Bool) → eqb z i ≡ t → LedSays b o i d a t
-      go true q = (sym xe ∙ same ∙ se, sym ze ∙ eqb-true z i q)
+      go true q = (sym xe ∙ eqb-true x _ (sym ve ∙ not-false v h), sym ze ∙ eqb-true z i q)
       go false q = λ k. eqb-false z i q (ze ∙ k .1)
 
 -- x is the depth, y the width, w the number of nodes, l the name's length

@@ -9,10 +9,14 @@ use native.Mathlib.Nat.{lt-irrefl}
 use native.Mathlib.Omega.{arith}
 use mathlib.Core.Path.{_≡_, refl, sym, ap, _∙_, subst}
 use mathlib.Core.Bool.{Bool, false, not, true}
+use mathlib.Core.Logic.{_⊎_, inl, inr}
+use lib.Dec.{eqb}
 use lib.ListN.{length, getD}
-use Rattle.words.specs.Words.{Bytes, at, plain, shared, word}
+use borrow.Author.Tests.{eqb-false, eqb-true, not-false, not-true}
+use Rattle.words.specs.Words.{Bytes, at, shared, word}
 use Rattle.words.specs.Rising.{nth, span}
-use Rattle.words.proofs.Words.{false≠true}
+use Rattle.words.proofs.Words.{apart, false≠true, shared-at}
+use Rattle.format.specs.Marks.{ruleIn}
 use Rattle.format.specs.Book.{namesOf, trailerSize, told}
 use Rattle.format.specs.Spans.{deep, wordsOf, nodeSize}
 use Rattle.format.specs.Records.{longest}
@@ -29,18 +33,18 @@ use Rattle.inspect.specs.Check.{Ask, ForkSays, LeafSays, LedSays, LedTo,
 use Rattle.inspect.proofs.Nodes.{leaf-not, leaf-stands, says-no, says-yes}
 
 pub record Rows (b : Bytes) (lo₀ n d o₀ e o lo a g : ℕ) : Type 0 where
-  pub known : Known b
+  pub known : Known (ruleIn b) b
   pub blocks : InBlocks b (told b 1) (told b 2)
   pub long : e + trailerSize ≤ length b
   pub several : 2 ≤ n
   pub within : lo₀ + n ≤ length (namesOf b)
   pub upto : lo < lo₀ + n
-  pub walk : Walk inRows b (wordsOf plain b) lo₀ (lo₀ + n) d o₀ lo o
+  pub walk : Walk inRows b (wordsOf (ruleIn b) b) lo₀ (lo₀ + n) d o₀ lo o
   pub here : Here b lo a
   pub low : getD b a 0 ≤ d
   pub some : lo < length (namesOf b)
   pub fits : entryEnd b a ≤ length b
-  pub wide : g ≡ widest (span (wordsOf plain b) lo₀ lo)
+  pub wide : g ≡ widest (span (wordsOf (ruleIn b) b) lo₀ lo)
 
 pub record Turn (b : Bytes) (lo₀ n d o₀ e o lo a g x m c : ℕ) : Type 0 where
   pub rows : Rows b lo₀ n d o₀ e o lo a g
@@ -48,7 +52,7 @@ pub record Turn (b : Bytes) (lo₀ n d o₀ e o lo a g x m c : ℕ) : Type 0 whe
   pub some : 1 ≤ x
   pub proper : x < n
   pub upto : lo + x ≤ lo₀ + n
-  pub child : Child inRows b (wordsOf plain b) d lo (lo + x) o m
+  pub child : Child inRows b (wordsOf (ruleIn b) b) d lo (lo + x) o m
   pub here : Here b (pred (lo + x)) c
   pub fits : entryEnd b c ≤ length b
 
@@ -70,12 +74,12 @@ module _ (b : Bytes) (lo₀ n d o₀ e : ℕ) where
     several = q .several;
     within = q .ask .within;
     upto = omega (arith, q .several);
-    walk = walk-start inRows b (wordsOf plain b) (q .ask .known .rises) lo₀ (lo₀ + n) d o₀ (omega (arith, q .several)) (omega (arith, q .ask .within, words-count b));
+    walk = walk-start inRows b (wordsOf (ruleIn b) b) (q .ask .known .rises) lo₀ (lo₀ + n) d o₀ (omega (arith, q .several)) (omega (arith, q .ask .within, words-count (ruleIn b) b));
     here = q .ask .here;
     low = q .low;
     some = omega (arith, q .ask .some, q .ask .within);
-    fits = here-fits b lo₀ a (q .ask .known) (q .ask .here) (omega (arith, q .ask .some, q .ask .within));
-    wide = sym (widest-none (wordsOf plain b) lo₀);
+    fits = here-fits (ruleIn b) b lo₀ a (q .ask .known) (q .ask .here) (omega (arith, q .ask .some, q .ask .within));
+    wide = sym (widest-none (wordsOf (ruleIn b) b) lo₀);
   }
 
   -- the row doesn't stand, of whatever width
@@ -86,11 +90,11 @@ module _ (b : Bytes) (lo₀ n d o₀ e : ℕ) where
     two : Rows b lo₀ n d o₀ e o lo a g → suc lo₀ < lo₀ + n
     two r = omega (arith, r .several)
 
-    fit : Rows b lo₀ n d o₀ e o lo a g → lo₀ + n ≤ length (wordsOf plain b)
-    fit r = omega (arith, r .within, words-count b)
+    fit : Rows b lo₀ n d o₀ e o lo a g → lo₀ + n ≤ length (wordsOf (ruleIn b) b)
+    fit r = omega (arith, r .within, words-count (ruleIn b) b)
 
-    ahead : Rows b lo₀ n d o₀ e o lo a g → GroupAt inRows b (wordsOf plain b) lo₀ (lo₀ + n) d o₀ e → Expected inRows b (wordsOf plain b) lo₀ (lo₀ + n) d lo o e
-    ahead r k = walk-next inRows b (wordsOf plain b) (r .known .rises) lo₀ (lo₀ + n) d o₀ (two r) (fit r) lo o (r .walk) e k
+    ahead : Rows b lo₀ n d o₀ e o lo a g → GroupAt inRows b (wordsOf (ruleIn b) b) lo₀ (lo₀ + n) d o₀ e → Expected inRows b (wordsOf (ruleIn b) b) lo₀ (lo₀ + n) d lo o e
+    ahead r k = walk-next inRows b (wordsOf (ruleIn b) b) (r .known .rises) lo₀ (lo₀ + n) d o₀ (two r) (fit r) lo o (r .walk) e k
 
     -- ---- up to the child
 
@@ -101,8 +105,8 @@ module _ (b : Bytes) (lo₀ n d o₀ e : ℕ) where
       pub rows-room : o < e → Roomy inRows b o
       rows-room h = omega (arith, r .long)
 
-      symbol-is : (s : ℕ) → s ≡ at (word plain (restAt b a)) (d - getD b a 0) → s ≡ at (nth (wordsOf plain b) lo) d
-      symbol-is s se = here-symbol b lo a (r .known) (r .here) (r .some) d s (r .low) se
+      symbol-is : (s : ℕ) → s ≡ at (word (ruleIn b) (restAt b a)) (d - getD b a 0) → s ≡ at (nth (wordsOf (ruleIn b) b) lo) d
+      symbol-is s se = here-symbol (ruleIn b) b lo a (r .known) (r .here) (r .some) d s (r .low) se
 
       pub rows-other : {w : ℕ} → (v : Bool) → LedSays b o lo d a v → not v ≡ true → Refused w
       rows-other true k h = absurd (false≠true h)
@@ -124,8 +128,8 @@ module _ (b : Bytes) (lo₀ n d o₀ e : ℕ) where
           rows-no-leaf false never h = says-no (λ s.
               let k = ahead r (s .group) in
               let z : lo + recordAt inRows b o .names ≡ lo + 1 = omega arith in
-              leaf-not b lo (at (nth (wordsOf plain b) lo) d) o a lone never (o + recordAt inRows b o .nodes * nodeSize)
-              (subst (λ (m : ℕ). NodeAt inRows b (wordsOf plain b) lo m (at (nth (wordsOf plain b) lo) d) o (o + recordAt inRows b o .nodes * nodeSize)) z (k .node)))
+              leaf-not b lo (at (nth (wordsOf (ruleIn b) b) lo) d) o a lone never (o + recordAt inRows b o .nodes * nodeSize)
+              (subst (λ (m : ℕ). NodeAt inRows b (wordsOf (ruleIn b) b) lo m (at (nth (wordsOf (ruleIn b) b) lo) d) o (o + recordAt inRows b o .nodes * nodeSize)) z (k .node)))
 
           pub rows-leaf : o < e → (v : Bool) → LeafSays b o (lengthAt b a) v → not v ≡ false → Turn b lo₀ n d o₀ e o lo a g x (o + nodeSize) a
           rows-leaf room false never h = absurd (false≠true (sym h))
@@ -140,8 +144,8 @@ module _ (b : Bytes) (lo₀ n d o₀ e : ℕ) where
                 upto = omega (arith, r .upto);
                 child = record {
                   some = omega arith;
-                  node = subst (λ (m : ℕ). NodeAt inRows b (wordsOf plain b) lo m (at (nth (wordsOf plain b) lo) d) o (o + nodeSize)) z
-                      (leaf-stands b lo (at (nth (wordsOf plain b) lo) d) o a lone (rows-room room) (symbol-is (recordAt inRows b o .symbol) (led .0)) (led .1) (omega arith) sure);
+                  node = subst (λ (m : ℕ). NodeAt inRows b (wordsOf (ruleIn b) b) lo m (at (nth (wordsOf (ruleIn b) b) lo) d) o (o + nodeSize)) z
+                      (leaf-stands b lo (at (nth (wordsOf (ruleIn b) b) lo) d) o a lone (rows-room room) (symbol-is (recordAt inRows b o .symbol) (led .0)) (led .1) (omega arith) sure);
                   below = λ q. absurd (lt-irrefl lo (omega arith));
                 };
                 here = subst (λ (i : ℕ). Here b i a) p (r .here);
@@ -151,12 +155,12 @@ module _ (b : Bytes) (lo₀ n d o₀ e : ℕ) where
         -- ---- several names
 
         -- several words share less than any name can have
-        shallow : Expected inRows b (wordsOf plain b) lo₀ (lo₀ + n) d lo o e → 1 < recordAt inRows b o .names → recordAt inRows b o .depth < longest
+        shallow : Expected inRows b (wordsOf (ruleIn b) b) lo₀ (lo₀ + n) d lo o e → 1 < recordAt inRows b o .names → recordAt inRows b o .depth < longest
         shallow k many =
-            let end : lo + recordAt inRows b o .names ≤ length (wordsOf plain b) = omega (arith, fit r, k .upto, r .upto) in
-            let hd = node-head inRows b (wordsOf plain b) (r .known .rises) _ lo (lo + recordAt inRows b o .names) o (o + recordAt inRows b o .nodes * nodeSize) (omega (arith, k .some)) end (k .node) in
-            let short : length (nth (wordsOf plain b) (pred (lo + recordAt inRows b o .names))) ≤ longest = name-short b (pred (lo + recordAt inRows b o .names)) (r .known) (omega (arith, end, words-count b)) in
-            omega (arith, hd .depth (omega arith), deep-short (wordsOf plain b) (r .known .rises) lo (lo + recordAt inRows b o .names) longest (omega arith) end short)
+            let end : lo + recordAt inRows b o .names ≤ length (wordsOf (ruleIn b) b) = omega (arith, fit r, k .upto, r .upto) in
+            let hd = node-head inRows b (wordsOf (ruleIn b) b) (r .known .rises) _ lo (lo + recordAt inRows b o .names) o (o + recordAt inRows b o .nodes * nodeSize) (omega (arith, k .some)) end (k .node) in
+            let short : length (nth (wordsOf (ruleIn b) b) (pred (lo + recordAt inRows b o .names))) ≤ longest = name-short (ruleIn b) b (pred (lo + recordAt inRows b o .names)) (r .known) (omega (arith, end, words-count (ruleIn b) b)) in
+            omega (arith, hd .depth (omega arith), deep-short (wordsOf (ruleIn b) b) (r .known .rises) lo (lo + recordAt inRows b o .names) longest (omega arith) end short)
 
         pub rows-no-fork : {w : ℕ} → (x ≡ 1 → ⊥) → (v : Bool) → ForkSays b o e n d (lo₀ + n - lo) v → not v ≡ true → Refused w
         rows-no-fork more true k h = absurd (false≠true h)
@@ -193,9 +197,9 @@ module _ (b : Bytes) (lo₀ n d o₀ e : ℕ) where
             rows-fork room nz m me =
                 let s = says .it-does nz in
                 let up : lo + x ≤ lo₀ + n = omega (arith, f .upto, r .upto) in
-                let node : NodeAt inRows b (wordsOf plain b) lo (lo + recordAt inRows b o .names) (recordAt inRows b o .symbol) o (o + recordAt inRows b o .nodes * nodeSize) =
-                subst (λ (i : ℕ). NodeAt inRows b (wordsOf plain b) i (i + recordAt inRows b o .names) (recordAt inRows b o .symbol) o (o + recordAt inRows b o .nodes * nodeSize)) (led .1) (s .0) in
-                let hd = node-head inRows b (wordsOf plain b) (r .known .rises) (recordAt inRows b o .symbol) lo (lo + recordAt inRows b o .names) o (o + recordAt inRows b o .nodes * nodeSize) (omega (arith, f .several)) (omega (arith, fit r)) node in
+                let node : NodeAt inRows b (wordsOf (ruleIn b) b) lo (lo + recordAt inRows b o .names) (recordAt inRows b o .symbol) o (o + recordAt inRows b o .nodes * nodeSize) =
+                subst (λ (i : ℕ). NodeAt inRows b (wordsOf (ruleIn b) b) i (i + recordAt inRows b o .names) (recordAt inRows b o .symbol) o (o + recordAt inRows b o .nodes * nodeSize)) (led .1) (s .0) in
+                let hd = node-head inRows b (wordsOf (ruleIn b) b) (r .known .rises) (recordAt inRows b o .symbol) lo (lo + recordAt inRows b o .names) o (o + recordAt inRows b o .nodes * nodeSize) (omega (arith, f .several)) (omega (arith, fit r)) node in
                 let last : Here b (pred (lo + x)) c = subst (λ (i : ℕ). Here b (pred (i + x)) c) (led .1) (rw xe (s .1)) in
                 record {
                   rows = r;
@@ -205,11 +209,11 @@ module _ (b : Bytes) (lo₀ n d o₀ e : ℕ) where
                   upto = up;
                   child = record {
                     some = omega (arith, f .several);
-                    node = rw (xe, me) (subst (λ (t : ℕ). NodeAt inRows b (wordsOf plain b) lo (lo + recordAt inRows b o .names) t o (o + recordAt inRows b o .nodes * nodeSize)) (symbol-is (recordAt inRows b o .symbol) (led .0)) node);
-                    below = λ q. subst (λ (y : ℕ). d < deep (wordsOf plain b) lo (lo + y)) (sym xe) (omega (arith, hd .depth (omega arith), f .below));
+                    node = rw (xe, me) (subst (λ (t : ℕ). NodeAt inRows b (wordsOf (ruleIn b) b) lo (lo + recordAt inRows b o .names) t o (o + recordAt inRows b o .nodes * nodeSize)) (symbol-is (recordAt inRows b o .symbol) (led .0)) node);
+                    below = λ q. subst (λ (y : ℕ). d < deep (wordsOf (ruleIn b) b) lo (lo + y)) (sym xe) (omega (arith, hd .depth (omega arith), f .below));
                   };
                   here = last;
-                  fits = here-fits b (pred (lo + x)) c (r .known) last (omega (arith, f .several, r .within));
+                  fits = here-fits (ruleIn b) b (pred (lo + x)) c (r .known) last (omega (arith, f .several, r .within));
                 }
 
     -- ---- and behind it
@@ -218,28 +222,28 @@ module _ (b : Bytes) (lo₀ n d o₀ e : ℕ) where
       r : Rows b lo₀ n d o₀ e o lo a g
       r = p .rows
 
-      stood : lo + x ≡ lo₀ + n → GroupAt inRows b (wordsOf plain b) lo₀ (lo₀ + n) d o₀ m
+      stood : lo + x ≡ lo₀ + n → GroupAt inRows b (wordsOf (ruleIn b) b) lo₀ (lo₀ + n) d o₀ m
       stood q =
-          walk-done inRows b (wordsOf plain b) (r .known .rises) lo₀ (lo₀ + n) d o₀ (two r) (fit r) lo o (r .walk) m (subst (λ (y : ℕ). Child inRows b (wordsOf plain b) d lo y o m) q (p .child))
+          walk-done inRows b (wordsOf (ruleIn b) b) (r .known .rises) lo₀ (lo₀ + n) d o₀ (two r) (fit r) lo o (r .walk) m (subst (λ (y : ℕ). Child inRows b (wordsOf (ruleIn b) b) d lo y o m) q (p .child))
           (omega (arith, p .proper, r .upto))
 
       pub rows-apart : {w : ℕ} → lo + x ≡ lo₀ + n → (m ≡ e → ⊥) → Refused w
-      rows-apart q h = says-no (λ s. h (group-end inRows b (wordsOf plain b) lo₀ (lo₀ + n) d o₀ m e (stood q) (s .group)))
+      rows-apart q h = says-no (λ s. h (group-end inRows b (wordsOf (ruleIn b) b) lo₀ (lo₀ + n) d o₀ m e (stood q) (s .group)))
 
       -- v is the width that the child's record tells, y the greatest so far with it
       module _ (v y : ℕ) (ve : v ≡ recordAt inRows b o .width) (ye : y ≡ max g v) where
-        wider : y ≡ widest (span (wordsOf plain b) lo₀ (lo + x))
+        wider : y ≡ widest (span (wordsOf (ruleIn b) b) lo₀ (lo + x))
         wider =
-            let here : lo + x ≤ length (wordsOf plain b) = omega (arith, fit r, p .upto) in
+            let here : lo + x ≤ length (wordsOf (ruleIn b) b) = omega (arith, fit r, p .upto) in
             omega (
               arith,
               r .wide,
-              (node-head inRows b (wordsOf plain b) (r .known .rises) _ lo (lo + x) o m (p .child .some) here (p .child .node)) .width,
-              widest-span (wordsOf plain b) lo₀ lo (lo + x) (r .walk .from) (omega arith) here,
+              (node-head inRows b (wordsOf (ruleIn b) b) (r .known .rises) _ lo (lo + x) o m (p .child .some) here (p .child .node)) .width,
+              widest-span (wordsOf (ruleIn b) b) lo₀ lo (lo + x) (r .walk .from) (omega arith) here,
             )
 
-        whole : lo + x ≡ lo₀ + n → y ≡ widest (span (wordsOf plain b) lo₀ (lo₀ + n))
-        whole q = wider ∙ ap (λ (i : ℕ). widest (span (wordsOf plain b) lo₀ i)) q
+        whole : lo + x ≡ lo₀ + n → y ≡ widest (span (wordsOf (ruleIn b) b) lo₀ (lo₀ + n))
+        whole q = wider ∙ ap (λ (i : ℕ). widest (span (wordsOf (ruleIn b) b) lo₀ i)) q
 
         pub rows-narrow : {w : ℕ} → lo + x ≡ lo₀ + n → (y ≡ w → ⊥) → Refused w
         rows-narrow q h = says-no (λ s. h (whole q ∙ sym (s .wide)))
@@ -249,8 +253,17 @@ module _ (b : Bytes) (lo₀ n d o₀ e : ℕ) where
         unfolding offsetFrom
         rows-done q h z =
             let here : Here b (pred (lo₀ + n)) c = subst (λ (i : ℕ). Here b (pred i) c) q (p .here) in
-            says-yes (record { group = subst (GroupAt inRows b (wordsOf plain b) lo₀ (lo₀ + n) d o₀) h (stood q); wide = sym z ∙ whole q }) here
+            says-yes (record { group = subst (GroupAt inRows b (wordsOf (ruleIn b) b) lo₀ (lo₀ + n) d o₀) h (stood q); wide = sym z ∙ whole q }) here
             (λ k. lt-irrefl 0 (omega (arith, here-rises b 0 (pred (lo₀ + n)) (omega (arith, r .several)), here)))
+
+      -- the child's names share more than d symbols, or there is one
+      last-led : recordAt inRows b o .symbol ≡ at (nth (wordsOf (ruleIn b) b) (pred (lo + x))) d
+      unfolding deep
+      last-led = (node-head inRows b (wordsOf (ruleIn b) b) (r .known .rises) _ lo (lo + x) o m (p .child .some) (omega (arith, fit r, p .upto)) (p .child .node)) .symbol ∙ go (apart 1 x)
+        where
+          go : (1 < x) ⊎ (x ≤ 1) → at (nth (wordsOf (ruleIn b) b) lo) d ≡ at (nth (wordsOf (ruleIn b) b) (pred (lo + x))) d
+          go (inl l) = shared-at (nth (wordsOf (ruleIn b) b) lo) (nth (wordsOf (ruleIn b) b) (pred (lo + x))) d (p .child .below (omega arith))
+          go (inr l) = let z : lo ≡ pred (lo + x) = omega (arith, p .some) in ap (λ (j : ℕ). at (nth (wordsOf (ruleIn b) b) j) d) z
 
       module _ (more : lo + x ≡ lo₀ + n → ⊥) where
         fewer : lo + x < lo₀ + n
@@ -267,30 +280,36 @@ module _ (b : Bytes) (lo₀ n d o₀ e : ℕ) where
           moved : Here b (lo + x) l
           moved = subst (λ (i : ℕ). Here b i l) back (le ∙ here-next b (pred (lo + x)) c (p .here))
 
-          pub rows-meets : MeetAsk b l (lo + x)
-          rows-meets = record { known = r .known; long = omega (arith, r .long); blocks = r .blocks; some = omega (arith, p .some); within = inside; here = moved }
+          -- s is the symbol that led to the child: its last name has it there, too
+          module _ (s : ℕ) (se : s ≡ recordAt inRows b o .symbol) where
+            pub rows-meets : MeetAsk b l (lo + x) d s
+            rows-meets = record { known = r .known; long = omega (arith, r .long); blocks = r .blocks; some = omega (arith, p .some); within = inside; here = moved; led = se ∙ last-led }
 
-          -- u is what the next name shares with the one before
-          module _ (u : ℕ) (ue : u ≡ shared (nth (wordsOf plain b) (pred (lo + x))) (nth (wordsOf plain b) (lo + x))) where
-            pub rows-parted : {w : ℕ} → (u ≡ d → ⊥) → Refused w
-            rows-parted h = says-no (λ s.
-                h (ue ∙ subst (λ (y : ℕ). shared (nth (wordsOf plain b) (pred (lo + y))) (nth (wordsOf plain b) (lo + y)) ≡ d) (sym (p .told)) ((ahead r (s .group)) .edge (omega (arith, p .told, fewer)))))
+            -- u says whether the next name and the one before share just d symbols
+            module _ (u : Bool) (ue : u ≡ eqb (shared (nth (wordsOf (ruleIn b) b) (pred (lo + x))) (nth (wordsOf (ruleIn b) b) (lo + x))) d) where
+              pub rows-parted : {w : ℕ} → not u ≡ true → Refused w
+              rows-parted h = says-no (λ s.
+                  eqb-false _ d (sym ue ∙ not-true u h)
+                  (subst (λ (y : ℕ). shared (nth (wordsOf (ruleIn b) b) (pred (lo + y))) (nth (wordsOf (ruleIn b) b) (lo + y)) ≡ d) (sym (p .told)) ((ahead r (s .group)) .edge (omega (arith, p .told, fewer)))))
 
-            pub rows-more : u ≡ d → (v y : ℕ) → v ≡ recordAt inRows b o .width → y ≡ max g v → Rows b lo₀ n d o₀ e m (lo + x) l y
-            rows-more h v y ve ye = record {
-              known = r .known;
-              blocks = r .blocks;
-              long = r .long;
-              several = r .several;
-              within = r .within;
-              upto = fewer;
-              walk = walk-more inRows b (wordsOf plain b) (r .known .rises) lo₀ (lo₀ + n) d o₀ (two r) (fit r) lo o (r .walk) (lo + x) m (p .child) fewer (sym ue ∙ h);
-              here = moved;
-              low = low;
-              some = inside;
-              fits = here-fits b (lo + x) l (r .known) moved inside;
-              wide = wider v y ve ye;
-            }
-              where
-                low : getD b l 0 ≤ d
-                low = omega (arith, meet-low b l (lo + x) rows-meets, ue, h)
+              pub rows-more : not u ≡ false → (v y : ℕ) → v ≡ recordAt inRows b o .width → y ≡ max g v → Rows b lo₀ n d o₀ e m (lo + x) l y
+              rows-more h v y ve ye = record {
+                known = r .known;
+                blocks = r .blocks;
+                long = r .long;
+                several = r .several;
+                within = r .within;
+                upto = fewer;
+                walk = walk-more inRows b (wordsOf (ruleIn b) b) (r .known .rises) lo₀ (lo₀ + n) d o₀ (two r) (fit r) lo o (r .walk) (lo + x) m (p .child) fewer meets;
+                here = moved;
+                low = low;
+                some = inside;
+                fits = here-fits (ruleIn b) b (lo + x) l (r .known) moved inside;
+                wide = wider v y ve ye;
+              }
+                where
+                  meets : shared (nth (wordsOf (ruleIn b) b) (pred (lo + x))) (nth (wordsOf (ruleIn b) b) (lo + x)) ≡ d
+                  meets = eqb-true _ d (sym ue ∙ not-false u h)
+
+                  low : getD b l 0 ≤ d
+                  low = omega (arith, meet-low b l (lo + x) d s rows-meets, meets)

@@ -15,13 +15,15 @@ use lib.ListN.{length, getD, take, drop, length-append, length-take, length-drop
 use lib.Seq.{slice, slice-empty, length-slice, take-length}
 use borrow.Author.Tests.{eqb-true, eqb-false, eq-eqb}
 use Rattle.words.specs.Rising.{All, cons, nil, span}
-use Rattle.words.specs.Words.{Bytes, InBytes, Words, plain, same, word}
+use Rattle.words.specs.Words.{Bytes, InBytes, Lawful, Rule, Words, same, word}
 use Rattle.words.proofs.Lists.{all-append, all-right}
-use Rattle.words.proofs.Words.{false≠true, plain-lawful, same-refl, same-true}
+use Rattle.words.proofs.Words.{false≠true, same-refl, same-true}
+use Rattle.format.specs.Marks.{kindOf, ruleIn}
 use Rattle.format.specs.Spans.{wordsOf, nodeSize, nodeTable}
 use Rattle.format.specs.Book.{allFields, namesOf, nodePart, numbers}
 use Rattle.format.specs.Nodes.{Node, table, tableWithin}
 use Rattle.format.specs.Records.{longest}
+use Rattle.format.proofs.Marks.{kind-lawful}
 use Rattle.format.proofs.Groups.{table-root}
 use Rattle.format.proofs.Numbers.{bytes-all, take-bytes, word-high}
 use Rattle.format.proofs.Small.{Modest, table-small}
@@ -43,12 +45,12 @@ OnlyBytes x = All (λ c. c < 256) x
 drop-bytes : (n : ℕ) (s : Bytes) → OnlyBytes s → OnlyBytes (drop n s)
 drop-bytes n s a = all-right (take n s) (drop n s) (subst OnlyBytes (sym (take-append-drop n s)) a)
 
-pub stream-modest : {b prev : Bytes} {o : ℕ} {xs : List Bytes} → OnlyBytes b → OnlyBytes prev → Stream b o prev xs → All Modest (map (word plain) xs)
-stream-modest hb hp done = nil
-stream-modest {b} {prev} {o} hb hp (entry {x = x} a e t) =
+pub stream-modest : (ρ : Rule) → Lawful ρ → {b prev : Bytes} {o : ℕ} {xs : List Bytes} → OnlyBytes b → OnlyBytes prev → Stream b o prev xs → All Modest (map (word ρ) xs)
+stream-modest ρ lw hb hp done = nil
+stream-modest ρ lw {b} {prev} {o} hb hp (entry {x = x} a e t) =
     let hx : OnlyBytes x = subst OnlyBytes e (all-append (take-bytes (getD b o 0) prev hp) (take-bytes (getD b (o + 1) 0) (drop (o + 2) b) (drop-bytes (o + 2) b hb))) in
     let l : length x ≤ longest = subst (λ (y : Bytes). length y ≤ longest) e (simp (length-append, length-take, length-drop) (omega (arith, a .short))) in
-    cons {a = word plain x} (record { short = omega (arith, length-map x plain); symbols = λ d. word-high plain plain-lawful x hx d }) (stream-modest hb hx t)
+    cons {a = word ρ x} (record { short = omega (arith, length-map x ρ); symbols = λ d. word-high ρ lw x hx d }) (stream-modest ρ lw hb hx t)
 
 -- ---- the equation
 
@@ -91,7 +93,7 @@ module _ (b : Bytes) (start end n : ℕ) (a : TableAsk b start end n) (z : n ≡
   table-asks more room f x m fe fz xe xn me ends = record {
     ask = asked (recordAt inRows b start .first) (recordAt inRows b start .names) (sym fe ∙ fz) (sym xe ∙ xn);
     several = omega (arith, table-some, a .count);
-    low = omega (arith, first-low b (a .known) table-some);
+    low = omega (arith, first-low (ruleIn b) b (a .known) table-some);
     room = omega (arith, a .long, a .order);
     long = omega (arith, a .long);
   }
@@ -105,25 +107,25 @@ module _ (b : Bytes) (start end n : ℕ) (held : Held b) (a : TableAsk b start e
   within : end ≤ length b
   within = omega (arith, a .long)
 
-  small : All (λ n. n < 65536) (allFields (table (wordsOf plain b)))
+  small : All (λ n. n < 65536) (allFields (table (wordsOf (ruleIn b) b)))
   unfolding wordsOf
-  small = table-small (wordsOf plain b) (a .known .rises) (stream-modest (bytes-all b bytes) nil (a .known .stream)) (omega (arith, words-count b, a .known .few))
+  small = table-small (wordsOf (ruleIn b) b) (a .known .rises) (stream-modest (ruleIn b) (kind-lawful (kindOf b)) (bytes-all b bytes) nil (a .known .stream)) (omega (arith, words-count (ruleIn b) b, a .known .few))
 
-  root-is : nodeTable 0 0 (span (wordsOf plain b) 0 (0 + n)) ≡ table (wordsOf plain b)
+  root-is : nodeTable 0 0 (span (wordsOf (ruleIn b) b) 0 (0 + n)) ≡ table (wordsOf (ruleIn b) b)
   root-is =
-      ap (nodeTable 0 0) (let k : 0 + n ≡ length (wordsOf plain b) = omega (arith, a .count, words-count b) in ap (λ (j : ℕ). take j (wordsOf plain b)) k ∙ take-length (wordsOf plain b)) ∙ sym (table-root (wordsOf plain b))
+      ap (nodeTable 0 0) (let k : 0 + n ≡ length (wordsOf (ruleIn b) b) = omega (arith, a .count, words-count (ruleIn b) b) in ap (λ (j : ℕ). take j (wordsOf (ruleIn b) b)) k ∙ take-length (wordsOf (ruleIn b) b)) ∙ sym (table-root (wordsOf (ruleIn b) b))
 
-  node-of : nodePart (table (wordsOf plain b)) ≡ slice start end b → NodeAt inRows b (wordsOf plain b) 0 (0 + n) 0 start end
-  node-of q = record { stands = subst (λ (rs : List Node). Stands inRows b start rs end) (sym root-is) (bytes-stand b (table (wordsOf plain b)) start end (a .order) within small (sym q)) }
+  node-of : nodePart (table (wordsOf (ruleIn b) b)) ≡ slice start end b → NodeAt inRows b (wordsOf (ruleIn b) b) 0 (0 + n) 0 start end
+  node-of q = record { stands = subst (λ (rs : List Node). Stands inRows b start rs end) (sym root-is) (bytes-stand b (table (wordsOf (ruleIn b) b)) start end (a .order) within small (sym q)) }
 
-  pub table-not : (NodeAt inRows b (wordsOf plain b) 0 (0 + n) 0 start end → ⊥) → false ≡ isTable b start end
+  pub table-not : (NodeAt inRows b (wordsOf (ruleIn b) b) 0 (0 + n) 0 start end → ⊥) → false ≡ isTable b start end
   unfolding isTable
   table-not h = said _ _ false (λ e. absurd (false≠true e)) (λ e. absurd (h (node-of e)))
 
-  table-is : NodeAt inRows b (wordsOf plain b) 0 (0 + n) 0 start end → true ≡ isTable b start end
+  table-is : NodeAt inRows b (wordsOf (ruleIn b) b) 0 (0 + n) 0 start end → true ≡ isTable b start end
   unfolding isTable
   table-is g =
-      said _ _ true (λ t. sym (stands-bytes b bytes (table (wordsOf plain b)) start end within
+      said _ _ true (λ t. sym (stands-bytes b bytes (table (wordsOf (ruleIn b) b)) start end within
       (subst (λ (rs : List Node). Stands inRows b start rs end) root-is (g .stands)))) (λ q. refl)
 
   pub table-nothing : n ≡ 0 → eqb start end ≡ isTable b start end
@@ -132,8 +134,8 @@ module _ (b : Bytes) (start end n : ℕ) (held : Held b) (a : TableAsk b start e
       (λ t. none ∙ sym (subst (λ (x : ℕ). slice x end b ≡ []) (sym (eqb-true start end t)) (slice-empty end b)))
       (λ q. eq-eqb start end (omega (arith, ap length (sym none ∙ q), length-slice start end b within, a .order)))
     where
-      none : nodePart (table (wordsOf plain b)) ≡ []
-      none = ap (λ (vs : Words). nodePart (table vs)) (nil-of (wordsOf plain b) (omega (arith, words-count b, a .count))) ∙ no-nodes
+      none : nodePart (table (wordsOf (ruleIn b) b)) ≡ []
+      none = ap (λ (vs : Words). nodePart (table vs)) (nil-of (wordsOf (ruleIn b) b) (omega (arith, words-count (ruleIn b) b, a .count))) ∙ no-nodes
 
   -- ---- some names
 
@@ -141,8 +143,8 @@ module _ (b : Bytes) (start end n : ℕ) (held : Held b) (a : TableAsk b start e
     some : 0 < length (namesOf b)
     some = table-some b start end n a z
 
-    head : NodeAt inRows b (wordsOf plain b) 0 (0 + n) 0 start end → Head inRows b (wordsOf plain b) 0 0 (0 + n) start end
-    head g = node-head inRows b (wordsOf plain b) (a .known .rises) 0 0 (0 + n) start end (omega (arith, some, a .count)) (omega (arith, words-count b, a .count)) g
+    head : NodeAt inRows b (wordsOf (ruleIn b) b) 0 (0 + n) 0 start end → Head inRows b (wordsOf (ruleIn b) b) 0 0 (0 + n) start end
+    head g = node-head inRows b (wordsOf (ruleIn b) b) (a .known .rises) 0 0 (0 + n) start end (omega (arith, some, a .count)) (omega (arith, words-count (ruleIn b) b, a .count)) g
 
     pub table-short : end - start < nodeSize → false ≡ isTable b start end
     table-short h = table-not (λ g. lt-irrefl end (omega (arith, (head g) .past, a .order)))
@@ -168,20 +170,20 @@ module _ (b : Bytes) (start end n : ℕ) (held : Held b) (a : TableAsk b start e
       pub table-leaf : n ≡ 1 → nodeSize ≤ end - start → (v : Bool) → LeafSays b start (lengthAt b 0) v → v ≡ isTable b start end
       table-leaf one room v says = go v says
         where
-          one-name : (e : ℕ) → NodeAt inRows b (wordsOf plain b) 0 (0 + n) 0 start e → NodeAt inRows b (wordsOf plain b) 0 (0 + 1) 0 start e
-          one-name e g = subst (λ (k : ℕ). NodeAt inRows b (wordsOf plain b) 0 (0 + k) 0 start e) one g
+          one-name : (e : ℕ) → NodeAt inRows b (wordsOf (ruleIn b) b) 0 (0 + n) 0 start e → NodeAt inRows b (wordsOf (ruleIn b) b) 0 (0 + 1) 0 start e
+          one-name e g = subst (λ (k : ℕ). NodeAt inRows b (wordsOf (ruleIn b) b) 0 (0 + k) 0 start e) one g
 
           go : (t : Bool) → LeafSays b start (lengthAt b 0) t → t ≡ isTable b start end
           go false never = table-not (λ g. leaf-not b 0 0 start 0 (asked b start end n a z 0 1 refl (sym one)) never end (one-name end g))
           go true sure =
               let e : start + nodeSize ≡ end = omega (arith, sure .1) in
-              table-is (subst (λ (k : ℕ). NodeAt inRows b (wordsOf plain b) 0 (0 + k) 0 start end) (sym one)
-              (subst (NodeAt inRows b (wordsOf plain b) 0 (0 + 1) 0 start) e
+              table-is (subst (λ (k : ℕ). NodeAt inRows b (wordsOf (ruleIn b) b) 0 (0 + k) 0 start end) (sym one)
+              (subst (NodeAt inRows b (wordsOf (ruleIn b) b) 0 (0 + 1) 0 start) e
               (leaf-stands b 0 0 start 0 (asked b start end n a z 0 1 refl (sym one)) (omega (arith, a .long, a .order)) (sym se ∙ sz) (sym fe ∙ fz) (sym xe ∙ xn ∙ one) sure)))
 
       -- several names
-      root : NodeAt inRows b (wordsOf plain b) 0 (0 + n) 0 start end
-          ≡ NodeAt inRows b (wordsOf plain b) (recordAt inRows b start .first) (recordAt inRows b start .first + recordAt inRows b start .names) (recordAt inRows b start .symbol) start (start + recordAt inRows b start .nodes * nodeSize)
+      root : NodeAt inRows b (wordsOf (ruleIn b) b) 0 (0 + n) 0 start end
+          ≡ NodeAt inRows b (wordsOf (ruleIn b) b) (recordAt inRows b start .first) (recordAt inRows b start .first + recordAt inRows b start .names) (recordAt inRows b start .symbol) start (start + recordAt inRows b start .nodes * nodeSize)
       root = rw (sym fe ∙ fz, sym xe ∙ xn, sym se ∙ sz, ← me, ends) refl
 
       pub table-said : (r : ℕ) → NodeSays b start r → not (eqb r 0) ≡ isTable b start end

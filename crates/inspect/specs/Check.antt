@@ -1,4 +1,5 @@
 -- What the check of a node table asks and says. It goes by the entries, and holds no name.
+--     LeadAsk                      an entry whose symbol is asked for
 --     LedTo, LedSays               a symbol led to a record, which tells its first name; whether it is so
 --     LeafAt, LeafSays             a record of one name has a leaf's depth, number of nodes and width; whether it has
 --     MayBeFork, ForkSays          what is asked of a record of several names before its row is looked at; whether it holds
@@ -15,21 +16,28 @@ use mathlib.Core.Bool.{Bool, false, true}
 use lib.ListN.{getD, length}
 use lib.Seq.{slice}
 use Rattle.words.specs.Rising.{span}
-use Rattle.words.specs.Words.{Bytes, at, plain, same, word}
+use Rattle.words.specs.Words.{Bytes, at, same, word}
+use Rattle.format.specs.Marks.{ruleIn}
 use Rattle.format.specs.Spans.{wordsOf, nodeSize}
 use Rattle.format.specs.Book.{namesOf, nodePart, trailerSize, told}
 use Rattle.format.specs.Nodes.{table}
 use Rattle.format.specs.Widths.{widest}
 use Rattle.format.specs.Records.{longest}
-use Rattle.streams.specs.Streams.{Here, InBlocks, Known, restAt}
+use Rattle.streams.specs.Streams.{Here, InBlocks, Known, entryEnd, restAt}
 use Rattle.standing.specs.Maps.{Roomy, inRows, recordAt}
 use Rattle.standing.specs.Stands.{GroupAt, NodeAt}
 
 -- ---- a record
 
+-- the entry at a stands, shares no more than d bytes, and a trailer says by which rule its name has its symbols
+pub record LeadAsk (b : Bytes) (a d : ℕ) : Type 0 where
+  pub fits : entryEnd b a ≤ length b
+  pub low : getD b a 0 ≤ d
+  pub long : trailerSize ≤ length b
+
 -- symbol number d of the name of the entry at a, which shares no more than d bytes, led to the record at o, whose first name is number i
 abbrev pub LedTo : Bytes → ℕ → ℕ → ℕ → ℕ → Type 0
-LedTo b o i d a = (recordAt inRows b o .symbol ≡ at (word plain (restAt b a)) (d - getD b a 0)) × (recordAt inRows b o .first ≡ i)
+LedTo b o i d a = (recordAt inRows b o .symbol ≡ at (word (ruleIn b) (restAt b a)) (d - getD b a 0)) × (recordAt inRows b o .first ≡ i)
 
 abbrev pub LedSays : Bytes → ℕ → ℕ → ℕ → ℕ → Bool → Type 0
 LedSays b o i d a true = LedTo b o i d a
@@ -61,7 +69,7 @@ ForkSays b o e n d left false = MayBeFork b o e n d left → ⊥
 
 -- the n names from number lo on, one at least, are known, and the first one's entry stands at a
 pub record Ask (b : Bytes) (lo n a : ℕ) : Type 0 where
-  pub known : Known b
+  pub known : Known (ruleIn b) b
   pub blocks : InBlocks b (told b 1) (told b 2)
   pub some : 1 ≤ n
   pub within : lo + n ≤ length (namesOf b)
@@ -90,13 +98,13 @@ pub record Says (Stands : Type 0) (b : Bytes) (i r : ℕ) : Type 0 where
 -- as far as the record says: its first name, its number of names, its symbol, its number of nodes
 abbrev pub NodeSays : Bytes → ℕ → ℕ → Type 0
 NodeSays b o r =
-    Says (NodeAt inRows b (wordsOf plain b) (recordAt inRows b o .first) (recordAt inRows b o .first + recordAt inRows b o .names) (recordAt inRows b o .symbol) o (o + recordAt inRows b o .nodes * nodeSize))
+    Says (NodeAt inRows b (wordsOf (ruleIn b) b) (recordAt inRows b o .first) (recordAt inRows b o .first + recordAt inRows b o .names) (recordAt inRows b o .symbol) o (o + recordAt inRows b o .nodes * nodeSize))
     b (pred (recordAt inRows b o .first + recordAt inRows b o .names)) r
 
 -- the row from o to e of a node of depth d and width w stands, and no name is longer than w, but one is as long
 pub record WideRow (b : Bytes) (o e lo n d w : ℕ) : Type 0 where
-  pub group : GroupAt inRows b (wordsOf plain b) lo (lo + n) d o e
-  pub wide : w ≡ widest (span (wordsOf plain b) lo (lo + n))
+  pub group : GroupAt inRows b (wordsOf (ruleIn b) b) lo (lo + n) d o e
+  pub wide : w ≡ widest (span (wordsOf (ruleIn b) b) lo (lo + n))
 
 abbrev pub RowSays : Bytes → ℕ → ℕ → ℕ → ℕ → ℕ → ℕ → ℕ → Type 0
 RowSays b o e lo n d w r = Says (WideRow b o e lo n d w) b (pred (lo + n)) r
@@ -104,7 +112,7 @@ RowSays b o e lo n d w r = Says (WideRow b o e lo n d w) b (pred (lo + n)) r
 -- ---- the whole table
 
 pub record TableAsk (b : Bytes) (start end n : ℕ) : Type 0 where
-  pub known : Known b
+  pub known : Known (ruleIn b) b
   pub blocks : InBlocks b (told b 1) (told b 2)
   pub count : n ≡ length (namesOf b)
   pub order : start ≤ end
@@ -112,4 +120,4 @@ pub record TableAsk (b : Bytes) (start end n : ℕ) : Type 0 where
 
 -- the names are those that the entries are read as
 unfoldable pub isTable : Bytes → ℕ → ℕ → Bool
-isTable b start end = same (nodePart (table (wordsOf plain b))) (slice start end b)
+isTable b start end = same (nodePart (table (wordsOf (ruleIn b) b))) (slice start end b)

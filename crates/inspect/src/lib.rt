@@ -1,21 +1,25 @@
 // The check of a node table. It holds no name: the walk over the entries, which comes first, has judged them, so an entry tells what its
 // name shares with the one before it, and a symbol that the table tells stands in the rest of the entry at hand.
 ghost use mathlib.Core.Path.{_≡_};
-ghost use Prim.Native.Nat.{_+_, _-_, _≤_, _<_};
+ghost use Prim.Native.Nat.{_+_, _-_, _≤_};
+ghost use lib.Dec.{eqb};
 ghost use lib.ListN.{length, getD};
-ghost use Rattle.words.specs.Words.{plain, word, at};
-ghost use Rattle.streams.specs.Streams.{entryEnd, lengthAt, restAt};
+ghost use Rattle.words.specs.Words.{at, word};
+ghost use Rattle.format.specs.Marks.{ruleIn};
+ghost use Rattle.streams.specs.Streams.{lengthAt, restAt};
 ghost use Rattle.standing.specs.Maps.{Roomy, inRows};
-ghost use Rattle.inspect.specs.Check.{ForkSays, LeafSays, LedSays, NodeAsk, NodeSays, RowAsk, RowSays, TableAsk, isTable};
+ghost use Rattle.inspect.specs.Check.{ForkSays, LeadAsk, LeafSays, LedSays, NodeAsk, NodeSays, RowAsk, RowSays, TableAsk, isTable};
 
-// Symbol number d of the name of the entry at a, which shares no more than d bytes.
-fn symbol_of(book: &[u8], a: usize, d: usize) -> usize
-    requires { ⌜ (entryEnd (now book) a ≤ length (now book)) × (getD (now book) a 0 ≤ d) ⌝ }
-    ensures { λ r. ⌜ r ≡ at (word plain (restAt (now (book .entry)) a)) (d - getD (now (book .entry)) a 0) ⌝ }
+// Whether symbol number d of the name of the entry at a, which shares no more than d bytes, is s.
+fn leads(book: &[u8], a: usize, d: usize, s: usize) -> bool
+    requires { ⌜ LeadAsk (now book) a d ⌝ }
+    ensures { λ r. ⌜ r ≡ eqb s (at (word (ruleIn (now (book .entry))) (restAt (now (book .entry)) a)) (d - getD (now (book .entry)) a 0)) ⌝ }
 {
-    let from = a + 2;
-    let to = from + numbers::wide(book[a + 1]);
-    symbols::symbol_at(&book[from..to], numbers::wide(book[a]), d)
+    let skip = d - numbers::wide(book[a]);
+    if skip < numbers::wide(book[a + 1]) {
+        return symbols::has_symbol(trailer::rule(book), book[a + 2 + skip], s);
+    }
+    s == 0
 }
 
 // The length of the name of the entry at a.
@@ -28,10 +32,10 @@ fn length_of(book: &[u8], a: usize) -> usize
 
 // Whether symbol number d of the name of the entry at a led to the record at an offset, and its first name is number i.
 fn is_led_to(book: &[u8], o: usize, i: usize, d: usize, a: usize) -> bool
-    requires { ⌜ Roomy inRows (now book) o × (entryEnd (now book) a ≤ length (now book)) × (getD (now book) a 0 ≤ d) ⌝ }
+    requires { ⌜ Roomy inRows (now book) o × LeadAsk (now book) a d ⌝ }
     ensures { λ r. ⌜ LedSays (now (book .entry)) o i d a r ⌝ }
 {
-    if fields::symbol(book, o) != symbol_of(book, a, d) {
+    if !leads(book, a, d, fields::symbol(book, o)) {
         return false;
     }
     fields::first(book, o) == i
@@ -129,6 +133,7 @@ fn check_row(
             return 0;
         }
         let names = fields::names(book, child);
+        let led = fields::symbol(book, child);
         greatest = numbers::greater(greatest, fields::width(book, child));
         if names == 1 {
             if !is_leaf(book, child, entry) {
@@ -156,7 +161,7 @@ fn check_row(
             return entry;
         }
         entry = neighbours::next_entry(book, entry);
-        if neighbours::shared_before(book, entry, first) != d {
+        if !neighbours::parts_at(book, entry, first, d, led) {
             return 0;
         }
     }

@@ -1,30 +1,35 @@
--- The walk along a block to the name behind it.
---     Along                 what is counted so far: what the last name that was passed shares with the name behind the block
+-- The walk along a block to the name at a.
+--     Along                 what is counted so far: c, and what the last name that was passed shares with the name at a from there on
 --     along-start, along-fits, along-asks, along-more, along-done     the loop
+-- Names that were passed need not begin as the name at a does up to c; the last one before it does.
 -- Assumes nothing.
 use Prim.Native.Nat.{ℕ, suc, pred, _+_, _≤_, _<_}
 use native.Mathlib.Nat.{lt-irrefl}
 use native.Mathlib.Omega.{arith}
-use mathlib.Core.Path.{_≡_, refl, sym, ap, ap₂, _∙_, subst}
+use mathlib.Core.Path.{_≡_, sym, ap, ap₂, _∙_, subst}
 use mathlib.Core.Logic.{_⊎_, inl, inr}
 use mathlib.Core.Bool.{true}
 use mathlib.Core.List.{List, [], _++_}
-use lib.ListN.{length, getD, take, drop, length-take, length-drop, length-map}
-use lib.Seq.{length-take-le}
+use lib.ListN.{length, getD, take, drop, length-map, length-take}
+use lib.Seq.{drop-at, length-take-le}
 use borrow.Author.Tests.{le-ltb, lt-ltb}
-use Rattle.words.specs.Words.{Bytes, less, plain, shared}
+use Rattle.words.specs.Words.{Bytes, Words, less, shared, word}
 use Rattle.words.specs.Rising.{nth}
 use Rattle.words.proofs.Rising.{nth-less}
-use Rattle.words.proofs.Words.{Sides, apart, before, behind, less-short, level, plain-injective, shared-append, shared-comm, shared-front, shared-trans, shared-two, shared-word, sides}
+use Rattle.words.proofs.Words.{Sides, apart, before, behind, less-short, level, shared-comm, shared-front, shared-le, shared-word-le, sides}
 use Rattle.format.specs.Spans.{wordsOf}
 use Rattle.format.specs.Book.{namesOf}
-use Rattle.streams.specs.Streams.{Here, Known, entryEnd, offsetAt, prevOf, restAt}
-use Rattle.streams.proofs.Here.{comes, here-fits, here-next, here-only, here-rises, words-count, words-nth}
-use Rattle.neighbours.specs.Neighbours.{AlongAsk, AlongSays, NextAsk, RestAsk, sharedNext}
+use Rattle.symbols.specs.Rules.{ruleBy}
+use Rattle.symbols.specs.declared.Rule.{Rule as ByRule}
+use Rattle.symbols.specs.declared.Rule.the-variants.{Plain}
+use Rattle.streams.specs.Streams.{Here, Known, entryEnd, lengthAt, offsetAt, prevOf, restAt}
+use Rattle.streams.proofs.Here.{Comes, comes, here-length, here-next, here-only, here-rises, words-count, words-nth}
+use Rattle.neighbours.specs.Neighbours.{AlongAsk, AlongSays, NextAsk, sharedNext}
+use Rattle.neighbours.proofs.Behind.{shared-behind, step-rest, step-same, word-behind}
 
--- name j is next, at `at`; i is behind the block, whose first name is p
-pub record Along (b : Bytes) (a at x : ℕ) : Type 0 where
-  pub known : Known b
+-- name j is next, at `at`; i is the name at a, and p the block's first
+pub record Along (t : ByRule) (b : Bytes) (a c at x : ℕ) : Type 0 where
+  pub known : Known (ruleBy t) b
   pub p : ℕ
   pub j : ℕ
   pub i : ℕ
@@ -35,12 +40,14 @@ pub record Along (b : Bytes) (a at x : ℕ) : Type 0 where
   pub there : Here b i a
   pub here : Here b j at
   pub fresh : getD b (offsetAt b p) 0 ≡ 0
-  pub whole : getD b a 0 ≡ 0
-  pub none : j ≡ p → x ≡ 0
-  pub shares : p < j → x ≡ shared (getD (namesOf b) (pred j) []) (getD (namesOf b) i [])
+  pub count : c ≡ getD b a 0
+  pub whole : t ≡ Plain → c ≡ 0
+  pub low : c ≤ x
+  pub most : x ≤ lengthAt b a
+  pub shares : p < j → x ≡ c + shared (word (ruleBy t) (drop c (getD (namesOf b) (pred j) []))) (word (ruleBy t) (restAt b a))
 
-pub along-start : (b : Bytes) (start a : ℕ) → AlongAsk b start a → Along b a start 0
-along-start b start a k = record {
+pub along-start : (t : ByRule) (b : Bytes) (start a c : ℕ) → AlongAsk t b start a c → Along t b a c start c
+along-start t b start a c k = record {
   known = k .known;
   p = k .p;
   j = k .p;
@@ -52,13 +59,19 @@ along-start b start a k = record {
   there = k .there;
   here = k .first;
   fresh = subst (λ (o : ℕ). getD b o 0 ≡ 0) (k .first) (k .fresh);
+  count = k .count;
   whole = k .whole;
-  none = λ e. refl;
+  low = omega arith;
+  most = omega (arith, k .count);
   shares = λ h. absurd (lt-irrefl (k .p) h);
 }
 
-module _ (b : Bytes) (a at x : ℕ) (w : Along b a at x) where
-  -- where the walk has come to the name behind the block, it has come to its entry
+-- the name before one that is not the first
+pub before-is : (b : Bytes) (p j : ℕ) → p < j → prevOf (namesOf b) j ≡ getD (namesOf b) (pred j) []
+before-is b p j h = let e : suc (pred j) ≡ j = omega arith in ap (prevOf (namesOf b)) (sym e)
+
+module _ (t : ByRule) (b : Bytes) (a c at x : ℕ) (w : Along t b a c at x) where
+  -- where the walk has come to the name at a, it has come to its entry
   short : at < a → w .j < w .i
   short h = go (apart (w .j) (w .i))
     where
@@ -75,20 +88,44 @@ module _ (b : Bytes) (a at x : ℕ) (w : Along b a at x) where
       go (inl l) = absurd (lt-irrefl at (omega (arith, here-rises b (w .j) (w .i) l, w .here, w .there)))
       go (inr l) = omega (arith, w .upto)
 
-  -- the name behind the block
+  -- the name at a, and the one before it
   abbrev name : Bytes
   name = getD (namesOf b) (w .i) []
 
-  name-is : restAt b a ≡ name
-  name-is =
-      let c = comes b (w .i) a (w .known) (w .there) (w .within) in
-      sym (ap (λ (n : ℕ). take n (prevOf (namesOf b) (w .i)) ++ restAt b a) (w .whole)) ∙ c .named
+  abbrev last : Bytes
+  last = getD (namesOf b) (pred (w .i)) []
 
-  pub along-done : a ≤ at → AlongSays b a x
+  named : Comes b a last name
+  named = subst (λ (y : Bytes). Comes b a y name) (before-is b (w .p) (w .i) (w .order)) (comes (ruleBy t) b (w .i) a (w .known) (w .there) (w .within))
+
+  rest-most : (y : Bytes) → c + shared (word (ruleBy t) y) (word (ruleBy t) (restAt b a)) ≤ lengthAt b a
+  rest-most y =
+      omega (
+        arith,
+        w .count,
+        shared-le (word (ruleBy t) (restAt b a)) (word (ruleBy t) y),
+        shared-comm (word (ruleBy t) y) (word (ruleBy t) (restAt b a)),
+        length-map (restAt b a) (ruleBy t),
+        length-take (getD b (a + 1) 0) (drop (a + 2) b),
+      )
+
+  -- both begin with c bytes, so they share those, and what they share behind
+  whole : shared (word (ruleBy t) last) (word (ruleBy t) name) ≡ c + shared (word (ruleBy t) (drop c last)) (word (ruleBy t) (restAt b a))
+  whole =
+      let l : c ≤ length last = omega (arith, w .count, named .stands .shares) in
+      let is : take c last ++ restAt b a ≡ name = ap (λ (n : ℕ). take n last ++ restAt b a) (w .count) ∙ named .named in
+      let g : c ≤ shared last name = subst (λ (y : Bytes). c ≤ shared last y) is (shared-front last (restAt b a) c l) in
+      let f : drop c name ≡ restAt b a = ap (drop c) (sym is) ∙ drop-at (take c last) (restAt b a) c (length-take-le c last l) in
+      shared-behind (word (ruleBy t) last) (word (ruleBy t) name) c (omega (arith, g, shared-word-le (ruleBy t) last name))
+      ∙ ap₂ (λ (u v : List ℕ). c + shared u v) (sym (word-behind (ruleBy t) c last)) (sym (word-behind (ruleBy t) c name) ∙ ap (word (ruleBy t)) f)
+
+  pub along-done : a ≤ at → AlongSays (ruleBy t) b a x
   along-done h i some l there =
       let e : w .j ≡ w .i = ended h in
       let f : w .i ≡ i = here-only b (w .i) i a (w .there) there in
-      w .shares (omega (arith, w .order)) ∙ ap₂ (λ (m n : ℕ). shared (getD (namesOf b) (pred m) []) (getD (namesOf b) n [])) (e ∙ f) f
+      w .shares (omega (arith, w .order))
+      ∙ ap (λ (m : ℕ). c + shared (word (ruleBy t) (drop c (getD (namesOf b) (pred m) []))) (word (ruleBy t) (restAt b a))) e ∙ sym whole
+      ∙ ap (λ (n : ℕ). shared (word (ruleBy t) (getD (namesOf b) (pred n) [])) (word (ruleBy t) (getD (namesOf b) n []))) f
 
   module _ (h : at < a) where
     inside : w .j < length (namesOf b)
@@ -101,93 +138,62 @@ module _ (b : Bytes) (a at x : ℕ) (w : Along b a at x) where
     abbrev prev : Bytes
     prev = prevOf (namesOf b) (w .j)
 
-    abbrev c : ℕ
-    c = getD b at 0
+    abbrev e : ℕ
+    e = getD b at 0
 
-    count-within : c ≤ length prev
-    count-within = (comes b (w .j) at (w .known) (w .here) inside) .stands .shares
-
-    mine-is : take c prev ++ restAt b at ≡ mine
-    mine-is = (comes b (w .j) at (w .known) (w .here) inside) .named
-
-    -- it is below the name behind the block, so it parts from it before that ends
-    parts : shared mine name < length name
-    parts =
-        let l : less (nth (wordsOf plain b) (w .j)) (nth (wordsOf plain b) (w .i)) ≡ true =
-        nth-less (wordsOf plain b) (w .j) (w .i) (w .known .rises) (short h) (omega (arith, words-count b, w .within)) in
-        omega (
-          arith,
-          less-short (nth (wordsOf plain b) (w .j)) (nth (wordsOf plain b) (w .i)) l,
-          ap₂ (λ (u v : List ℕ). shared u v) (words-nth b (w .j)) (words-nth b (w .i)),
-          shared-word plain plain-injective mine name,
-          ap length (words-nth b (w .i)),
-          length-map name plain,
-        )
+    come : Comes b at prev mine
+    come = comes (ruleBy t) b (w .j) at (w .known) (w .here) inside
 
     -- a count that is not 0 is no block's first
-    later : 0 < c → w .p < w .j
+    later : 0 < e → w .p < w .j
     later s = go (sides (w .p) (w .j))
       where
         go : Sides (w .p) (w .j) → w .p < w .j
         go (before l) = l
-        go (level e) = absurd (lt-irrefl 0 (omega (arith, w .fresh, ap (λ (o : ℕ). getD b o 0) (w .here ∙ ap (offsetAt b) (sym e)))))
+        go (level q) = absurd (lt-irrefl 0 (omega (arith, w .fresh, ap (λ (o : ℕ). getD b o 0) (w .here ∙ ap (offsetAt b) (sym q)))))
         go (behind l) = absurd (lt-irrefl (w .p) (omega (arith, w .from)))
 
-    prev-is : 0 < c → prev ≡ getD (namesOf b) (pred (w .j)) []
-    prev-is s = let e : suc (pred (w .j)) ≡ w .j = omega (arith, later s) in ap (prevOf (namesOf b)) (sym e)
+    before-shares : c < e → x ≡ c + shared (word (ruleBy t) (drop c prev)) (word (ruleBy t) (restAt b a))
+    before-shares s =
+        let l : w .p < w .j = later (omega arith) in
+        w .shares l ∙ ap (λ (y : Bytes). c + shared (word (ruleBy t) (drop c y)) (word (ruleBy t) (restAt b a))) (sym (before-is b (w .p) (w .j) l))
 
-    before-shares : 0 < c → x ≡ shared prev name
-    before-shares s = w .shares (later s) ∙ ap (λ (y : Bytes). shared y name) (sym (prev-is s))
+    next-shares : sharedNext (ruleBy t) b at a x ≡ c + shared (word (ruleBy t) (drop c mine)) (word (ruleBy t) (restAt b a))
+    next-shares = go (apart x e) ∙ ap (λ (y : Bytes). c + shared (word (ruleBy t) (drop c y)) (word (ruleBy t) (restAt b a))) (come .named)
+      where
+        go : (x < e) ⊎ (e ≤ x) → sharedNext (ruleBy t) b at a x ≡ c + shared (word (ruleBy t) (drop c (take e prev ++ restAt b at))) (word (ruleBy t) (restAt b a))
+        go (inl l) =
+            let q = before-shares (omega (arith, w .low)) in
+            rw (lt-ltb x e l) (q ∙ ap (λ (n : ℕ). c + n) (sym (step-same (ruleBy t) c e prev (restAt b at) (restAt b a) (come .stands .shares) (omega (arith, q)))))
+        go (inr l) =
+            rw (le-ltb x e l, ← w .count) (sym (step-rest (ruleBy t) c e prev (restAt b at) (restAt b a) (come .stands .shares) (λ s. omega (arith, before-shares s))))
 
-    front-shares : c ≤ shared prev mine
-    front-shares = subst (λ (y : Bytes). c ≤ shared prev y) mine-is (shared-front prev (restAt b at) c count-within)
-
-    module _ (low : c ≤ x) where
-      enough : c ≤ shared mine name
-      enough = go (apart 0 c)
-        where
-          go : (0 < c) ⊎ (c ≤ 0) → c ≤ shared mine name
-          go (inl s) = shared-trans mine prev name c (omega (arith, front-shares, shared-comm mine prev)) (omega (arith, before-shares s))
-          go (inr z) = omega arith
-
-      goes-on : shared mine name ≡ c + shared (restAt b at) (drop c (restAt b a))
-      goes-on =
-          let size : length (take c prev) ≡ c = length-take-le c prev count-within in
-          let e : shared mine name ≡ shared (take c prev ++ restAt b at) name = ap (λ (y : Bytes). shared y name) (sym mine-is) in
-          e ∙ shared-append (take c prev) (restAt b at) name (omega (arith, size, enough))
-          ∙ ap₂ (λ (m : ℕ) (y : Bytes). m + shared (restAt b at) (drop m y)) size (sym name-is)
-
-      rest-ask : RestAsk b at a c
-      rest-ask =
-          let there : entryEnd b a ≤ length b = here-fits b (w .i) a (w .known) (w .there) (w .within) in
-          let size : length name ≡ getD b (a + 1) 0 = ap length (sym name-is) ∙ rw (length-take, length-drop) (omega (arith, there)) in
-          record {
-            here = here-fits b (w .j) at (w .known) (w .here) inside;
-            there = there;
-            inside = omega (arith, size, parts, enough);
-            goes-on = omega (arith, parts, goes-on, length-drop c (restAt b a), ap length name-is);
-          }
+    -- a whole name is above this one, and goes on where they part
+    goes-on : t ≡ Plain → sharedNext (ruleBy t) b at a x < lengthAt b a
+    goes-on z =
+        let ws : Words = wordsOf (ruleBy t) b in
+        let l : less (nth ws (w .j)) (nth ws (w .i)) ≡ true =
+        nth-less ws (w .j) (w .i) (w .known .rises) (short h) (omega (arith, words-count (ruleBy t) b, w .within)) in
+        let is : restAt b a ≡ name = ap (λ (n : ℕ). take n last ++ restAt b a) (sym (w .whole z) ∙ w .count) ∙ named .named in
+        let s : shared (word (ruleBy t) (drop c mine)) (word (ruleBy t) (restAt b a)) ≡ shared (nth ws (w .j)) (nth ws (w .i)) =
+        ap₂ (λ (u v : List ℕ). shared u v) (ap (λ (n : ℕ). word (ruleBy t) (drop n mine)) (w .whole z) ∙ sym (words-nth (ruleBy t) b (w .j)))
+        (ap (word (ruleBy t)) is ∙ sym (words-nth (ruleBy t) b (w .i))) in
+        omega (
+          arith,
+          next-shares,
+          s,
+          w .whole z,
+          less-short (nth ws (w .j)) (nth ws (w .i)) l,
+          here-length (ruleBy t) b (w .i) a (w .known) (w .there) (w .within),
+        )
 
     pub along-fits : entryEnd b at ≤ length b
-    along-fits = here-fits b (w .j) at (w .known) (w .here) inside
+    along-fits = come .stands .fits
 
-    pub along-asks : NextAsk b at a x
-    along-asks = record {
-      here = here-fits b (w .j) at (w .known) (w .here) inside;
-      rest = λ low. rest-ask low;
-      short = omega (arith, (comes b (w .j) at (w .known) (w .here) inside) .stands .short);
-    }
+    pub along-asks : NextAsk t b at a c x
+    along-asks = record { here = come .stands .fits; there = named .stands .fits; count = w .count; short = named .stands .short; upto = w .most; small = w .known .short; goes-on = goes-on }
 
-    next-shares : sharedNext b at a x ≡ shared mine name
-    next-shares = go (apart x c)
-      where
-        go : (x < c) ⊎ (c ≤ x) → sharedNext b at a x ≡ shared mine name
-        go (inl l) =
-            let q : shared prev name ≡ x = sym (before-shares (omega arith)) in
-            rw (lt-ltb x c l) (sym (shared-two prev mine name (omega (arith, q, front-shares)) ∙ q))
-        go (inr low) = rw (le-ltb x c low) (sym (goes-on low))
-
-    pub along-more : (next y : ℕ) → y ≡ sharedNext b at a x → next ≡ entryEnd b at → Along b a next y
+    pub along-more : (next y : ℕ) → y ≡ sharedNext (ruleBy t) b at a x → next ≡ entryEnd b at → Along t b a c next y
     along-more next y ye ne = record {
       known = w .known;
       p = w .p;
@@ -200,7 +206,9 @@ module _ (b : Bytes) (a at x : ℕ) (w : Along b a at x) where
       there = w .there;
       here = ne ∙ here-next b (w .j) at (w .here);
       fresh = w .fresh;
+      count = w .count;
       whole = w .whole;
-      none = λ e. absurd (lt-irrefl (w .p) (omega (arith, w .from)));
+      low = omega (arith, ye, next-shares);
+      most = omega (arith, ye, next-shares, rest-most (drop c mine));
       shares = λ l. ye ∙ next-shares;
     }

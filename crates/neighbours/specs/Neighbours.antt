@@ -1,36 +1,69 @@
 -- What a name shares with the one before it, as it is read from the entries.
---     RestAsk               two entries stand, and the second one's name goes on where the first one's rest parts from it
+--     RestAsk, sharedParts  two parts of the bytes
+--     EndAsk, endBy         up to where a rest is held to another one
 --     NextAsk, sharedNext   one entry further along a block
---     AlongAsk, AlongSays   a block whose end is the entry at a; what the name there shares with the one before
---     MeetAsk               name i is not the first, and stands at a
+--     AlongAsk, AlongSays   entries from a block's start on up to the one at a; what the name there shares with the one before
+--     StartAsk, startOf     where the block of a name starts
+--     MeetAsk               name i is not the first, and stands at a; the name before it has the symbol s at d
 -- The laws are in proofs/. Assumes nothing: these are definitions.
-use Prim.Native.Nat.{ℕ, pred, _+_, _≤_, _<_}
+use Prim.Native.Nat.{ℕ, max, min, pred, _+_, _-_, _*_, _/_, _≤_, _<_}
 use mathlib.Core.Path.{_≡_}
 use mathlib.Core.List.{[]}
 use lib.Dec.{ltb}
-use lib.ListN.{drop, getD, length}
-use Rattle.words.specs.Words.{Bytes, pick, shared}
-use Rattle.format.specs.Book.{trailerSize, namesOf, told}
-use Rattle.streams.specs.Streams.{Here, InBlocks, Known, entryEnd, restAt}
+use lib.ListN.{drop, getD, length, take}
+use Rattle.words.specs.Rising.{nth}
+use Rattle.words.specs.Words.{Bytes, Rule, at, pick, shared, word}
+use Rattle.format.specs.Marks.{ruleIn}
+use Rattle.format.specs.Spans.{wordsOf}
+use Rattle.format.specs.Book.{trailerSize, longestBook, namesOf, told}
+use Rattle.format.specs.Records.{longest, mostNames}
+use Rattle.symbols.specs.Rules.{ruleBy}
+use Rattle.symbols.specs.declared.Rule.{Rule as ByRule}
+use Rattle.symbols.specs.declared.Rule.the-variants.{Folded, Plain}
+use Rattle.streams.specs.Streams.{Here, InBlocks, Known, entryEnd, lengthAt, offsetAt, restAt}
 
-pub record RestAsk (b : Bytes) (at a c : ℕ) : Type 0 where
+-- what the bytes from own to end share with those from other on
+abbrev pub sharedParts : Rule → Bytes → ℕ → ℕ → ℕ → ℕ
+sharedParts ρ b own end other = shared (word ρ (take (end - own) (drop own b))) (word ρ (drop other b))
+
+pub record RestAsk (ρ : Rule) (b : Bytes) (own end other : ℕ) : Type 0 where
+  pub small : length b ≤ longestBook
+  pub within : end ≤ length b
+  pub goes-on : (x : ℕ) → own + x < end → x ≤ sharedParts ρ b own end other → other + x < length b
+
+-- both entries stand, own is near the first, and other no further than the end of the second
+pub record EndAsk (b : Bytes) (at own a other : ℕ) : Type 0 where
   pub here : entryEnd b at ≤ length b
   pub there : entryEnd b a ≤ length b
-  pub inside : c < getD b (a + 1) 0
-  pub goes-on : shared (restAt b at) (drop c (restAt b a)) < length (drop c (restAt b a))
+  pub inside : other ≤ entryEnd b a
+  pub near : own ≤ at + 2 + longest
+  pub small : length b ≤ longestBook
 
--- the entry stands, and where its count is no greater than x, its rest can be held to the name at a
-pub record NextAsk (b : Bytes) (at a x : ℕ) : Type 0 where
+abbrev pub endBy : ByRule → Bytes → ℕ → ℕ → ℕ → ℕ → ℕ
+endBy Plain b at own a other = entryEnd b at
+endBy Folded b at own a other = min (entryEnd b at) (own + (entryEnd b a - other))
+
+-- what two rests share behind a byte of the names, with all before it
+abbrev pub sharedFrom : Rule → Bytes → ℕ → ℕ → ℕ → ℕ
+sharedFrom ρ b at a from = from + shared (word ρ (drop (from - getD b at 0) (restAt b at))) (word ρ (drop (from - getD b a 0) (restAt b a)))
+
+-- behind the greater of the two counts
+abbrev pub sharedNext : Rule → Bytes → ℕ → ℕ → ℕ → ℕ
+sharedNext ρ b at a x = pick (ltb x (getD b at 0)) x (sharedFrom ρ b at a (max (getD b at 0) (getD b a 0)))
+
+-- both entries stand, and c is the count of the second; by the plain rule its name goes on where the first one's parts from it
+pub record NextAsk (t : ByRule) (b : Bytes) (at a c x : ℕ) : Type 0 where
   pub here : entryEnd b at ≤ length b
-  pub rest : getD b at 0 ≤ x → RestAsk b at a (getD b at 0)
-  pub short : getD b at 0 + getD b (at + 1) 0 ≤ 510
+  pub there : entryEnd b a ≤ length b
+  pub count : c ≡ getD b a 0
+  pub short : lengthAt b a ≤ longest
+  pub upto : x ≤ lengthAt b a
+  pub small : length b ≤ longestBook
+  pub goes-on : t ≡ Plain → sharedNext (ruleBy t) b at a x < lengthAt b a
 
-abbrev pub sharedNext : Bytes → ℕ → ℕ → ℕ → ℕ
-sharedNext b at a x = pick (ltb x (getD b at 0)) x (getD b at 0 + shared (restAt b at) (drop (getD b at 0) (restAt b a)))
-
--- name p, whose entry stands at start and stores 0, is before name i, whose entry stands at a and stores 0
-pub record AlongAsk (b : Bytes) (start a : ℕ) : Type 0 where
-  pub known : Known b
+-- name p, whose entry stands at start and stores 0, is before name i, whose entry stands at a and stores c, by the plain rule 0
+pub record AlongAsk (t : ByRule) (b : Bytes) (start a c : ℕ) : Type 0 where
+  pub known : Known (ruleBy t) b
   pub p : ℕ
   pub i : ℕ
   pub order : p < i
@@ -38,15 +71,27 @@ pub record AlongAsk (b : Bytes) (start a : ℕ) : Type 0 where
   pub first : Here b p start
   pub there : Here b i a
   pub fresh : getD b start 0 ≡ 0
-  pub whole : getD b a 0 ≡ 0
+  pub count : c ≡ getD b a 0
+  pub whole : t ≡ Plain → c ≡ 0
 
-abbrev pub AlongSays : Bytes → ℕ → ℕ → Type 0
-AlongSays b a r = (i : ℕ) → 0 < i → i < length (namesOf b) → Here b i a → r ≡ shared (getD (namesOf b) (pred i) []) (getD (namesOf b) i [])
+abbrev pub AlongSays : Rule → Bytes → ℕ → ℕ → Type 0
+AlongSays ρ b a r = (i : ℕ) → 0 < i → i < length (namesOf b) → Here b i a
+    → r ≡ shared (word ρ (getD (namesOf b) (pred i) [])) (word ρ (getD (namesOf b) i []))
 
-pub record MeetAsk (b : Bytes) (a i : ℕ) : Type 0 where
-  pub known : Known b
+pub record StartAsk (b : Bytes) (i : ℕ) : Type 0 where
+  pub long : trailerSize ≤ length b
+  pub blocks : InBlocks b (told b 1) (told b 2)
+  pub within : i < length (namesOf b)
+  pub few : length (namesOf b) ≤ mostNames
+
+abbrev pub startOf : Bytes → ℕ → ℕ
+startOf b i = offsetAt b (i / told b 1 * told b 1)
+
+pub record MeetAsk (b : Bytes) (a i d s : ℕ) : Type 0 where
+  pub known : Known (ruleIn b) b
   pub long : trailerSize ≤ length b
   pub blocks : InBlocks b (told b 1) (told b 2)
   pub some : 0 < i
   pub within : i < length (namesOf b)
   pub here : Here b i a
+  pub led : s ≡ at (nth (wordsOf (ruleIn b) b) (pred i)) d

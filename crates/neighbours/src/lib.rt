@@ -1,13 +1,19 @@
-// What a name of a book shares with the name before it, from the entries alone, once they are judged: inside a block the stored count
-// says it; a block's first name, which is stored whole, is held to the block before it, entry by entry, and no name is rebuilt.
+// What a name of a book shares with the name before it, from the entries alone, once they are judged. The stored count says how many bytes
+// it is, but of a block's first name, which is stored whole; names that part in bytes can go on in the same symbols. Where the count does
+// not say it, a name is held to the names before it in their block, entry by entry, and no name is rebuilt.
 ghost use mathlib.Core.Path.{_≡_};
-ghost use Prim.Native.Nat.{pred, _≤_};
-ghost use lib.ListN.{drop, length};
-ghost use Rattle.words.specs.Words.{plain, shared};
+ghost use Prim.Native.Nat.{pred, _-_, _≤_};
+ghost use lib.Dec.{eqb};
+ghost use lib.ListN.{length};
+ghost use Rattle.words.specs.Words.{shared};
 ghost use Rattle.words.specs.Rising.{nth};
+ghost use Rattle.format.specs.Marks.{ruleIn};
 ghost use Rattle.format.specs.Spans.{wordsOf};
-ghost use Rattle.streams.specs.Streams.{entryEnd, restAt};
-ghost use Rattle.neighbours.specs.Neighbours.{AlongAsk, AlongSays, MeetAsk, NextAsk, RestAsk, sharedNext};
+ghost use Rattle.symbols.specs.Rules.{ruleBy};
+ghost use Rattle.symbols.specs.declared.Rule.the-variants.{Folded, Plain};
+ghost use Rattle.streams.specs.Streams.{entryEnd};
+ghost use Rattle.neighbours.specs.Neighbours.{AlongAsk, AlongSays, EndAsk, MeetAsk, NextAsk, RestAsk, StartAsk, endBy, sharedNext, sharedParts, startOf};
+use symbols::Rule;
 
 // Where the entry after the one at an offset stands.
 pub fn next_entry(book: &[u8], at: usize) -> usize
@@ -17,18 +23,14 @@ pub fn next_entry(book: &[u8], at: usize) -> usize
     at + 2 + numbers::wide(book[at + 1])
 }
 
-// How many bytes the rest of the entry at `at` shares with the whole name of the entry at a, from its byte c on. That name goes on
-// where they part, so no end of it is tested.
-fn shared_rest(book: &[u8], at: usize, a: usize, c: usize) -> usize
-    requires { ⌜ RestAsk (now book) at a c ⌝ }
-    ensures { λ r. ⌜ r ≡ shared (restAt (now (book .entry)) at) (drop c (restAt (now (book .entry)) a)) ⌝ }
+// How many symbols the bytes from `own` to `end` share with those from `other` on.
+fn shared_rest(rule: Rule, book: &[u8], own: usize, end: usize, other: usize) -> usize
+    requires { ⌜ RestAsk (ruleBy rule) (now book) own end other ⌝ }
+    ensures { λ r. ⌜ (r ≡ sharedParts (ruleBy rule) (now (book .entry)) own end other) × (r ≤ end - own) ⌝ }
 {
-    let len = numbers::wide(book[at + 1]);
-    let own = at + 2;
-    let other = a + 2 + c;
     let mut x: usize = 0;
-    while x < len {
-        if book[own + x] != book[other + x] {
+    while own + x < end {
+        if !symbols::is_alike(rule, book[own + x], book[other + x]) {
             return x;
         }
         x += 1;
@@ -36,47 +38,107 @@ fn shared_rest(book: &[u8], at: usize, a: usize, c: usize) -> usize
     x
 }
 
-// What the name of the entry at `at` shares with the whole name of the entry at a, where the name before it shares x bytes: as much,
-// where it has more than that from the name before; else what it has from there, and what its rest shares.
-fn shared_next(book: &[u8], at: usize, a: usize, x: usize) -> usize
-    requires { ⌜ NextAsk (now book) at a x ⌝ }
-    ensures { λ r. ⌜ r ≡ sharedNext (now (book .entry)) at a x ⌝ }
+// Up to where the rest of the entry at `at` is held, from `own` on, to that of the entry at a, from `other` on. By the plain rule the name at
+// a is a whole one, and above each that it is held to, so they part before it ends. By the folded rule a name before it can begin with other
+// bytes than it, and then go on as it does, and longer: no byte behind the entry at a is looked at.
+fn end_of(rule: Rule, book: &[u8], at: usize, own: usize, a: usize, other: usize) -> usize
+    requires { ⌜ EndAsk (now book) at own a other ⌝ }
+    ensures { λ r. ⌜ r ≡ endBy rule (now (book .entry)) at own a other ⌝ }
 {
-    let c = numbers::wide(book[at]);
-    if x < c {
-        return x;
+    let end = next_entry(book, at);
+    match rule {
+        Rule::Plain => end,
+        Rule::Folded => numbers::lesser(end, own + (next_entry(book, a) - other)),
     }
-    c + shared_rest(book, at, a, c)
 }
 
-// What the whole name of the entry at a shares with the name before it, counted along the block from `start` on, which ends there.
-fn count_along(book: &[u8], start: usize, a: usize) -> usize
-    requires { ⌜ AlongAsk (now book) start a ⌝ }
-    ensures { λ r. ⌜ AlongSays (now (book .entry)) a r ⌝ }
+// What the name of the entry at `at` shares with that of the entry at a from its stored count c on, with c, where the name before it shares x:
+// as much, where it has more than that from the name before; else what it has from there, or c, and what the rests share behind that.
+fn shared_next(rule: Rule, book: &[u8], at: usize, a: usize, c: usize, x: usize) -> usize
+    requires { ⌜ NextAsk rule (now book) at a c x ⌝ }
+    ensures { λ r. ⌜ r ≡ sharedNext (ruleBy rule) (now (book .entry)) at a x ⌝ }
+{
+    let e = numbers::wide(book[at]);
+    if x < e {
+        return x;
+    }
+    let from = numbers::greater(e, c);
+    let own = at + 2 + (from - e);
+    let other = a + 2 + (from - c);
+    from
+        + shared_rest(
+            rule,
+            book,
+            own,
+            end_of(rule, book, at, own, a, other),
+            other,
+        )
+}
+
+// What the name of the entry at a, which is stored whole, shares with the name before it by the plain rule, counted along the entries from
+// `start` on, where a block starts. One loop for each rule: each has one caller, so it costs no call.
+fn plain_along(book: &[u8], start: usize, a: usize) -> usize
+    requires { ⌜ AlongAsk Plain (now book) start a 0 ⌝ }
+    ensures { λ r. ⌜ AlongSays (ruleBy Plain) (now (book .entry)) a r ⌝ }
 {
     let mut at = start;
     let mut x: usize = 0;
     while at < a {
-        x = shared_next(book, at, a, x);
+        x = shared_next(Rule::Plain, book, at, a, 0, x);
         at = next_entry(book, at);
     }
     x
 }
 
-// How many symbols name number i, whose entry stands at a, shares with the name before it. Only where it stores 0 is it asked whether it
-// is a block's first.
-pub fn shared_before(book: &[u8], a: usize, i: usize) -> usize
-    requires { ⌜ MeetAsk (now book) a i ⌝ }
-    ensures { λ r. ⌜ r ≡ shared (nth (wordsOf plain (now (book .entry))) (pred i)) (nth (wordsOf plain (now (book .entry))) i) ⌝ }
+// The same by the folded rule, of a name whose stored count is c.
+fn folded_along(book: &[u8], start: usize, a: usize, c: usize) -> usize
+    requires { ⌜ AlongAsk Folded (now book) start a c ⌝ }
+    ensures { λ r. ⌜ AlongSays (ruleBy Folded) (now (book .entry)) a r ⌝ }
+{
+    let mut at = start;
+    let mut x = c;
+    while at < a {
+        x = shared_next(Rule::Folded, book, at, a, c, x);
+        at = next_entry(book, at);
+    }
+    x
+}
+
+// Where the block of name number i starts.
+fn start_of(book: &[u8], i: usize) -> usize
+    requires { ⌜ StartAsk (now book) i ⌝ }
+    ensures { λ r. ⌜ r ≡ startOf (now (book .entry)) i ⌝ }
+{
+    let k = trailer::block(book);
+    numbers::number_at(book, trailer::blocks_at(book) + 2 * (i / k))
+}
+
+// Whether name number i, whose entry stands at a, shares just d symbols with the name before it, whose symbol number d is s. By the plain
+// rule a stored count is what they share, but for 0, which a block's first name stores. By the folded rule they share that at least, and no
+// more where they have different symbols there. A count of 0 is handed on as such, which saves the recursion above 16 bytes a level.
+pub fn parts_at(book: &[u8], a: usize, i: usize, d: usize, s: usize) -> bool
+    requires { ⌜ MeetAsk (now book) a i d s ⌝ }
+    ensures { λ r. ⌜ r ≡ eqb (shared (nth (wordsOf (ruleIn (now (book .entry))) (now (book .entry))) (pred i)) (nth (wordsOf (ruleIn (now (book .entry))) (now (book .entry))) i)) d ⌝ }
 {
     let c = numbers::wide(book[a]);
-    if 0 < c {
-        return c;
+    match trailer::rule(book) {
+        Rule::Plain => {
+            if 0 < c {
+                return c == d;
+            }
+            plain_along(book, start_of(book, i - 1), a) == d
+        }
+        Rule::Folded => {
+            if c == d {
+                return !symbols::has_symbol(Rule::Folded, book[a + 2], s);
+            }
+            if d < c {
+                return false;
+            }
+            if c == 0 {
+                return folded_along(book, start_of(book, i - 1), a, 0) == d;
+            }
+            folded_along(book, start_of(book, i - 1), a, c) == d
+        }
     }
-    let k = trailer::block(book);
-    if i % k != 0 {
-        return 0;
-    }
-    let start = numbers::number_at(book, trailer::blocks_at(book) + 2 * (i / k - 1));
-    count_along(book, start, a)
 }

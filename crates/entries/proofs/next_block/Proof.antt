@@ -18,11 +18,11 @@ fits c h = search next-fits
 -- the first name is not above the name before
 returns-2 : tie.Need-returns-2
 returns-2 c =
-    let rest = c .before .before .before .before .before .before .before .before .before in
+    let rest = c .before .before .before .before .before in
     let a = rest .before .before .before .before .before .before .before .before .args in (
       omega arith,
       omega arith,
-      next-low (a .book .now) (a .start) (a .end) (a .m) (a .name .now) (a .before) _ _ (rest .wide .ensures .0) (c .before .is-above .ensures) (a .name .now)
+      next-low _ (a .book .now) (a .start) (a .end) (a .m) (a .name .now) (a .before) _ _ (rest .wide .ensures .0) (c .before .is-less .ensures) (a .name .now)
           (c .if2 .taken),
     )
 
@@ -30,12 +30,12 @@ returns-2 c =
 returns-3 : tie.Need-returns-3
 returns-3 c =
     let above = c .before .before .before .before .before in
-    let rest = above .before .before .before .before .before .before .before .before in
+    let rest = above .before .before .before .before in
     let a = rest .before .before .before .before .before .before .before .before .args in
     let block = c .before .before .check-block in (
       omega arith,
       omega arith,
-      next-judged (a .book .now) (a .start) (a .end) (a .m) (a .name .now) (a .before) _ _ (rest .wide .ensures .0) (above .is-above .ensures) _ _
+      next-judged _ (a .book .now) (a .start) (a .end) (a .m) (a .name .now) (a .before) _ _ (rest .wide .ensures .0) (above .is-less .ensures) _ _
           (block .result .ok) (c .before .before .before .before .if2 .left) (block .ensures .2),
     )
 
@@ -54,13 +54,6 @@ next-block-spec =
     (λ c. omega (arith, fits))
     (λ c κs. search needs)
     (λ c. omega (arith, fits))
-    (λ c. search needs)
-    (λ c. search needs)
-    (λ c. search needs)
-    (λ c. search needs)
-    (λ c. search needs)
-    (λ c. omega (arith, fits))
-    (λ c κs. search needs)
     (λ c. search needs)
     (λ c. search needs)
     (λ c. search needs)

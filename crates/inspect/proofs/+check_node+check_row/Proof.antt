@@ -24,12 +24,13 @@ use Rattle.inspect.proofs.+check_node+check_row.Lts-check_row as check-
 use Rattle.inspect.proofs.is_leaf.Reads as is-leaf-reads
 use Rattle.inspect.proofs.is_led_to.Reads as is-led-to-reads
 use Rattle.inspect.proofs.may_be_fork.Reads as may-be-fork-reads
-use Rattle.neighbours.proofs.shared_before.Reads as shared-before-reads
+use Rattle.neighbours.proofs.parts_at.Reads as parts-at-reads
 use Rattle.neighbours.proofs.next_entry.Reads as next-entry-reads
 use Rattle.fields.proofs.depth.Reads as depth-reads
 use Rattle.fields.proofs.first.Reads as first-reads
 use Rattle.fields.proofs.names.Reads as names-reads
 use Rattle.fields.proofs.nodes.Reads as nodes-reads
+use Rattle.fields.proofs.symbol.Reads as symbol-reads
 use Rattle.fields.proofs.width.Reads as width-reads
 use Rattle.numbers.proofs.greater.Reads as greater-reads
 use Rattle.inspect.proofs.+check_node+check_row.{statement}
@@ -60,7 +61,7 @@ abbrev node-claims : ℕ → check-node-lts.Claims
 node-claims t = (depth-reads.Asked, depth-reads.Learnt, first-reads.Asked, first-reads.Learnt, names-reads.Asked, names-reads.Learnt, nodes-reads.Asked, nodes-reads.Learnt, width-reads.Asked, width-reads.Learnt, check-row-below t, check-row.Post)
 
 abbrev row-claims : ℕ → check-row-lts.Claims
-row-claims t = (is-led-to-reads.Asked, is-led-to-reads.Learnt, names-reads.Asked, names-reads.Learnt, width-reads.Asked, width-reads.Learnt, greater-reads.Asked, greater-reads.Learnt, is-leaf-reads.Asked, is-leaf-reads.Learnt, may-be-fork-reads.Asked, may-be-fork-reads.Learnt, check-node-below t, check-node.Post, nodes-reads.Asked, nodes-reads.Learnt, next-entry-reads.Asked, next-entry-reads.Learnt, shared-before-reads.Asked, shared-before-reads.Learnt)
+row-claims t = (is-led-to-reads.Asked, is-led-to-reads.Learnt, names-reads.Asked, names-reads.Learnt, symbol-reads.Asked, symbol-reads.Learnt, width-reads.Asked, width-reads.Learnt, greater-reads.Asked, greater-reads.Learnt, is-leaf-reads.Asked, is-leaf-reads.Learnt, may-be-fork-reads.Asked, may-be-fork-reads.Learnt, check-node-below t, check-node.Post, nodes-reads.Asked, nodes-reads.Learnt, next-entry-reads.Asked, next-entry-reads.Learnt, parts-at-reads.Asked, parts-at-reads.Learnt)
 
 abbrev Inv-loop : check-row-lts.InvT-loop
 Inv-loop book o end lo n d width a child₀ first₀ entry₀ greatest₀ child first entry greatest = Rows book lo n d o end child first entry greatest
@@ -75,18 +76,18 @@ led t c = search law.led-to
 
 -- the record at hand may be a fork's
 like : (t : ℕ) (c : check-row-lts.Else5 (row-claims t) (check-row-at t) check-row.Post Inv-loop μ-loop)
-    → let a = c .before .before .before .before .before .before .before .before .before .before .before .args in let l = c .before .before .before .before .before .before .before .before .before .loop in MayBeFork (a .book .now) (l .child) (a .end) (a .n) (a .d) (a .lo + a .n - l .first)
+    → let a = c .before .before .before .before .before .before .before .before .before .before .before .before .args in let l = c .before .before .before .before .before .before .before .before .before .before .loop in MayBeFork (a .book .now) (l .child) (a .end) (a .n) (a .d) (a .lo + a .n - l .first)
 like t c = search law.fork-like
 
 -- the child at hand stands, whether it is a leaf or not
 turn : (t : ℕ) (c : check-row-lts.Joined3 (row-claims t) (check-row-at t) check-row.Post Inv-loop μ-loop)
-    → let a = c .before .before .before .before .before .before .before .before .before .args in let l = c .before .before .before .before .before .before .before .loop in
-    Turn (a .book .now) (a .lo) (a .n) (a .d) (a .o) (a .end) (l .child) (l .first) (l .entry) (l .greatest) (c .before .before .before .names .result) (c .if3 .child) (c .if3 .entry)
+    → let a = c .before .before .before .before .before .before .before .before .before .before .args in let l = c .before .before .before .before .before .before .before .before .loop in
+    Turn (a .book .now) (a .lo) (a .n) (a .d) (a .o) (a .end) (l .child) (l .first) (l .entry) (l .greatest) (c .before .before .before .before .names .result) (c .if3 .child) (c .if3 .entry)
 turn t c =
-    let inv = c .before .before .before .before .before .before .before .loop .inv in
-    let sure = led t (c .before .before .before .before) in
-    let names = c .before .before .before .names .ensures .0 in
-    let room = c .before .before .before .before .before .before .if1 .left in
+    let inv = c .before .before .before .before .before .before .before .before .loop .inv in
+    let sure = led t (c .before .before .before .before .before) in
+    let names = c .before .before .before .before .names .ensures .0 in
+    let room = c .before .before .before .before .before .before .before .if1 .left in
     ⊎-elim
     (λ w. rw (w .3, w .4) (law.rows-leaf _ _ _ _ _ _ _ _ _ _ inv sure _ names (w .0 .taken) room (w .1 .result) (w .1 .ensures) (w .2 .left)))
     (λ w. rw (w .6, w .7) (law.rows-fork _ _ _ _ _ _ _ _ _ _ inv sure _ names (law.fork-like _ _ _ _ _ _ (w .1 .result) (w .1 .ensures) (w .2 .left)) (w .3 .result) (w .3 .ensures) room (w .4 .left) _ (w .5 .ensures .0)))
@@ -113,34 +114,35 @@ pub +check-node+check-row-spec : {M : Type 1} → statement M
     μ-loop
     (λ c. search law.rows-start)
     (λ c. search law.rows-end)
-    (λ c κs. (omega (arith, c .before .loop .inv), c .before .loop .inv .fits, c .before .loop .inv .low))
+    (λ c κs. let inv = c .before .loop .inv in (omega (arith, inv), record { fits = inv .fits; low = inv .low; long = omega (arith, inv .long) }))
     (λ c. search law.rows-other)
     (λ c κs. omega (arith, c .before .before .before .loop .inv))
     (λ c κs. omega (arith, c .before .before .before .before .loop .inv))
+    (λ c κs. omega (arith, c .before .before .before .before .before .loop .inv))
     (λ c κs. search needs)
-    (λ c κs. (omega (arith, c .before .before .before .before .before .before .before .loop .inv), omega (arith, c .before .before .before .before .before .before .before .loop .inv .fits)))
+    (λ c κs. (omega (arith, c .before .before .before .before .before .before .before .before .loop .inv), omega (arith, c .before .before .before .before .before .before .before .before .loop .inv .fits)))
     (λ c. search (law.rows-no-leaf, law.led-to))
-    (λ c. omega (arith, c .before .before .before .before .before .before .before .before .before .loop .inv, c .before .before .before .before .before .before .before .before .before .loop .inv .known .short))
-    (λ c. omega (arith, c .before .before .before .before .before .before .before .loop .inv .within, c .before .before .before .before .before .before .before .loop .inv .known .few))
-    (λ c. omega (arith, c .before .before .before .before .before .before .before .loop .inv .upto))
-    (λ c κs. omega (arith, c .before .before .before .before .before .before .before .loop .inv))
+    (λ c. omega (arith, c .before .before .before .before .before .before .before .before .before .before .loop .inv, c .before .before .before .before .before .before .before .before .before .before .loop .inv .known .short))
+    (λ c. omega (arith, c .before .before .before .before .before .before .before .before .loop .inv .within, c .before .before .before .before .before .before .before .before .loop .inv .known .few))
+    (λ c. omega (arith, c .before .before .before .before .before .before .before .before .loop .inv .upto))
+    (λ c κs. omega (arith, c .before .before .before .before .before .before .before .before .loop .inv))
     (λ c. search (law.rows-no-fork, law.led-to))
-    (λ c κs. (fork-falls (like t c) (c .before .before .before .before .before .before .before .before .before .before .before .pre .0), law.rows-asks _ _ _ _ _ _ _ _ _ _ (c .before .before .before .before .before .before .before .before .before .loop .inv) (led t (c .before .before .before .before .before .before)) _ (c .before .before .before .before .before .names .ensures .0) (like t c) (c .before .before .before .before .before .before .before .before .if1 .left)))
+    (λ c κs. (fork-falls (like t c) (c .before .before .before .before .before .before .before .before .before .before .before .before .pre .0), law.rows-asks _ _ _ _ _ _ _ _ _ _ (c .before .before .before .before .before .before .before .before .before .before .loop .inv) (led t (c .before .before .before .before .before .before .before)) _ (c .before .before .before .before .before .before .names .ensures .0) (like t c) (c .before .before .before .before .before .before .before .before .before .if1 .left)))
     (λ c. search (law.rows-node, law.fork-like, law.led-to))
-    (λ c κs. omega (arith, c .before .before .before .before .before .before .before .before .before .before .before .loop .inv))
+    (λ c κs. omega (arith, c .before .before .before .before .before .before .before .before .before .before .before .before .loop .inv))
     (λ c. search needs)
-    (λ c. omega (arith, like t (c .before .before .before), c .before .before .before .before .before .before .before .before .before .before .before .before .loop .inv, c .before .before .before .before .before .before .before .before .before .before .before .before .loop .inv .known .short))
+    (λ c. omega (arith, like t (c .before .before .before), c .before .before .before .before .before .before .before .before .before .before .before .before .before .loop .inv, c .before .before .before .before .before .before .before .before .before .before .before .before .before .loop .inv .known .short))
     (λ c. omega (arith, turn t c, (turn t c) .rows .within, (turn t c) .rows .known .few))
     (λ c. omega (arith, (turn t c) .rows .within, (turn t c) .rows .known .few))
     (λ c. law.rows-apart _ _ _ _ _ _ _ _ _ _ _ _ _ (turn t (c .before .before)) (c .before .if7 .taken) (c .if8 .taken))
     (λ c. let w = turn t (c .before .before .before) in law.rows-narrow _ _ _ _ _ _ _ _ _ _ _ _ _ w _ _ (c .before .before .before .before .before .width .ensures .0) (c .before .before .before .before .greater .ensures) (c .before .before .if7 .taken) (c .if9 .taken))
     (λ c. search (law.rows-done, turn t (c .before .before .before)))
     (λ c κs. (turn t (c .before)) .fits)
-    (λ c κs. law.rows-meets _ _ _ _ _ _ _ _ _ _ _ _ _ (turn t (c .before .before)) (c .before .if7 .left) _ (c .next-entry .ensures))
+    (λ c κs. law.rows-meets _ _ _ _ _ _ _ _ _ _ _ _ _ (turn t (c .before .before)) (c .before .if7 .left) _ (c .next-entry .ensures) _ (c .before .before .before .before .before .symbol .ensures .0))
     (λ c.
     let went = c .before .before in
-    law.rows-parted _ _ _ _ _ _ _ _ _ _ _ _ _ (turn t (went .before .before)) (went .before .if7 .left) _ (went .next-entry .ensures) _ (c .before .shared-before .ensures) (omega (arith, c .if10)))
+    law.rows-parted _ _ _ _ _ _ _ _ _ _ _ _ _ (turn t (went .before .before)) (went .before .if7 .left) _ (went .next-entry .ensures) _ (went .before .before .before .before .before .symbol .ensures .0) _ (c .before .parts-at .ensures) (c .if10 .taken))
     (λ c. omega (arith, turn t (c .before .before .before .before)))
     (λ c.
     let went = c .before .before in
-    law.rows-more _ _ _ _ _ _ _ _ _ _ _ _ _ (turn t (went .before .before)) (went .before .if7 .left) _ (went .next-entry .ensures) _ (c .before .shared-before .ensures) (c .if10 .left) _ _ (went .before .before .before .before .width .ensures .0) (went .before .before .before .greater .ensures))
+    law.rows-more _ _ _ _ _ _ _ _ _ _ _ _ _ (turn t (went .before .before)) (went .before .if7 .left) _ (went .next-entry .ensures) _ (went .before .before .before .before .before .symbol .ensures .0) _ (c .before .parts-at .ensures) (c .if10 .left) _ _ (went .before .before .before .before .width .ensures .0) (went .before .before .before .greater .ensures))

@@ -1,6 +1,5 @@
 -- `inspect::is_led_to` meets its contract.
 -- Assumes nothing.
-use native.Mathlib.Omega.{arith}
 use borrow.Author.Needs.{needs}
 use Rattle.inspect.proofs.Fields.{led-first, led-symbol}
 use Rattle.inspect.proofs.is_led_to.Statement.{statement}
@@ -12,6 +11,6 @@ is-led-to-spec =
     (tie.spec
     (λ c κs. search needs)
     (λ c κs. search needs)
-    (λ c. led-symbol _ _ _ _ _ _ _ (c .before .before .symbol .ensures .0) (c .before .symbol-of .ensures) (omega (arith, c .if1)))
+    (λ c. led-symbol _ _ _ _ _ _ _ (c .before .before .symbol .ensures .0) (c .before .leads .ensures) (c .if1 .taken))
     (λ c κs. search needs)
-    (λ c. led-first _ _ _ _ _ _ _ (c .before .before .before .symbol .ensures .0) (c .before .before .symbol-of .ensures) (c .before .if1 .left) _ (c .first .ensures .0)))
+    (λ c. led-first _ _ _ _ _ _ _ (c .before .before .before .symbol .ensures .0) (c .before .before .leads .ensures) (c .before .if1 .left) _ (c .first .ensures .0)))

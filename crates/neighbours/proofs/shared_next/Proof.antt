@@ -1,7 +1,7 @@
 -- `neighbours::shared_next` meets its contract.
 -- Assumes nothing.
 use borrow.Author.Needs.{needs}
-use Rattle.neighbours.proofs.Rest.{next-asks, next-more, next-rest, next-small}
+use Rattle.neighbours.proofs.Rest.{next-ask, next-more, next-rest, next-small}
 use Rattle.neighbours.proofs.shared_next.Statement.{statement}
 use Rattle.neighbours.proofs.shared_next.Tie as tie
 
@@ -11,7 +11,19 @@ shared-next-spec =
     (tie.spec
     (λ c. search needs)
     (λ c κs. search needs)
-    (λ c. let a = c .before .before .before .before .args in next-more (a .book .now) (a .at) (a .a) _ _ (c .before .wide .ensures .0) (c .if1 .taken))
-    (λ c κs. search next-asks)
-    (λ c. search next-small)
-    (λ c. search next-rest))
+    (λ c. next-more _ _ _ _ _ _ _ (c .before .before .before .before .pre) (c .before .wide .ensures .0) (c .if1 .taken))
+    (λ c κs. search needs)
+    (λ c. search needs)
+    (λ c. search needs)
+    (λ c. search needs)
+    (λ c. search needs)
+    (λ c. search needs)
+    (λ c. search needs)
+    (λ c κs. search needs)
+    (λ c κs. search next-ask)
+    (λ c.
+    let w = c .before .before .before .before in
+    next-small _ _ _ _ _ _ _ (w .before .before .before .pre) (w .wide .ensures .0) (c .before .before .before .if1 .left) _ (c .before .before .greater .ensures) _ (c .before .end-of .ensures) _ (c .shared-rest .ensures .1))
+    (λ c.
+    let w = c .before .before .before .before in
+    next-rest _ _ _ _ _ _ _ (w .before .before .before .pre) (w .wide .ensures .0) (c .before .before .before .if1 .left) _ (c .before .before .greater .ensures) _ (c .before .end-of .ensures) _ (c .shared-rest .ensures .0)))

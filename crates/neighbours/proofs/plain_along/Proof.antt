@@ -1,19 +1,20 @@
--- `neighbours::count_along` meets its contract: `Along` carries the loop, and the bytes that are left of the block are its measure.
+-- `neighbours::plain_along` meets its contract: `Along` carries the loop, and the bytes that are left up to the entry are its measure.
 -- Assumes nothing.
 use Prim.Native.Nat.{_-_}
 use native.Mathlib.Omega.{arith}
+use Rattle.symbols.specs.declared.Rule.the-variants.{Plain}
 use Rattle.neighbours.proofs.Along.{Along, along-asks, along-done, along-fits, along-more, along-start}
-use Rattle.neighbours.proofs.count_along.Statement.{statement}
-use Rattle.neighbours.proofs.count_along.Tie as tie
+use Rattle.neighbours.proofs.plain_along.Statement.{statement}
+use Rattle.neighbours.proofs.plain_along.Tie as tie
 
 abbrev Inv-loop : tie.InvT-loop
-Inv-loop book start a at₀ x₀ at x = Along book a at x
+Inv-loop book start a at₀ x₀ at x = Along Plain book a 0 at x
 
 abbrev μ-loop : tie.MeasureT-loop
 μ-loop book start a at₀ x₀ at x = a - at
 
-pub count-along-spec : {M : Type 1} → statement M
-count-along-spec =
+pub plain-along-spec : {M : Type 1} → statement M
+plain-along-spec =
     tie.close
     (tie.spec
     Inv-loop

@@ -1,0 +1,27 @@
+-- `neighbours::folded_along` meets its contract: `Along` carries the loop, and the bytes that are left up to the entry are its measure.
+-- Assumes nothing.
+use Prim.Native.Nat.{_-_}
+use native.Mathlib.Omega.{arith}
+use Rattle.symbols.specs.declared.Rule.the-variants.{Folded}
+use Rattle.neighbours.proofs.Along.{Along, along-asks, along-done, along-fits, along-more, along-start}
+use Rattle.neighbours.proofs.folded_along.Statement.{statement}
+use Rattle.neighbours.proofs.folded_along.Tie as tie
+
+abbrev Inv-loop : tie.InvT-loop
+Inv-loop book start a c at₀ x₀ at x = Along Folded book a c at x
+
+abbrev μ-loop : tie.MeasureT-loop
+μ-loop book start a c at₀ x₀ at x = a - at
+
+pub folded-along-spec : {M : Type 1} → statement M
+folded-along-spec =
+    tie.close
+    (tie.spec
+    Inv-loop
+    μ-loop
+    (λ c. search along-start)
+    (λ c κs. search along-asks)
+    (λ c κs. search along-fits)
+    (λ c. omega arith)
+    (λ c. search along-more)
+    (λ c. search along-done))
