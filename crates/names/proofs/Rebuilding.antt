@@ -12,7 +12,9 @@ use mathlib.Core.List.{List, []}
 use lib.ListN.{drop, getD, length, length-drop, take}
 use lib.Seq.{getD-drop, length-take-le}
 use borrow.Author.Tests.{le-leb, lt-leb}
-use Rattle.words.specs.Words.{Bytes, plain}
+use Rattle.words.specs.Words.{Bytes}
+use Rattle.format.proofs.Marks.{kind-lawful}
+use Rattle.format.specs.Marks.{kindOf, ruleIn}
 use Rattle.format.specs.Book.{number, opened, namesOf, told}
 use Rattle.format.specs.Outcomes.{over}
 use Rattle.numbers.proofs.Parts.{Copied, Held, copied}
@@ -37,7 +39,7 @@ position-sound f h = record {
   within = omega (arith, f .count);
 }
 
-pub position-ask : (b : Bytes) (t : Trailer) (position : ℕ) → Held b → (v : Checked) → v ≡ checkOn b (opened plain b) → v ≡ Sound t
+pub position-ask : (b : Bytes) (t : Trailer) (position : ℕ) → Held b → (v : Checked) → v ≡ checkOn b (opened (kindOf b) b) → v ≡ Sound t
     → (n : ℕ) → n ≡ t .names → position < n → PositionAsk b t position
 position-ask b t position held v s u n ne h = position-sound (checked-sound b t held v s u) (omega arith)
 
@@ -62,11 +64,11 @@ found-told b t position a =
     let p = a .parts in
     let has = p .entries in
     let inside : told b 2 ≤ length b = omega (arith, p .trail .total, p .trail .order) in
-    let ns : namesOf b ≡ has .names = has-names b (told b 1) (told b 2) (told b 3) (told b 0) inside has (p .trail .low) refl in
+    let ns : namesOf b ≡ has .names = has-names (ruleIn b) b (told b 1) (told b 2) (told b 3) (told b 0) inside has (p .trail .low) refl in
     let within : position < length (has .names) = subst (λ (xs : List Bytes). position < length xs) ns (a .within) in
     let first : position / k * k ≤ position = omega (arith, div-add-mod' position k) in
-    let r = subst (λ (n : ℕ). Rest b n (told b 2) (told b 3) (told b 2) 0 [] (has .names)) (sym (a .block)) (has .rest) in
-    let f = block-from b k (told b 2) (told b 3) (omega (arith, a .block, p .trail .low)) (p .trail .short) inside (omega (arith, p .trail .total))
+    let r = subst (λ (n : ℕ). Rest (ruleIn b) b n (told b 2) (told b 3) (told b 2) 0 [] (has .names)) (sym (a .block)) (has .rest) in
+    let f = block-from (ruleIn b) (kind-lawful (kindOf b)) b k (told b 2) (told b 3) (omega (arith, a .block, p .trail .low)) (p .trail .short) inside (omega (arith, p .trail .total))
     (position / k) (position / k * k) (told b 2) 0 [] (has .names) (omega arith) inside r refl (omega arith) in
     let d : position / k * k + (position - position / k * k) ≡ position = omega arith in
     let u : position - position / k * k < length (drop (position / k * k) (has .names)) = omega (arith, length-drop (position / k * k) (has .names)) in

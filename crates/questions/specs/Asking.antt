@@ -7,10 +7,12 @@ use Prim.Native.Nat.{ℕ, _≤_}
 use mathlib.Core.Bool.{Bool, false, true}
 use mathlib.Core.Path.{_≡_}
 use lib.Dec.{eqb, leb}
-use Rattle.words.specs.Words.{Bytes, both, plain}
+use Rattle.words.specs.Words.{Bytes, both}
+use Rattle.format.specs.Marks.{kindOf}
 use Rattle.format.specs.Book.{Book, NoBook, Opened, opened}
 use Rattle.answers.specs.Widths.{lastKind}
 use Rattle.trailer.specs.Trailer.{trailerIn}
+use Rattle.symbols.specs.declared.Rule.the-variants.{Plain}
 use Rattle.trailer.specs.declared.Trailer.{Trailer}
 use Rattle.accept.specs.Parts.{checkOn}
 use Rattle.accept.specs.declared.Checked.the-variants.{Sound}
@@ -21,13 +23,13 @@ pub record KindNumber (kind : ℕ) : Type 0 where
   pub high : kind ≤ lastKind
 
 pub record Asking (b : Bytes) (t : Trailer) (kind : ℕ) : Type 0 where
-  pub checked : Sound t ≡ checkOn b (opened plain b)
+  pub checked : Sound t ≡ checkOn b (opened (kindOf b) b)
   pub number : KindNumber kind
 
 -- ---- batches
 
 abbrev pub noTrailer : Trailer
-noTrailer = record { names = 0; block = 0; blocks = 0; nodes = 0; count = 0 }
+noTrailer = record { names = 0; block = 0; blocks = 0; nodes = 0; count = 0; rule = Plain }
 
 abbrev pub closedBy : ℕ → Opening
 closedBy code = record { answer = record { code = code; first = 0; second = 0 }; trailer = noTrailer }
@@ -44,4 +46,4 @@ openingOf b rows true NoBook = closedBy 2
 openingOf b rows true (Book k xs) = record { answer = record { code = 0; first = rows; second = 0 }; trailer = trailerIn b }
 
 pub record Accepted (b : Bytes) (o : Opening) : Type 0 where
-  pub checked : Sound (o .trailer) ≡ checkOn b (opened plain b)
+  pub checked : Sound (o .trailer) ≡ checkOn b (opened (kindOf b) b)

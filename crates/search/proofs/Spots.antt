@@ -15,9 +15,13 @@ use mathlib.Core.Logic.{_⊎_, inl, inr}
 use mathlib.Core.List.{List, []}
 use lib.ListN.{getD, length, length-map, take}
 use Rattle.words.specs.Rising.{Positive, nth}
-use Rattle.words.specs.Words.{Bytes, Words, at, begins, plain, shared, word}
+use Rattle.words.specs.Words.{Bytes, Words, at, begins, shared, word}
 use Rattle.words.proofs.Rising.{nth-positive, nth-word}
-use Rattle.words.proofs.Words.{apart, at-past, plain-lawful, shared-le, shared-parts, shared-self, word-positive}
+use Rattle.words.proofs.Words.{apart, at-past, shared-le, shared-parts, shared-self, word-positive}
+use Rattle.format.proofs.Marks.{kind-lawful}
+use Rattle.format.specs.Marks.{BookKind, kindOf, ruleIn, ruleOf}
+use Rattle.symbols.specs.Rules.{kindBy, ruleBy}
+use Rattle.symbols.specs.declared.Rule.{Rule as ByRule}
 use Rattle.format.specs.Nodes.{table}
 use Rattle.answers.specs.Questions.{Pair as Numbers, ask, count, exact, nearest, place, range, reached}
 use Rattle.answers.specs.Widths.{width}
@@ -41,23 +45,23 @@ use Rattle.search.proofs.Ways.{asked-at, asked-length}
 pub record Upwards (b : Bytes) (start : ℕ) (p : List ℕ) (n m j : ℕ) : Type 0 where
   pub nodes : OnPath b start p n
   pub within : j < n
-  pub deep : (m ≤ node (wordsOf plain b) (getD p j 0) .depth) ⊎ (suc j ≡ n)
+  pub deep : (m ≤ node (wordsOf (ruleIn b) b) (getD p j 0) .depth) ⊎ (suc j ≡ n)
 
 pub climb-start : {b : Bytes} {start : ℕ} {p : List ℕ} {n m : ℕ} → OnPath b start p n → Upwards b start p n m (n - 1)
 climb-start t = record { nodes = t; within = omega (arith, t .some); deep = inr (omega (arith, t .some)) }
 
 module _ {b : Bytes} {start : ℕ} {p : List ℕ} {n m j : ℕ} (k : Upwards b start p n m j) where
   -- node r of the path is the highest, if those above it are less deep
-  climbed : {r : ℕ} → r ≡ getD p j 0 → ((i : ℕ) → i < j → node (wordsOf plain b) (getD p i 0) .depth < m) → Highest (wordsOf plain b) p n m r
+  climbed : {r : ℕ} → r ≡ getD p j 0 → ((i : ℕ) → i < j → node (wordsOf (ruleIn b) b) (getD p i 0) .depth < m) → Highest (wordsOf (ruleIn b) b) p n m r
   climbed {r} e a = record {
     index = j;
     within = k .within;
     is = e;
     above = a;
-    deep = subst (λ (u : ℕ). (m ≤ node (wordsOf plain b) u .depth) ⊎ (suc j ≡ n)) (sym e) (k .deep);
+    deep = subst (λ (u : ℕ). (m ≤ node (wordsOf (ruleIn b) b) u .depth) ⊎ (suc j ≡ n)) (sym e) (k .deep);
   }
 
-  pub climb-end : j ≤ 0 → {r : ℕ} → r ≡ getD p 0 0 → Highest (wordsOf plain b) p n m r
+  pub climb-end : j ≤ 0 → {r : ℕ} → r ≡ getD p 0 0 → Highest (wordsOf (ruleIn b) b) p n m r
   climb-end h e =
       let z : 0 ≡ j = omega arith in
       climbed (e ∙ ap (λ (i : ℕ). getD p i 0) z) (λ i x. absurd (lt-irrefl i (omega arith)))
@@ -67,201 +71,201 @@ module _ {b : Bytes} {start : ℕ} {p : List ℕ} {n m j : ℕ} (k : Upwards b s
     pub climb-numbered : NodeNumber b start v
     climb-numbered = record {
       searchable = k .nodes .searchable;
-      inside = subst (λ (u : ℕ). u < length (table (wordsOf plain b))) (sym e) (k .nodes .sits (j - 1) (omega (arith, k .within)) .inside);
+      inside = subst (λ (u : ℕ). u < length (table (wordsOf (ruleIn b) b))) (sym e) (k .nodes .sits (j - 1) (omega (arith, k .within)) .inside);
     }
 
-    module _ {d : ℕ} (de : d ≡ node (wordsOf plain b) v .depth) where
-      depth-is : d ≡ node (wordsOf plain b) (getD p (j - 1) 0) .depth
-      depth-is = de ∙ ap (λ (u : ℕ). node (wordsOf plain b) u .depth) e
+    module _ {d : ℕ} (de : d ≡ node (wordsOf (ruleIn b) b) v .depth) where
+      depth-is : d ≡ node (wordsOf (ruleIn b) b) (getD p (j - 1) 0) .depth
+      depth-is = de ∙ ap (λ (u : ℕ). node (wordsOf (ruleIn b) b) u .depth) e
 
       pub climb-more : m ≤ d → Upwards b start p n m (j - 1)
       climb-more l = record { nodes = k .nodes; within = omega (arith, k .within); deep = inl (omega (arith, depth-is)) }
 
-      pub climb-found : d < m → {r : ℕ} → r ≡ getD p j 0 → Highest (wordsOf plain b) p n m r
+      pub climb-found : d < m → {r : ℕ} → r ≡ getD p j 0 → Highest (wordsOf (ruleIn b) b) p n m r
       climb-found l f = climbed f (λ i x. go i x (apart i (j - 1)))
         where
-          go : (i : ℕ) → i < j → (i < j - 1) ⊎ (j - 1 ≤ i) → node (wordsOf plain b) (getD p i 0) .depth < m
+          go : (i : ℕ) → i < j → (i < j - 1) ⊎ (j - 1 ≤ i) → node (wordsOf (ruleIn b) b) (getD p i 0) .depth < m
           go i x (inl y) = omega (arith, depth-is, k .nodes .deepens i (j - 1) y (omega (arith, k .within)))
           go i x (inr y) =
               let g : j - 1 ≡ i = omega arith in
-              subst (λ (a : ℕ). node (wordsOf plain b) (getD p a 0) .depth < m) g (omega (arith, depth-is))
+              subst (λ (a : ℕ). node (wordsOf (ruleIn b) b) (getD p a 0) .depth < m) g (omega (arith, depth-is))
 
 -- ---- `compare`
 
 -- the front of the array is the name at the position
-module _ (b : Bytes) (position : ℕ) {len : ℕ} (q name : Bytes) (n : Named (getD (namesOf b) position []) len name) where
-  name-is : word plain (take (len - 0) name) ≡ nth (wordsOf plain b) position
+module _ (b : Bytes) (position : ℕ) (rule : ByRule) (own : kindBy rule ≡ kindOf b) {len : ℕ} (q name : Bytes) (n : Named (getD (namesOf b) position []) len name) where
+  name-is : word (ruleBy rule) (take (len - 0) name) ≡ nth (wordsOf (ruleIn b) b) position
   unfolding wordsOf
   name-is =
       let z : len - 0 ≡ len = omega arith in
-      ap (λ (i : ℕ). word plain (take i name)) z ∙ ap (word plain) (n .name-is) ∙ sym (nth-word plain (namesOf b) position)
+      ap₂ (λ (κ : BookKind) (i : ℕ). word (ruleOf κ) (take i name)) own z ∙ ap (word (ruleIn b)) (n .name-is) ∙ sym (nth-word (ruleIn b) (namesOf b) position)
 
-  pub met : {m s : ℕ} → m ≡ shared (word plain q) (word plain (take (len - 0) name)) → s ≡ at (word plain (take (len - 0) name)) (m - 0)
-      → MetSays (wordsOf plain b) (asked plain q) position m s
+  pub met : {m s : ℕ} → m ≡ shared (word (ruleBy rule) q) (word (ruleBy rule) (take (len - 0) name)) → s ≡ at (word (ruleBy rule) (take (len - 0) name)) (m - 0)
+      → MetSays (wordsOf (ruleIn b) b) (asked (ruleIn b) q) position m s
   unfolding asked
   met {m} {s} e f = record {
-    shares = e ∙ ap (shared (asked plain q)) name-is;
-    next = asked-at (take (len - 0) name) m f ∙ ap (λ (w : List ℕ). at w m) name-is;
+    shares = e ∙ ap₂ shared (ap (λ (κ : BookKind). word (ruleOf κ) q) own) name-is;
+    next = let z : m - 0 ≡ m = omega arith in f ∙ ap₂ at name-is z;
   }
 
 -- ---- `reach` and `locate`
 
-module _ (b q : Bytes) {start : ℕ} (o : Searchable plain b (rowsAt start)) {p : List ℕ} {n last : ℕ} (t : Descended (wordsOf plain b) (asked plain q) p n last) where
-  ends : Sits (wordsOf plain b) last
-  ends = passed-sits (wordsOf plain b) (o .rises) (t .path) (o .short)
+module _ (b q : Bytes) {start : ℕ} (o : Searchable (ruleIn b) b (rowsAt start)) {p : List ℕ} {n last : ℕ} (t : Descended (wordsOf (ruleIn b) b) (asked (ruleIn b) q) p n last) where
+  ends : Sits (wordsOf (ruleIn b) b) last
+  ends = passed-sits (wordsOf (ruleIn b) b) (o .rises) (t .path) (o .short)
 
   pub end-numbered : NodeNumber b start last
   end-numbered = record { searchable = o; inside = ends .inside }
 
   pub end-path : OnPath b start p n
-  end-path = record { searchable = o; long = t .path .long; some = t .path .some; few = t .few; sits = t .path .sits; deepens = passed-deepens (wordsOf plain b) (o .rises) (t .path) (o .short) }
+  end-path = record { searchable = o; long = t .path .long; some = t .path .some; few = t .few; sits = t .path .sits; deepens = passed-deepens (wordsOf (ruleIn b) b) (o .rises) (t .path) (o .short) }
 
-  module _ {r : ℕ} (f : r ≡ node (wordsOf plain b) last .first) where
-    is : r ≡ reached (asked plain q) (wordsOf plain b)
-    is = f ∙ sym (reached-is (wordsOf plain b) (o .rises) t)
+  module _ {r : ℕ} (f : r ≡ node (wordsOf (ruleIn b) b) last .first) where
+    is : r ≡ reached (asked (ruleIn b) q) (wordsOf (ruleIn b) b)
+    is = f ∙ sym (reached-is (wordsOf (ruleIn b) b) (o .rises) t)
 
-    pub end-reached : Reached (wordsOf plain b) (asked plain q) r
+    pub end-reached : Reached (wordsOf (ruleIn b) b) (asked (ruleIn b) q) r
     end-reached = record {
       is = is;
       within = omega (arith, ends .some, ends .within);
-      only = λ i h k. only-reached (wordsOf plain b) (o .rises) t i h k ∙ sym is;
+      only = λ i h k. only-reached (wordsOf (ruleIn b) b) (o .rises) t i h k ∙ sym is;
     }
 
-    pub spot : {m s v : ℕ} → MetSays (wordsOf plain b) (asked plain q) r m s → Highest (wordsOf plain b) p n m v → SpotSays (wordsOf plain b) (asked plain q) v m s
+    pub spot : {m s v : ℕ} → MetSays (wordsOf (ruleIn b) b) (asked (ruleIn b) q) r m s → Highest (wordsOf (ruleIn b) b) p n m v → SpotSays (wordsOf (ruleIn b) b) (asked (ruleIn b) q) v m s
     spot {m} e h =
-        let g : m ≡ shared (asked plain q) (nth (wordsOf plain b) (reached (asked plain q) (wordsOf plain b))) =
-        e .shares ∙ ap (λ (i : ℕ). shared (asked plain q) (nth (wordsOf plain b) i)) is in
+        let g : m ≡ shared (asked (ruleIn b) q) (nth (wordsOf (ruleIn b) b) (reached (asked (ruleIn b) q) (wordsOf (ruleIn b) b))) =
+        e .shares ∙ ap (λ (i : ℕ). shared (asked (ruleIn b) q) (nth (wordsOf (ruleIn b) b) i)) is in
         record {
-          located = record { shares = g; found = found (wordsOf plain b) (o .rises) t g h };
-          next = e .next ∙ ap (λ (i : ℕ). at (nth (wordsOf plain b) i) m) is;
+          located = record { shares = g; found = found (wordsOf (ruleIn b) b) (o .rises) t g h };
+          next = e .next ∙ ap (λ (i : ℕ). at (nth (wordsOf (ruleIn b) b) i) m) is;
         }
 
 -- the table starts where the trailer tells
-pub starts : {b : Bytes} {t : Trailer} {start : ℕ} → Askable b t → start ≡ t .nodes → Searchable plain b (rowsAt start)
-starts {b} a e = subst (λ (o : ℕ). Searchable plain b (rowsAt o)) (sym (e ∙ a .nodes)) (a .searchable)
+pub starts : {b : Bytes} {t : Trailer} {start : ℕ} → Askable b t → start ≡ t .nodes → Searchable (ruleIn b) b (rowsAt start)
+starts {b} a e = subst (λ (o : ℕ). Searchable (ruleIn b) b (rowsAt o)) (sym (e ∙ a .nodes)) (a .searchable)
 
 -- the name that is reached can be read
-pub name-ask : {b : Bytes} {t : Trailer} {r : ℕ} (q : List ℕ) → Askable b t → Reached (wordsOf plain b) q r → PositionAsk b t r
+pub name-ask : {b : Bytes} {t : Trailer} {r : ℕ} (q : List ℕ) → Askable b t → Reached (wordsOf (ruleIn b) b) q r → PositionAsk b t r
 unfolding wordsOf
 name-ask {b} q a o = record {
   parts = a .parts;
   block = a .block;
   table = a .table;
-  within = omega (arith, o .within, length-map (namesOf b) (word plain));
+  within = omega (arith, o .within, length-map (namesOf b) (word (ruleIn b)));
 }
 
 -- at the end of a path
-pub end-ask : {b : Bytes} (q : Bytes) {t : Trailer} {r : ℕ} {p : List ℕ} {n last : ℕ} → Askable b t → Descended (wordsOf plain b) (asked plain q) p n last
-    → r ≡ node (wordsOf plain b) last .first → PositionAsk b t r
-end-ask {b} q a way f = name-ask (asked plain q) a (end-reached b q (a .searchable) way f)
+pub end-ask : {b : Bytes} (q : Bytes) {t : Trailer} {r : ℕ} {p : List ℕ} {n last : ℕ} → Askable b t → Descended (wordsOf (ruleIn b) b) (asked (ruleIn b) q) p n last
+    → r ≡ node (wordsOf (ruleIn b) b) last .first → PositionAsk b t r
+end-ask {b} q a way f = name-ask (asked (ruleIn b) q) a (end-reached b q (a .searchable) way f)
 
 -- ---- `seat`
 
--- d is the node's depth, f its first name, n how many it has, y its number of nodes, t the question's symbol, c the child that was sought
-module _ {b q : Bytes} {start v m s : ℕ} (a : AtSpot b start q v m s) {d : ℕ} (de : d ≡ node (wordsOf plain b) v .depth) where
-  pub seat-before : {f n t : ℕ} → f ≡ node (wordsOf plain b) v .first → n ≡ node (wordsOf plain b) v .names → m < d → t ≡ at (word plain q) (m - 0) → s < t
-      → f + n ≡ place (asked plain q) (wordsOf plain b)
-  seat-before fe ne h e l =
-      omega (arith, edge-before (wordsOf plain b) (a .searchable .rises) (a .spot .located .found) (omega arith) (omega (arith, a .spot .next, asked-at q m e)))
+pub seat-fork : {b q : Bytes} {start v m s : ℕ} → AtSpot b start q v m s → {d : ℕ} → d ≡ node (wordsOf (ruleIn b) b) v .depth → d ≤ m → AtFork b start v
+seat-fork {b} a de h = record {
+  searchable = a .searchable;
+  sits = a .spot .located .found .sits;
+  several = fork-wide (wordsOf (ruleIn b) b) (a .searchable .rises) (a .spot .located .found) (omega arith);
+}
 
-  pub seat-after : {f t : ℕ} → f ≡ node (wordsOf plain b) v .first → m < d → t ≡ at (word plain q) (m - 0) → t ≤ s → f ≡ place (asked plain q) (wordsOf plain b)
+-- d is the node's depth, f its first name, n how many it has, y its number of nodes, t the question's symbol, c the child that was sought
+module _ {b q : Bytes} {start v m s : ℕ} (rule : ByRule) (own : kindBy rule ≡ kindOf b) (a : AtSpot b start q v m s) {d : ℕ} (de : d ≡ node (wordsOf (ruleIn b) b) v .depth) where
+  pub seat-before : {f n t : ℕ} → f ≡ node (wordsOf (ruleIn b) b) v .first → n ≡ node (wordsOf (ruleIn b) b) v .names → m < d → t ≡ at (word (ruleBy rule) q) (m - 0) → s < t
+      → f + n ≡ place (asked (ruleIn b) q) (wordsOf (ruleIn b) b)
+  seat-before fe ne h e l =
+      omega (arith, edge-before (wordsOf (ruleIn b) b) (a .searchable .rises) (a .spot .located .found) (omega arith) (omega (arith, a .spot .next, asked-at b q m rule own e)))
+
+  pub seat-after : {f t : ℕ} → f ≡ node (wordsOf (ruleIn b) b) v .first → m < d → t ≡ at (word (ruleBy rule) q) (m - 0) → t ≤ s → f ≡ place (asked (ruleIn b) q) (wordsOf (ruleIn b) b)
   seat-after fe h e l =
-      omega (arith, edge-after (wordsOf plain b) (a .searchable .rises) (a .spot .located .found) (omega arith) (omega (arith, a .spot .next, asked-at q m e)))
+      omega (arith, edge-after (wordsOf (ruleIn b) b) (a .searchable .rises) (a .spot .located .found) (omega arith) (omega (arith, a .spot .next, asked-at b q m rule own e)))
 
   module _ (h : d ≤ m) where
-    deep : node (wordsOf plain b) v .depth ≤ m
+    deep : node (wordsOf (ruleIn b) b) v .depth ≤ m
     deep = omega arith
 
-    pub seat-fork : AtFork b start v
-    seat-fork = record {
-      searchable = a .searchable;
-      sits = a .spot .located .found .sits;
-      several = fork-wide (wordsOf plain b) (a .searchable .rises) (a .spot .located .found) deep;
-    }
+    module _ {t c y : ℕ} (e : t ≡ at (word (ruleBy rule) q) (m - 0)) (k : Sought (wordsOf (ruleIn b) b) v t c) (ye : y ≡ node (wordsOf (ruleIn b) b) v .nodes) where
+      sought : Sought (wordsOf (ruleIn b) b) v (at (asked (ruleIn b) q) m) c
+      sought = subst (λ (i : ℕ). Sought (wordsOf (ruleIn b) b) v i c) (asked-at b q m rule own e) k
 
-    module _ {t c y : ℕ} (e : t ≡ at (word plain q) (m - 0)) (k : Sought (wordsOf plain b) v t c) (ye : y ≡ node (wordsOf plain b) v .nodes) where
-      sought : Sought (wordsOf plain b) v (at (asked plain q) m) c
-      sought = subst (λ (i : ℕ). Sought (wordsOf plain b) v i c) (asked-at q m e) k
+      pub seat-child : {f : ℕ} → f ≡ node (wordsOf (ruleIn b) b) c .first → c < v + y → f ≡ place (asked (ruleIn b) q) (wordsOf (ruleIn b) b)
+      seat-child fe g = fe ∙ fork-child (wordsOf (ruleIn b) b) (a .searchable .rises) (a .spot .located .found) deep sought (omega arith)
 
-      pub seat-child : {f : ℕ} → f ≡ node (wordsOf plain b) c .first → c < v + y → f ≡ place (asked plain q) (wordsOf plain b)
-      seat-child fe g = fe ∙ fork-child (wordsOf plain b) (a .searchable .rises) (a .spot .located .found) deep sought (omega arith)
-
-      pub seat-end : {f n : ℕ} → f ≡ node (wordsOf plain b) v .first → n ≡ node (wordsOf plain b) v .names → v + y ≤ c → f + n ≡ place (asked plain q) (wordsOf plain b)
-      seat-end fe ne g = omega (arith, fork-end (wordsOf plain b) (a .searchable .rises) (a .spot .located .found) deep sought (omega arith))
+      pub seat-end : {f n : ℕ} → f ≡ node (wordsOf (ruleIn b) b) v .first → n ≡ node (wordsOf (ruleIn b) b) v .names → v + y ≤ c → f + n ≡ place (asked (ruleIn b) q) (wordsOf (ruleIn b) b)
+      seat-end fe ne g = omega (arith, fork-end (wordsOf (ruleIn b) b) (a .searchable .rises) (a .spot .located .found) deep sought (omega arith))
 
 -- ---- the answers
 
 abbrev pair : ℕ → ℕ → Numbers
 pair y z = (y, z)
 
-module _ {b : Bytes} {start : ℕ} (q : Bytes) (o : Searchable plain b (rowsAt start)) where
-  module _ {v m s : ℕ} (a : SpotSays (wordsOf plain b) (asked plain q) v m s) where
-    pub range-short : m < length q → {r : ℕ} → r ≡ place (asked plain q) (wordsOf plain b) → (r, 0) ≡ range (asked plain q) (wordsOf plain b)
+module _ {b : Bytes} {start : ℕ} (q : Bytes) (o : Searchable (ruleIn b) b (rowsAt start)) where
+  module _ {v m s : ℕ} (a : SpotSays (wordsOf (ruleIn b) b) (asked (ruleIn b) q) v m s) where
+    pub range-short : m < length q → {r : ℕ} → r ≡ place (asked (ruleIn b) q) (wordsOf (ruleIn b) b) → (r, 0) ≡ range (asked (ruleIn b) q) (wordsOf (ruleIn b) b)
     unfolding range
     range-short h e =
         ap₂ pair e
-        (range-none (wordsOf plain b) (asked plain q) (o .rises) m
-        (λ i k. omega (arith, reached-most (asked plain q) (wordsOf plain b) (o .rises) i k, a .located .shares)) (omega (arith, asked-length q)))
+        (range-none (wordsOf (ruleIn b) b) (asked (ruleIn b) q) (o .rises) m
+        (λ i k. omega (arith, reached-most (asked (ruleIn b) q) (wordsOf (ruleIn b) b) (o .rises) i k, a .located .shares)) (omega (arith, asked-length b q)))
 
-    pub width-short : (m ≡ length q → ⊥) → _≡_ {A = Numbers} (0, 0) (width (asked plain q) (wordsOf plain b), 0)
+    pub width-short : (m ≡ length q → ⊥) → _≡_ {A = Numbers} (0, 0) (width (asked (ruleIn b) q) (wordsOf (ruleIn b) b), 0)
     width-short h =
-        let few = shared-le (asked plain q) (nth (wordsOf plain b) (reached (asked plain q) (wordsOf plain b))) in
+        let few = shared-le (asked (ruleIn b) q) (nth (wordsOf (ruleIn b) b) (reached (asked (ruleIn b) q) (wordsOf (ruleIn b) b))) in
         ap (λ (n : ℕ). pair n 0)
-        (none-wide (wordsOf plain b) (asked plain q) (o .rises) m
-        (λ i k. omega (arith, reached-most (asked plain q) (wordsOf plain b) (o .rises) i k, a .located .shares)) (omega (arith, asked-length q, a .located .shares, few)))
+        (none-wide (wordsOf (ruleIn b) b) (asked (ruleIn b) q) (o .rises) m
+        (λ i k. omega (arith, reached-most (asked (ruleIn b) q) (wordsOf (ruleIn b) b) (o .rises) i k, a .located .shares)) (omega (arith, asked-length b q, a .located .shares, few)))
 
     -- all of the question is shared
-    all-shared : length q ≤ m → m ≡ length (asked plain q)
+    all-shared : length q ≤ m → m ≡ length (asked (ruleIn b) q)
     all-shared h = omega (
       arith,
       a .located .shares,
-      asked-length q,
-      shared-le (asked plain q) (nth (wordsOf plain b) (reached (asked plain q) (wordsOf plain b))),
+      asked-length b q,
+      shared-le (asked (ruleIn b) q) (nth (wordsOf (ruleIn b) b) (reached (asked (ruleIn b) q) (wordsOf (ruleIn b) b))),
     )
 
-    pub width-all : m ≡ length q → {n : ℕ} → n ≡ node (wordsOf plain b) v .width → _≡_ {A = Numbers} (n, 0) (width (asked plain q) (wordsOf plain b), 0)
+    pub width-all : m ≡ length q → {n : ℕ} → n ≡ node (wordsOf (ruleIn b) b) v .width → _≡_ {A = Numbers} (n, 0) (width (asked (ruleIn b) q) (wordsOf (ruleIn b) b), 0)
     width-all h e =
         ap (λ (n : ℕ). pair n 0)
-        (e ∙ sits-told (wordsOf plain b) (o .rises) (a .located .found .sits) .width
-        ∙ whole-width (wordsOf plain b) (asked plain q) (o .rises) m (from (wordsOf plain b) v) (upto (wordsOf plain b) v) (a .located .found .group) (all-shared (omega arith)))
+        (e ∙ sits-told (wordsOf (ruleIn b) b) (o .rises) (a .located .found .sits) .width
+        ∙ whole-width (wordsOf (ruleIn b) b) (asked (ruleIn b) q) (o .rises) m (from (wordsOf (ruleIn b) b) v) (upto (wordsOf (ruleIn b) b) v) (a .located .found .group) (all-shared (omega arith)))
 
-    pub range-all : length q ≤ m → {r n : ℕ} → r ≡ place (asked plain q) (wordsOf plain b) → n ≡ node (wordsOf plain b) v .names
-        → (r, n) ≡ range (asked plain q) (wordsOf plain b)
+    pub range-all : length q ≤ m → {r n : ℕ} → r ≡ place (asked (ruleIn b) q) (wordsOf (ruleIn b) b) → n ≡ node (wordsOf (ruleIn b) b) v .names
+        → (r, n) ≡ range (asked (ruleIn b) q) (wordsOf (ruleIn b) b)
     unfolding range
     range-all h {r} {n} e f =
-        let k : n ≡ count (begins (asked plain q)) (wordsOf plain b) =
-        omega (arith, whole-range (wordsOf plain b) (asked plain q) (o .rises) m (from (wordsOf plain b) v) (upto (wordsOf plain b) v) (a .located .found .group) (all-shared h)) in
+        let k : n ≡ count (begins (asked (ruleIn b) q)) (wordsOf (ruleIn b) b) =
+        omega (arith, whole-range (wordsOf (ruleIn b) b) (asked (ruleIn b) q) (o .rises) m (from (wordsOf (ruleIn b) b) v) (upto (wordsOf (ruleIn b) b) v) (a .located .found .group) (all-shared h)) in
         ap₂ pair e k
 
-  module _ {r m s : ℕ} (t : Reached (wordsOf plain b) (asked plain q) r) (e : MetSays (wordsOf plain b) (asked plain q) r m s) where
-    pub nearest-is : (r, m) ≡ nearest (asked plain q) (wordsOf plain b)
+  module _ {r m s : ℕ} (t : Reached (wordsOf (ruleIn b) b) (asked (ruleIn b) q) r) (e : MetSays (wordsOf (ruleIn b) b) (asked (ruleIn b) q) r m s) where
+    pub nearest-is : (r, m) ≡ nearest (asked (ruleIn b) q) (wordsOf (ruleIn b) b)
     unfolding nearest
-    nearest-is = ap₂ pair (t .is) (e .shares ∙ ap (λ (i : ℕ). shared (asked plain q) (nth (wordsOf plain b) i)) (t .is))
+    nearest-is = ap₂ pair (t .is) (e .shares ∙ ap (λ (i : ℕ). shared (asked (ruleIn b) q) (nth (wordsOf (ruleIn b) b) i)) (t .is))
 
-    positive : Positive (asked plain q)
+    positive : Positive (asked (ruleIn b) q)
     unfolding asked
-    positive = word-positive plain plain-lawful q
+    positive = word-positive (ruleIn b) (kind-lawful (kindOf b)) q
 
-    past : length q ≤ m → at (asked plain q) m ≡ 0
-    past h = at-past (asked plain q) m (omega (arith, asked-length q))
+    past : length q ≤ m → at (asked (ruleIn b) q) m ≡ 0
+    past h = at-past (asked (ruleIn b) q) m (omega (arith, asked-length b q))
 
     -- a name that is q is the one that is reached
-    not-there : (nth (wordsOf plain b) r ≡ asked plain q → ⊥) → (0, 0) ≡ exact (asked plain q) (wordsOf plain b)
-    not-there n = sym (exact-nowhere (wordsOf plain b) (asked plain q) (o .rises) positive (λ i h f. n (ap (nth (wordsOf plain b)) (sym (t .only i h f)) ∙ f)))
+    not-there : (nth (wordsOf (ruleIn b) b) r ≡ asked (ruleIn b) q → ⊥) → (0, 0) ≡ exact (asked (ruleIn b) q) (wordsOf (ruleIn b) b)
+    not-there n = sym (exact-nowhere (wordsOf (ruleIn b) b) (asked (ruleIn b) q) (o .rises) positive (λ i h f. n (ap (nth (wordsOf (ruleIn b) b)) (sym (t .only i h f)) ∙ f)))
 
-    pub exact-short : m < length q → (0, 0) ≡ exact (asked plain q) (wordsOf plain b)
-    exact-short h = not-there (λ f. lt-irrefl m (omega (arith, e .shares, ap (shared (asked plain q)) f ∙ shared-self (asked plain q), asked-length q)))
+    pub exact-short : m < length q → (0, 0) ≡ exact (asked (ruleIn b) q) (wordsOf (ruleIn b) b)
+    exact-short h = not-there (λ f. lt-irrefl m (omega (arith, e .shares, ap (shared (asked (ruleIn b) q)) f ∙ shared-self (asked (ruleIn b) q), asked-length b q)))
 
-    pub exact-longer : length q ≤ m → (s ≡ 0 → ⊥) → (0, 0) ≡ exact (asked plain q) (wordsOf plain b)
+    pub exact-longer : length q ≤ m → (s ≡ 0 → ⊥) → (0, 0) ≡ exact (asked (ruleIn b) q) (wordsOf (ruleIn b) b)
     exact-longer h n = not-there (λ f. n (e .next ∙ ap (λ (w : List ℕ). at w m) f ∙ past h))
 
-    pub exact-found : length q ≤ m → s ≡ 0 → (r, 1) ≡ exact (asked plain q) (wordsOf plain b)
+    pub exact-found : length q ≤ m → s ≡ 0 → (r, 1) ≡ exact (asked (ruleIn b) q) (wordsOf (ruleIn b) b)
     exact-found h z =
-        let x : List ℕ = nth (wordsOf plain b) r in
-        let ends : at (asked plain q) m ≡ at x m = past h ∙ sym z ∙ e .next in
-        let same : asked plain q ≡ x = shared-parts (asked plain q) x positive (nth-positive (wordsOf plain b) r (o .rises))
-        (subst (λ (i : ℕ). at (asked plain q) i ≡ at x i) (e .shares) ends) in
-        sym (exact-here (wordsOf plain b) (asked plain q) (o .rises) positive r (t .within) (sym same))
+        let x : List ℕ = nth (wordsOf (ruleIn b) b) r in
+        let ends : at (asked (ruleIn b) q) m ≡ at x m = past h ∙ sym z ∙ e .next in
+        let same : asked (ruleIn b) q ≡ x = shared-parts (asked (ruleIn b) q) x positive (nth-positive (wordsOf (ruleIn b) b) r (o .rises))
+        (subst (λ (i : ℕ). at (asked (ruleIn b) q) i ≡ at x i) (e .shares) ends) in
+        sym (exact-here (wordsOf (ruleIn b) b) (asked (ruleIn b) q) (o .rises) positive r (t .within) (sym same))
 
 -- ---- by the number of the kind
 

@@ -7,13 +7,16 @@
 -- Assumes nothing.
 use Prim.Native.Nat.{ℕ, _+_, _-_, _*_, _≤_, _<_}
 use native.Mathlib.Omega.{arith}
-use mathlib.Core.Path.{_≡_, _∙_, ap, subst, sym}
+use mathlib.Core.Path.{_≡_, _∙_, ap, ap₂, subst, sym}
 use mathlib.Core.List.{List}
 use lib.ListN.{getD, length, length-map, set}
 use mir.Val.{Fits}
 use mir.Syntax.{w16, w64}
 use Rattle.words.specs.Rising.{Rises}
-use Rattle.words.specs.Words.{Bytes, Words, at, plain, word}
+use Rattle.words.specs.Words.{Bytes, Words, at, word}
+use Rattle.format.specs.Marks.{BookKind, kindOf, ruleIn, ruleOf}
+use Rattle.symbols.specs.Rules.{kindBy, ruleBy}
+use Rattle.symbols.specs.declared.Rule.{Rule as ByRule}
 use Rattle.format.specs.Spans.{wordsOf, nodeSize}
 use Rattle.format.specs.Book.{fields}
 use Rattle.format.specs.Nodes.{Node}
@@ -31,78 +34,78 @@ module _ {b : Bytes} {start v j : ℕ} (a : FieldAsk b start v j) where
   pub field-room : Roomy inRows b (start + v * nodeSize)
   field-room = a .numbered .searchable .table .room v (a .numbered .inside)
 
-  pub field-told : {r : ℕ} → r ≡ getD (fields (recordAt inRows b (start + v * nodeSize))) j 0 → r ≡ getD (fields (node (wordsOf plain b) v)) j 0
+  pub field-told : {r : ℕ} → r ≡ getD (fields (recordAt inRows b (start + v * nodeSize))) j 0 → r ≡ getD (fields (node (wordsOf (ruleIn b) b) v)) j 0
   field-told e = e ∙ ap (λ (n : Node). getD (fields n) j 0) (a .numbered .searchable .table .told v (a .numbered .inside))
 
--- ---- symbols by the plain rule
+-- ---- symbols by the bytes' own rule
 
-pub asked-length : (s : Bytes) → length (asked plain s) ≡ length s
+pub asked-length : (b s : Bytes) → length (asked (ruleIn b) s) ≡ length s
 unfolding asked
-asked-length s = length-map s plain
+asked-length b s = length-map s (ruleIn b)
 
 -- t is the symbol of a question, none of whose bytes is skipped
-pub asked-at : (s : Bytes) (d : ℕ) {t : ℕ} → t ≡ at (word plain s) (d - 0) → t ≡ at (asked plain s) d
+pub asked-at : (b s : Bytes) (d : ℕ) {t : ℕ} (rule : ByRule) → kindBy rule ≡ kindOf b → t ≡ at (word (ruleBy rule) s) (d - 0) → t ≡ at (asked (ruleIn b) s) d
 unfolding asked
-asked-at s d e =
+asked-at b s d rule own e =
     let z : d - 0 ≡ d = omega arith in
-    e ∙ ap (at (word plain s)) z
+    e ∙ ap₂ (λ (κ : BookKind) (i : ℕ). at (word (ruleOf κ) s) i) own z
 
 -- ---- `seek`
 
 -- the next child lies within the row, and further on
-module _ {b : Bytes} {start v s c : ℕ} (o : Searchable plain b (rowsAt start)) (k : Seeking (wordsOf plain b) v s c) (x y : ℕ)
-    (xe : x ≡ node (wordsOf plain b) v .nodes) (h : c < v + x) (ye : y ≡ node (wordsOf plain b) c .nodes) where
+module _ {b : Bytes} {start v s c : ℕ} (o : Searchable (ruleIn b) b (rowsAt start)) (k : Seeking (wordsOf (ruleIn b) b) v s c) (x y : ℕ)
+    (xe : x ≡ node (wordsOf (ruleIn b) b) v .nodes) (h : c < v + x) (ye : y ≡ node (wordsOf (ruleIn b) b) c .nodes) where
   pub seek-next : Fits w64 (c + y)
-  seek-next = omega (arith, seek-stop (wordsOf plain b) (o .rises) k (omega arith), k .row .limit, o .small)
+  seek-next = omega (arith, seek-stop (wordsOf (ruleIn b) b) (o .rises) k (omega arith), k .row .limit, o .small)
 
   pub seek-less : v + x - (c + y) < v + x - c
-  seek-less = omega (arith, seek-some (wordsOf plain b) (o .rises) k (omega arith))
+  seek-less = omega (arith, seek-some (wordsOf (ruleIn b) b) (o .rises) k (omega arith))
 
 -- ---- `child`
 
 -- x is the node's number of names, d its depth, y its number of nodes, t the question's symbol there, c the child that was sought, u that one's symbol
-module _ (b q : Bytes) {v : ℕ} (r : Rises (wordsOf plain b)) (z : Sits (wordsOf plain b) v) {x : ℕ} (xe : x ≡ node (wordsOf plain b) v .names) where
-  pub stay-leaf : x ≡ 1 → Halts (wordsOf plain b) (asked plain q) v
-  stay-leaf e = halt-leaf (wordsOf plain b) r (asked plain q) z (omega arith)
+module _ (b q : Bytes) {v : ℕ} (r : Rises (wordsOf (ruleIn b) b)) (z : Sits (wordsOf (ruleIn b) b) v) {x : ℕ} (xe : x ≡ node (wordsOf (ruleIn b) b) v .names) where
+  pub stay-leaf : x ≡ 1 → Halts (wordsOf (ruleIn b) b) (asked (ruleIn b) q) v
+  stay-leaf e = halt-leaf (wordsOf (ruleIn b) b) r (asked (ruleIn b) q) z (omega arith)
 
-  module _ (n : x ≡ 1 → ⊥) {d : ℕ} (de : d ≡ node (wordsOf plain b) v .depth) where
-    pub stay-short : length q < d → Halts (wordsOf plain b) (asked plain q) v
-    stay-short h = halt-short (wordsOf plain b) r (asked plain q) z (λ i. n (xe ∙ i)) (omega (arith, asked-length q))
+  module _ (n : x ≡ 1 → ⊥) {d : ℕ} (de : d ≡ node (wordsOf (ruleIn b) b) v .depth) where
+    pub stay-short : length q < d → Halts (wordsOf (ruleIn b) b) (asked (ruleIn b) q) v
+    stay-short h = halt-short (wordsOf (ruleIn b) b) r (asked (ruleIn b) q) z (λ i. n (xe ∙ i)) (omega (arith, asked-length b q))
 
-    module _ (h : d ≤ length q) {t c y : ℕ} (e : t ≡ at (word plain q) (d - 0)) (k : Sought (wordsOf plain b) v t c) (ye : y ≡ node (wordsOf plain b) v .nodes) where
-      symbol : t ≡ at (asked plain q) (node (wordsOf plain b) v .depth)
-      symbol = asked-at q d e ∙ ap (at (asked plain q)) de
+    module _ (h : d ≤ length q) {t c y : ℕ} (rule : ByRule) (own : kindBy rule ≡ kindOf b) (e : t ≡ at (word (ruleBy rule) q) (d - 0)) (k : Sought (wordsOf (ruleIn b) b) v t c) (ye : y ≡ node (wordsOf (ruleIn b) b) v .nodes) where
+      symbol : t ≡ at (asked (ruleIn b) q) (node (wordsOf (ruleIn b) b) v .depth)
+      symbol = asked-at b q d rule own e ∙ ap (at (asked (ruleIn b) q)) de
 
-      long : node (wordsOf plain b) v .depth ≤ length (asked plain q)
-      long = omega (arith, asked-length q)
+      long : node (wordsOf (ruleIn b) b) v .depth ≤ length (asked (ruleIn b) q)
+      long = omega (arith, asked-length b q)
 
-      sought : Sought (wordsOf plain b) v (at (asked plain q) (node (wordsOf plain b) v .depth)) c
-      sought = subst (λ (i : ℕ). Sought (wordsOf plain b) v i c) symbol k
+      sought : Sought (wordsOf (ruleIn b) b) v (at (asked (ruleIn b) q) (node (wordsOf (ruleIn b) b) v .depth)) c
+      sought = subst (λ (i : ℕ). Sought (wordsOf (ruleIn b) b) v i c) symbol k
 
-      pub stay-end : v + y ≤ c → Halts (wordsOf plain b) (asked plain q) v
-      stay-end g = halt-end (wordsOf plain b) r (asked plain q) z (λ i. n (xe ∙ i)) long sought (omega arith)
+      pub stay-end : v + y ≤ c → Halts (wordsOf (ruleIn b) b) (asked (ruleIn b) q) v
+      stay-end g = halt-end (wordsOf (ruleIn b) b) r (asked (ruleIn b) q) z (λ i. n (xe ∙ i)) long sought (omega arith)
 
-      module _ (g : c < v + y) {u : ℕ} (ue : u ≡ node (wordsOf plain b) c .symbol) where
-        pub stay-other : (u ≡ t → ⊥) → Halts (wordsOf plain b) (asked plain q) v
-        stay-other o = halt-other (wordsOf plain b) r (asked plain q) z (λ i. n (xe ∙ i)) long sought (omega arith) (λ j. o (ue ∙ j ∙ sym symbol))
+      module _ (g : c < v + y) {u : ℕ} (ue : u ≡ node (wordsOf (ruleIn b) b) c .symbol) where
+        pub stay-other : (u ≡ t → ⊥) → Halts (wordsOf (ruleIn b) b) (asked (ruleIn b) q) v
+        stay-other o = halt-other (wordsOf (ruleIn b) b) r (asked (ruleIn b) q) z (λ i. n (xe ∙ i)) long sought (omega arith) (λ j. o (ue ∙ j ∙ sym symbol))
 
 -- its premises stand in the order in which a search finds them, not in the section's
-pub go-down : (b q : Bytes) {v x d t c y u : ℕ} → Sought (wordsOf plain b) v t c → u ≡ t → (x ≡ 1 → ⊥) → d ≤ length q → c < v + y → t ≡ at (word plain q) (d - 0)
-    → u ≡ node (wordsOf plain b) c .symbol → d ≡ node (wordsOf plain b) v .depth → x ≡ node (wordsOf plain b) v .names → y ≡ node (wordsOf plain b) v .nodes
-    → Rises (wordsOf plain b) → Sits (wordsOf plain b) v → Taken (wordsOf plain b) (asked plain q) v c
-go-down b q k j n h g e ue de xe ye r z =
-    taken (wordsOf plain b) r (asked plain q) z (λ i. n (xe ∙ i)) (long b q r z xe n de h e k ye) (sought b q r z xe n de h e k ye) (omega arith)
-    (sym ue ∙ j ∙ symbol b q r z xe n de h e k ye)
+pub go-down : (b q : Bytes) {v x d t c y u : ℕ} (rule : ByRule) → Sought (wordsOf (ruleIn b) b) v t c → u ≡ t → (x ≡ 1 → ⊥) → d ≤ length q → c < v + y → kindBy rule ≡ kindOf b → t ≡ at (word (ruleBy rule) q) (d - 0)
+    → u ≡ node (wordsOf (ruleIn b) b) c .symbol → d ≡ node (wordsOf (ruleIn b) b) v .depth → x ≡ node (wordsOf (ruleIn b) b) v .names → y ≡ node (wordsOf (ruleIn b) b) v .nodes
+    → Rises (wordsOf (ruleIn b) b) → Sits (wordsOf (ruleIn b) b) v → Taken (wordsOf (ruleIn b) b) (asked (ruleIn b) q) v c
+go-down b q rule k j n h g own e ue de xe ye r z =
+    taken (wordsOf (ruleIn b) b) r (asked (ruleIn b) q) z (λ i. n (xe ∙ i)) (long b q r z xe n de h rule own e k ye) (sought b q r z xe n de h rule own e k ye) (omega arith)
+    (sym ue ∙ j ∙ symbol b q r z xe n de h rule own e k ye)
 
 -- ---- `descend`
 
 -- the path so far, from the root to the node at hand
 pub record Going (b : Bytes) (start : ℕ) (q : Bytes) (p : List ℕ) (n v : ℕ) : Type 0 where
-  pub searchable : Searchable plain b (rowsAt start)
-  pub path : Passed (wordsOf plain b) (asked plain q) p n v
+  pub searchable : Searchable (ruleIn b) b (rowsAt start)
+  pub path : Passed (wordsOf (ruleIn b) b) (asked (ruleIn b) q) p n v
 
-pub go-start : {b : Bytes} {start : ℕ} {q p : Bytes} → Searchable plain b (rowsAt start) → length p ≡ 202 → getD p 0 0 ≡ 0 → Going b start q p 1 0
-go-start {b} {start} {q} {p} o l e = record { searchable = o; path = passed-start (wordsOf plain b) (o .rises) (asked plain q) p (o .some) l e }
+pub go-start : {b : Bytes} {start : ℕ} {q p : Bytes} → Searchable (ruleIn b) b (rowsAt start) → length p ≡ 202 → getD p 0 0 ≡ 0 → Going b start q p 1 0
+go-start {b} {start} {q} {p} o l e = record { searchable = o; path = passed-start (wordsOf (ruleIn b) b) (o .rises) (asked (ruleIn b) q) p (o .some) l e }
 
 pub way-down : {ws : Words} {q : List ℕ} {v c : ℕ} {r : Way} → r ≡ Down c → WayOf ws q v r → Taken ws q v c
 way-down {ws} {q} {v} e w = rw e at w
@@ -112,21 +115,21 @@ way-stay {ws} {q} {v} e w = rw e at w
 
 module _ {b q : Bytes} {start : ℕ} {p : List ℕ} {n v : ℕ} (g : Going b start q p n v) where
   pub go-at : AtNode b start v
-  go-at = record { searchable = g .searchable; sits = passed-sits (wordsOf plain b) (g .searchable .rises) (g .path) (g .searchable .short) }
+  go-at = record { searchable = g .searchable; sits = passed-sits (wordsOf (ruleIn b) b) (g .searchable .rises) (g .path) (g .searchable .short) }
 
-  pub go-halt : Halts (wordsOf plain b) (asked plain q) v → Descended (wordsOf plain b) (asked plain q) p n v
-  go-halt h = record { few = passed-few (wordsOf plain b) (g .searchable .rises) (g .path) (g .searchable .short); path = g .path; halts = h }
+  pub go-halt : Halts (wordsOf (ruleIn b) b) (asked (ruleIn b) q) v → Descended (wordsOf (ruleIn b) b) (asked (ruleIn b) q) p n v
+  go-halt h = record { few = passed-few (wordsOf (ruleIn b) b) (g .searchable .rises) (g .path) (g .searchable .short); path = g .path; halts = h }
 
-  module _ {c : ℕ} (k : Taken (wordsOf plain b) (asked plain q) v c) where
+  module _ {c : ℕ} (k : Taken (wordsOf (ruleIn b) b) (asked (ruleIn b) q) v c) where
     go-room : n < 202
-    go-room = passed-room (wordsOf plain b) (g .searchable .rises) (g .path) (g .searchable .short) k
+    go-room = passed-room (wordsOf (ruleIn b) b) (g .searchable .rises) (g .path) (g .searchable .short) k
 
     pub go-small : Fits w16 c
     go-small = omega (arith, k .sits .inside, g .searchable .small)
 
     pub go-on : Going b start q (set p n c) (n + 1) c
-    go-on = record { searchable = g .searchable; path = passed-on (wordsOf plain b) (g .searchable .rises) (g .path) (g .searchable .short) k }
+    go-on = record { searchable = g .searchable; path = passed-on (wordsOf (ruleIn b) b) (g .searchable .rises) (g .path) (g .searchable .short) k }
 
   -- there is room for the child
-  pub go-further : {c : ℕ} {r : Way} → r ≡ Down c → WayOf (wordsOf plain b) (asked plain q) v r → n < 202
+  pub go-further : {c : ℕ} {r : Way} → r ≡ Down c → WayOf (wordsOf (ruleIn b) b) (asked (ruleIn b) q) v r → n < 202
   go-further e w = go-room (way-down e w)

@@ -12,8 +12,9 @@ use Prim.Native.Nat.{ℕ, _<_, _≤_}
 use mathlib.Core.Path.{_≡_}
 use mathlib.Core.List.{List}
 use lib.ListN.{getD, length}
-use Rattle.words.specs.Words.{Bytes, Words, at, plain, shared}
+use Rattle.words.specs.Words.{Bytes, Words, at, shared}
 use Rattle.words.specs.Rising.{nth}
+use Rattle.format.specs.Marks.{kindOf, ruleIn}
 use Rattle.format.specs.Nodes.{table}
 use Rattle.answers.specs.Widths.{lastKind}
 use Rattle.answers.specs.Questions.{Pair as Numbers, reached}
@@ -21,6 +22,7 @@ use Rattle.descent.specs.Vocabulary.{Halts, Located, Searchable, Sits, Taken, a
 use Rattle.format.specs.Spans.{wordsOf, fieldCount}
 use Rattle.format.specs.Book.{told}
 use Rattle.standing.specs.Maps.{rowsAt}
+use Rattle.symbols.specs.Rules.{kindBy}
 use Rattle.trailer.specs.declared.Trailer.{Trailer}
 use Rattle.accept.specs.Parts.{Parts}
 use Rattle.search.specs.declared.Pair.{Pair}
@@ -30,21 +32,21 @@ use Rattle.search.specs.declared.Way.the-variants.{Down, Stay}
 -- ---- the table of nodes, which starts at `start`
 
 pub record NodeNumber (b : Bytes) (start v : ℕ) : Type 0 where
-  pub searchable : Searchable plain b (rowsAt start)
-  pub inside : v < length (table (wordsOf plain b))
+  pub searchable : Searchable (ruleIn b) b (rowsAt start)
+  pub inside : v < length (table (wordsOf (ruleIn b) b))
 
 pub record FieldAsk (b : Bytes) (start v j : ℕ) : Type 0 where
   pub numbered : NodeNumber b start v
   pub field : j < fieldCount
 
 pub record AtNode (b : Bytes) (start v : ℕ) : Type 0 where
-  pub searchable : Searchable plain b (rowsAt start)
-  pub sits : Sits (wordsOf plain b) v
+  pub searchable : Searchable (ruleIn b) b (rowsAt start)
+  pub sits : Sits (wordsOf (ruleIn b) b) v
 
 pub record AtFork (b : Bytes) (start v : ℕ) : Type 0 where
-  pub searchable : Searchable plain b (rowsAt start)
-  pub sits : Sits (wordsOf plain b) v
-  pub several : node (wordsOf plain b) v .names ≡ 1 → ⊥
+  pub searchable : Searchable (ruleIn b) b (rowsAt start)
+  pub sits : Sits (wordsOf (ruleIn b) b) v
+  pub several : node (wordsOf (ruleIn b) b) v .names ≡ 1 → ⊥
 
 -- ---- the descent
 
@@ -54,12 +56,12 @@ WayOf ws q v Stay = Halts ws q v
 
 -- the first n numbers of p are nodes, and their depths rise
 pub record OnPath (b : Bytes) (start : ℕ) (p : List ℕ) (n : ℕ) : Type 0 where
-  pub searchable : Searchable plain b (rowsAt start)
+  pub searchable : Searchable (ruleIn b) b (rowsAt start)
   pub long : length p ≡ 202
   pub some : 0 < n
   pub few : n ≤ 202
-  pub sits : (j : ℕ) → j < n → Sits (wordsOf plain b) (getD p j 0)
-  pub deepens : (i j : ℕ) → i < j → j < n → node (wordsOf plain b) (getD p i 0) .depth < node (wordsOf plain b) (getD p j 0) .depth
+  pub sits : (j : ℕ) → j < n → Sits (wordsOf (ruleIn b) b) (getD p j 0)
+  pub deepens : (i j : ℕ) → i < j → j < n → node (wordsOf (ruleIn b) b) (getD p i 0) .depth < node (wordsOf (ruleIn b) b) (getD p j 0) .depth
 
 -- ---- the name that is reached
 
@@ -74,8 +76,8 @@ pub record SpotSays (ws : Words) (q : List ℕ) (v m s : ℕ) : Type 0 where
   pub next : s ≡ at (nth ws (reached q ws)) m
 
 pub record AtSpot (b : Bytes) (start : ℕ) (q : Bytes) (v m s : ℕ) : Type 0 where
-  pub searchable : Searchable plain b (rowsAt start)
-  pub spot : SpotSays (wordsOf plain b) (asked plain q) v m s
+  pub searchable : Searchable (ruleIn b) b (rowsAt start)
+  pub spot : SpotSays (wordsOf (ruleIn b) b) (asked (ruleIn b) q) v m s
 
 -- ---- the questions
 
@@ -84,7 +86,8 @@ pub record Askable (b : Bytes) (t : Trailer) : Type 0 where
   pub block : t .block ≡ told b 1
   pub table : t .blocks ≡ told b 2
   pub nodes : t .nodes ≡ told b 3
-  pub searchable : Searchable plain b (rowsAt (told b 3))
+  pub rule : kindBy (t .rule) ≡ kindOf b
+  pub searchable : Searchable (ruleIn b) b (rowsAt (told b 3))
 
 pub record KindAsk (b : Bytes) (t : Trailer) (kind : ℕ) : Type 0 where
   pub askable : Askable b t

@@ -3,15 +3,17 @@
 ghost use mathlib.Core.Path.{_≡_};
 ghost use Prim.Native.Nat.{_≤_};
 ghost use lib.ListN.{getD};
-ghost use Rattle.words.specs.Words.{plain};
+ghost use Rattle.format.specs.Marks.{kindOf, ruleIn};
 ghost use Rattle.format.specs.Spans.{wordsOf};
 ghost use Rattle.format.specs.Book.{fields};
 ghost use Rattle.standing.specs.Maps.{rowsAt};
 ghost use Rattle.answers.specs.Questions.{ask, exact, nearest, place, range};
 ghost use Rattle.answers.specs.Widths.{width};
 ghost use Rattle.descent.specs.Vocabulary.{Descended, Highest, Located, Reached, Searchable, Sought, asked, node};
+ghost use Rattle.symbols.specs.Rules.{kindBy};
 ghost use Rattle.names.specs.Names.{PositionAsk};
 ghost use Rattle.search.specs.Asks.{AtFork, AtNode, AtSpot, Askable, FieldAsk, KindAsk, MetSays, NodeNumber, OnPath, SpotSays, WayOf, pairOf};
+use symbols::Rule;
 
 // An answer's two numbers.
 pub struct Pair {
@@ -48,49 +50,49 @@ pub struct Spot {
 // Field number j of node v, in the table from `start` on.
 fn field(book: &[u8], start: usize, v: usize, j: usize) -> usize
     requires { ⌜ FieldAsk (now book) start v j ⌝ }
-    ensures { λ r. ⌜ r ≡ getD (fields (node (wordsOf plain (now (book .entry))) v)) j 0 ⌝ }
+    ensures { λ r. ⌜ r ≡ getD (fields (node (wordsOf (ruleIn (now (book .entry))) (now (book .entry))) v)) j 0 ⌝ }
 {
     fields::field(book, start + v * fields::SIZE, j)
 }
 
 fn symbol_of(book: &[u8], start: usize, v: usize) -> usize
     requires { ⌜ NodeNumber (now book) start v ⌝ }
-    ensures { λ r. ⌜ r ≡ node (wordsOf plain (now (book .entry))) v .symbol ⌝ }
+    ensures { λ r. ⌜ r ≡ node (wordsOf (ruleIn (now (book .entry))) (now (book .entry))) v .symbol ⌝ }
 {
     field(book, start, v, 0)
 }
 
 fn depth_of(book: &[u8], start: usize, v: usize) -> usize
     requires { ⌜ NodeNumber (now book) start v ⌝ }
-    ensures { λ r. ⌜ r ≡ node (wordsOf plain (now (book .entry))) v .depth ⌝ }
+    ensures { λ r. ⌜ r ≡ node (wordsOf (ruleIn (now (book .entry))) (now (book .entry))) v .depth ⌝ }
 {
     field(book, start, v, 1)
 }
 
 fn first_of(book: &[u8], start: usize, v: usize) -> usize
     requires { ⌜ NodeNumber (now book) start v ⌝ }
-    ensures { λ r. ⌜ r ≡ node (wordsOf plain (now (book .entry))) v .first ⌝ }
+    ensures { λ r. ⌜ r ≡ node (wordsOf (ruleIn (now (book .entry))) (now (book .entry))) v .first ⌝ }
 {
     field(book, start, v, 2)
 }
 
 fn names_of(book: &[u8], start: usize, v: usize) -> usize
     requires { ⌜ NodeNumber (now book) start v ⌝ }
-    ensures { λ r. ⌜ r ≡ node (wordsOf plain (now (book .entry))) v .names ⌝ }
+    ensures { λ r. ⌜ r ≡ node (wordsOf (ruleIn (now (book .entry))) (now (book .entry))) v .names ⌝ }
 {
     field(book, start, v, 3)
 }
 
 fn nodes_of(book: &[u8], start: usize, v: usize) -> usize
     requires { ⌜ NodeNumber (now book) start v ⌝ }
-    ensures { λ r. ⌜ r ≡ node (wordsOf plain (now (book .entry))) v .nodes ⌝ }
+    ensures { λ r. ⌜ r ≡ node (wordsOf (ruleIn (now (book .entry))) (now (book .entry))) v .nodes ⌝ }
 {
     field(book, start, v, 4)
 }
 
 fn width_of(book: &[u8], start: usize, v: usize) -> usize
     requires { ⌜ NodeNumber (now book) start v ⌝ }
-    ensures { λ r. ⌜ r ≡ node (wordsOf plain (now (book .entry))) v .width ⌝ }
+    ensures { λ r. ⌜ r ≡ node (wordsOf (ruleIn (now (book .entry))) (now (book .entry))) v .width ⌝ }
 {
     field(book, start, v, 5)
 }
@@ -98,7 +100,7 @@ fn width_of(book: &[u8], start: usize, v: usize) -> usize
 // The first child of v whose symbol is not below s, or the end of v's row where there is none.
 fn seek(book: &[u8], start: usize, v: usize, s: usize) -> usize
     requires { ⌜ AtFork (now book) start v ⌝ }
-    ensures { λ r. ⌜ Sought (wordsOf plain (now (book .entry))) v s r ⌝ }
+    ensures { λ r. ⌜ Sought (wordsOf (ruleIn (now (book .entry))) (now (book .entry))) v s r ⌝ }
 {
     let end = v + nodes_of(book, start, v);
     let mut c = v + 1;
@@ -113,9 +115,9 @@ fn seek(book: &[u8], start: usize, v: usize, s: usize) -> usize
 
 // Where the question goes from v: to the child with its symbol at v's depth. It stays at a leaf, where the depth exceeds its length, and
 // where no child fits.
-fn child(book: &[u8], start: usize, question: &[u8], v: usize) -> Way
-    requires { ⌜ AtNode (now book) start v ⌝ }
-    ensures { λ r. ⌜ WayOf (wordsOf plain (now (book .entry))) (asked plain (now (question .entry))) v r ⌝ }
+fn child(rule: Rule, book: &[u8], start: usize, question: &[u8], v: usize) -> Way
+    requires { ⌜ AtNode (now book) start v × (kindBy rule ≡ kindOf (now book)) ⌝ }
+    ensures { λ r. ⌜ WayOf (wordsOf (ruleIn (now (book .entry))) (now (book .entry))) (asked (ruleIn (now (book .entry))) (now (question .entry))) v r ⌝ }
 {
     if names_of(book, start, v) == 1 {
         return Way::Stay;
@@ -124,7 +126,7 @@ fn child(book: &[u8], start: usize, question: &[u8], v: usize) -> Way
     if question.len() < d {
         return Way::Stay;
     }
-    let s = symbols::symbol_at(question, 0, d);
+    let s = symbols::symbol_at(rule, question, 0, d);
     let c = seek(book, start, v, s);
     if v + nodes_of(book, start, v) <= c {
         return Way::Stay;
@@ -136,15 +138,15 @@ fn child(book: &[u8], start: usize, question: &[u8], v: usize) -> Way
 }
 
 // The way down from the root.
-fn descend(book: &[u8], start: usize, question: &[u8]) -> Descent
-    requires { ⌜ Searchable plain (now book) (rowsAt start) ⌝ }
-    ensures { λ r. ⌜ Descended (wordsOf plain (now (book .entry))) (asked plain (now (question .entry))) (r .path) (r .len) (r .last) ⌝ }
+fn descend(rule: Rule, book: &[u8], start: usize, question: &[u8]) -> Descent
+    requires { ⌜ Searchable (ruleIn (now book)) (now book) (rowsAt start) × (kindBy rule ≡ kindOf (now book)) ⌝ }
+    ensures { λ r. ⌜ Descended (wordsOf (ruleIn (now (book .entry))) (now (book .entry))) (asked (ruleIn (now (book .entry))) (now (question .entry))) (r .path) (r .len) (r .last) ⌝ }
 {
     let mut path = [0u16; 202];
     let mut n: usize = 1;
     let mut v: usize = 0;
     loop {
-        match child(book, start, question, v) {
+        match child(rule, book, start, question, v) {
             Way::Down(c) => {
                 path[n] = c as u16;
                 n += 1;
@@ -166,7 +168,7 @@ fn descend(book: &[u8], start: usize, question: &[u8]) -> Descent
 // the compiler copies it twice where it is indexed in there.
 fn highest(book: &[u8], start: usize, way: Descent, shared: usize) -> usize
     requires { ⌜ OnPath (now book) start (way .path) (way .len) ⌝ }
-    ensures { λ r. ⌜ Highest (wordsOf plain (now (book .entry))) (way .path) (way .len) shared r ⌝ }
+    ensures { λ r. ⌜ Highest (wordsOf (ruleIn (now (book .entry))) (now (book .entry))) (way .path) (way .len) shared r ⌝ }
 {
     let path = way.path;
     let len = way.len;
@@ -184,33 +186,35 @@ fn highest(book: &[u8], start: usize, way: Descent, shared: usize) -> usize
 
 // The name at a position, rebuilt, and how it stands to the question.
 fn compare(book: &[u8], t: trailer::Trailer, position: usize, question: &[u8]) -> Met
-    requires { ⌜ PositionAsk (now book) t position ⌝ }
-    ensures { λ r. ⌜ MetSays (wordsOf plain (now (book .entry))) (asked plain (now (question .entry))) position (r .shared) (r .symbol) ⌝ }
+    requires { ⌜ PositionAsk (now book) t position × (kindBy (t .rule) ≡ kindOf (now book)) ⌝ }
+    ensures { λ r. ⌜ MetSays (wordsOf (ruleIn (now (book .entry))) (now (book .entry))) (asked (ruleIn (now (book .entry))) (now (question .entry))) position (r .shared) (r .symbol) ⌝ }
 {
     let entry = names::read_name(book, t, position);
     let name = entry.name;
     let len = entry.len;
-    let shared = symbols::shared_symbols(question, &name[0..len]);
-    let symbol = symbols::symbol_at(&name[0..len], 0, shared);
+    let rule = t.rule;
+    let shared = symbols::shared_symbols(rule, question, &name[0..len]);
+    let symbol = symbols::symbol_at(rule, &name[0..len], 0, shared);
     Met { shared, symbol }
 }
 
 // The position that the question reaches.
-fn reach(book: &[u8], start: usize, question: &[u8]) -> usize
-    requires { ⌜ Searchable plain (now book) (rowsAt start) ⌝ }
-    ensures { λ r. ⌜ Reached (wordsOf plain (now (book .entry))) (asked plain (now (question .entry))) r ⌝ }
+fn reach(rule: Rule, book: &[u8], start: usize, question: &[u8]) -> usize
+    requires { ⌜ Searchable (ruleIn (now book)) (now book) (rowsAt start) × (kindBy rule ≡ kindOf (now book)) ⌝ }
+    ensures { λ r. ⌜ Reached (wordsOf (ruleIn (now (book .entry))) (now (book .entry))) (asked (ruleIn (now (book .entry))) (now (question .entry))) r ⌝ }
 {
-    let way = descend(book, start, question);
+    let way = descend(rule, book, start, question);
     first_of(book, start, way.last)
 }
 
 // The node with the names that share most with the question.
 fn locate(book: &[u8], t: trailer::Trailer, question: &[u8]) -> Spot
     requires { ⌜ Askable (now book) t ⌝ }
-    ensures { λ r. ⌜ SpotSays (wordsOf plain (now (book .entry))) (asked plain (now (question .entry))) (r .node) (r .shared) (r .symbol) ⌝ }
+    ensures { λ r. ⌜ SpotSays (wordsOf (ruleIn (now (book .entry))) (now (book .entry))) (asked (ruleIn (now (book .entry))) (now (question .entry))) (r .node) (r .shared) (r .symbol) ⌝ }
 {
+    let rule = t.rule;
     let start = numbers::wide16(t.nodes);
-    let way = descend(book, start, question);
+    let way = descend(rule, book, start, question);
     let position = first_of(book, start, way.last);
     let met = compare(book, t, position, question);
     let node = highest(book, start, way, met.shared);
@@ -223,13 +227,13 @@ fn locate(book: &[u8], t: trailer::Trailer, question: &[u8]) -> Spot
 
 // How many names are less than the question, once that node is known. Inside its edge the whole group lies to one side; at its fork the
 // question stands before the first child whose symbol is not below its own, or behind the group.
-fn seat(book: &[u8], start: usize, question: &[u8], spot: Spot) -> usize
-    requires { ⌜ AtSpot (now book) start (now question) (spot .node) (spot .shared) (spot .symbol) ⌝ }
-    ensures { λ r. ⌜ r ≡ place (asked plain (now (question .entry))) (wordsOf plain (now (book .entry))) ⌝ }
+fn seat(rule: Rule, book: &[u8], start: usize, question: &[u8], spot: Spot) -> usize
+    requires { ⌜ AtSpot (now book) start (now question) (spot .node) (spot .shared) (spot .symbol) × (kindBy rule ≡ kindOf (now book)) ⌝ }
+    ensures { λ r. ⌜ r ≡ place (asked (ruleIn (now (book .entry))) (now (question .entry))) (wordsOf (ruleIn (now (book .entry))) (now (book .entry))) ⌝ }
 {
     let v = spot.node;
     let shared = spot.shared;
-    let s = symbols::symbol_at(question, 0, shared);
+    let s = symbols::symbol_at(rule, question, 0, shared);
     let first = first_of(book, start, v);
     let past = first + names_of(book, start, v);
     if shared < depth_of(book, start, v) {
@@ -248,10 +252,11 @@ fn seat(book: &[u8], start: usize, question: &[u8], spot: Spot) -> usize
 // (position, 1) where a name equals the question, else (0, 0).
 fn ask_exact(book: &[u8], t: trailer::Trailer, question: &[u8]) -> Pair
     requires { ⌜ Askable (now book) t ⌝ }
-    ensures { λ r. ⌜ pairOf r ≡ exact (asked plain (now (question .entry))) (wordsOf plain (now (book .entry))) ⌝ }
+    ensures { λ r. ⌜ pairOf r ≡ exact (asked (ruleIn (now (book .entry))) (now (question .entry))) (wordsOf (ruleIn (now (book .entry))) (now (book .entry))) ⌝ }
 {
+    let rule = t.rule;
     let start = numbers::wide16(t.nodes);
-    let position = reach(book, start, question);
+    let position = reach(rule, book, start, question);
     let met = compare(book, t, position, question);
     if met.shared < question.len() {
         return Pair {
@@ -274,12 +279,13 @@ fn ask_exact(book: &[u8], t: trailer::Trailer, question: &[u8]) -> Pair
 // (how many names are less, 0).
 fn ask_place(book: &[u8], t: trailer::Trailer, question: &[u8]) -> Pair
     requires { ⌜ Askable (now book) t ⌝ }
-    ensures { λ r. ⌜ pairOf r ≡ (place (asked plain (now (question .entry))) (wordsOf plain (now (book .entry))), 0) ⌝ }
+    ensures { λ r. ⌜ pairOf r ≡ (place (asked (ruleIn (now (book .entry))) (now (question .entry))) (wordsOf (ruleIn (now (book .entry))) (now (book .entry))), 0) ⌝ }
 {
+    let rule = t.rule;
     let start = numbers::wide16(t.nodes);
     let spot = locate(book, t, question);
     Pair {
-        first: seat(book, start, question, spot),
+        first: seat(rule, book, start, question, spot),
         second: 0,
     }
 }
@@ -287,11 +293,12 @@ fn ask_place(book: &[u8], t: trailer::Trailer, question: &[u8]) -> Pair
 // (the question's place, how many names begin with it).
 fn ask_range(book: &[u8], t: trailer::Trailer, question: &[u8]) -> Pair
     requires { ⌜ Askable (now book) t ⌝ }
-    ensures { λ r. ⌜ pairOf r ≡ range (asked plain (now (question .entry))) (wordsOf plain (now (book .entry))) ⌝ }
+    ensures { λ r. ⌜ pairOf r ≡ range (asked (ruleIn (now (book .entry))) (now (question .entry))) (wordsOf (ruleIn (now (book .entry))) (now (book .entry))) ⌝ }
 {
+    let rule = t.rule;
     let start = numbers::wide16(t.nodes);
     let spot = locate(book, t, question);
-    let first = seat(book, start, question, spot);
+    let first = seat(rule, book, start, question, spot);
     if spot.shared < question.len() {
         return Pair { first, second: 0 };
     }
@@ -302,10 +309,11 @@ fn ask_range(book: &[u8], t: trailer::Trailer, question: &[u8]) -> Pair
 // (the position reached, the bytes that its name and the question share).
 fn ask_nearest(book: &[u8], t: trailer::Trailer, question: &[u8]) -> Pair
     requires { ⌜ Askable (now book) t ⌝ }
-    ensures { λ r. ⌜ pairOf r ≡ nearest (asked plain (now (question .entry))) (wordsOf plain (now (book .entry))) ⌝ }
+    ensures { λ r. ⌜ pairOf r ≡ nearest (asked (ruleIn (now (book .entry))) (now (question .entry))) (wordsOf (ruleIn (now (book .entry))) (now (book .entry))) ⌝ }
 {
+    let rule = t.rule;
     let start = numbers::wide16(t.nodes);
-    let position = reach(book, start, question);
+    let position = reach(rule, book, start, question);
     let met = compare(book, t, position, question);
     Pair {
         first: position,
@@ -316,8 +324,9 @@ fn ask_nearest(book: &[u8], t: trailer::Trailer, question: &[u8]) -> Pair
 // (the greatest length of the names that begin with the question, 0): of those the node tells it, and no name of the range is read.
 fn ask_width(book: &[u8], t: trailer::Trailer, question: &[u8]) -> Pair
     requires { ⌜ Askable (now book) t ⌝ }
-    ensures { λ r. ⌜ pairOf r ≡ (width (asked plain (now (question .entry))) (wordsOf plain (now (book .entry))), 0) ⌝ }
+    ensures { λ r. ⌜ pairOf r ≡ (width (asked (ruleIn (now (book .entry))) (now (question .entry))) (wordsOf (ruleIn (now (book .entry))) (now (book .entry))), 0) ⌝ }
 {
+    let rule = t.rule;
     let start = numbers::wide16(t.nodes);
     let spot = locate(book, t, question);
     if spot.shared != question.len() {
@@ -336,7 +345,7 @@ fn ask_width(book: &[u8], t: trailer::Trailer, question: &[u8]) -> Pair
 // places to go to.
 pub fn answer(book: &[u8], t: trailer::Trailer, kind: usize, question: &[u8]) -> Pair
     requires { ⌜ KindAsk (now book) t kind ⌝ }
-    ensures { λ r. ⌜ pairOf r ≡ ask kind (asked plain (now (question .entry))) (wordsOf plain (now (book .entry))) ⌝ }
+    ensures { λ r. ⌜ pairOf r ≡ ask kind (asked (ruleIn (now (book .entry))) (now (question .entry))) (wordsOf (ruleIn (now (book .entry))) (now (book .entry))) ⌝ }
 {
     if kind < 3 {
         if kind == 1 {

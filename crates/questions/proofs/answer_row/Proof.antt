@@ -5,16 +5,16 @@ use native.Mathlib.Omega.{arith}
 use mathlib.Core.Path.{_≡_}
 use lib.ListN.{drop, take}
 use borrow.Author.Needs.{needs}
-use Rattle.words.specs.Words.{plain}
+use Rattle.format.specs.Marks.{kindOf}
 use Rattle.answers.specs.Calls.{question}
-use Rattle.shapes.specs.Shapes.{answered}
+use Rattle.shapes.specs.Shapes.{answered, rowOf}
 use Rattle.questions.proofs.Rows.{row-answered, row-refused}
 use Rattle.questions.proofs.answer_row.Statement.{statement}
 use Rattle.questions.proofs.answer_row.Tie as tie
 
 -- the row's own bytes were asked for
 asked : (c : tie.After-ask) → let a = c .before .before .before .before .before .before .before .before .before .before .before .before .before .before .args in
-    answered (c .ask .result) ≡ question plain (a .row .kind) (a .book .now) (take (a .row .start + a .row .length - a .row .start) (drop (a .row .start) (a .questions .now)))
+    answered (c .ask .result) ≡ question (kindOf (a .book .now)) (a .row .kind) (a .book .now) (take (a .row .start + a .row .length - a .row .start) (drop (a .row .start) (a .questions .now)))
 asked c = c .ask .ensures
 
 pub answer-row-spec : {M : Type 1} → statement M
@@ -22,17 +22,17 @@ answer-row-spec =
     tie.close
     (tie.spec
     (λ c κs. search needs)
-    (λ c. row-refused _ _ _ _ (c .refuse .ensures) (λ good. omega (arith, good .low)))
+    (λ c. let a = c .before .before .before .before .before .args in row-refused (a .book .now) (a .questions .now) (rowOf (a .row)) _ (c .refuse .ensures) (λ good. omega (arith, good .low)))
     (λ c κs. search needs)
-    (λ c. row-refused _ _ _ _ (c .refuse2 .ensures) (λ good. omega (arith, good .high)))
+    (λ c. let a = c .before .before .before .before .before .before .before .args in row-refused (a .book .now) (a .questions .now) (rowOf (a .row)) _ (c .refuse2 .ensures) (λ good. omega (arith, good .high)))
     (λ c κs. search needs)
-    (λ c. row-refused _ _ _ _ (c .refuse3 .ensures) (λ good. omega (arith, good .within)))
+    (λ c. let a = c .before .before .before .before .before .before .before .before .before .args in row-refused (a .book .now) (a .questions .now) (rowOf (a .row)) _ (c .refuse3 .ensures) (λ good. omega (arith, good .within)))
     (λ c. search needs)
     (λ c κs. search needs)
-    (λ c. row-refused _ _ _ _ (c .refuse4 .ensures) (λ good. omega (arith, good .within)))
+    (λ c. let a = c .before .before .before .before .before .before .before .before .before .before .before .before .args in row-refused (a .book .now) (a .questions .now) (rowOf (a .row)) _ (c .refuse4 .ensures) (λ good. omega (arith, good .within)))
     (λ c. search needs)
     (λ c. search needs)
     (λ c. search needs)
     (λ c. omega arith)
     (λ c κs. record { checked = search needs; number = record { low = omega arith; high = omega arith } })
-    (λ c. row-answered _ _ _ _ (record { low = omega arith; high = omega arith; within = omega arith }) (asked c)))
+    (λ c. let a = c .before .before .before .before .before .before .before .before .before .before .before .before .before .before .args in row-answered (a .book .now) (a .questions .now) (rowOf (a .row)) _ (record { low = omega arith; high = omega arith; within = omega arith }) (asked c)))

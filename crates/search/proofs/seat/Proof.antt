@@ -22,7 +22,7 @@ seat-spec =
     (λ c κs. search needs)
     returns
     (λ c. search seat-after)
-    (λ c κs. search seat-fork)
+    (λ c κs. seat-fork (c .before .before .before .before .before .before .before .pre .0) (c .before .depth-of .ensures) (c .if1 .left))
     (λ c κs. search needs)
     (λ c. omega arith)
     (λ c κs. record { searchable = search needs; inside = omega arith })

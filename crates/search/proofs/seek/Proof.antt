@@ -4,7 +4,7 @@
 use Prim.Native.Nat.{_-_}
 use native.Mathlib.Omega.{arith}
 use borrow.Author.Needs.{needs}
-use Rattle.words.specs.Words.{plain}
+use Rattle.format.specs.Marks.{ruleIn}
 use Rattle.format.specs.Spans.{wordsOf}
 use Rattle.descent.specs.Vocabulary.{Seeking}
 use Rattle.descent.proofs.Rows.{seek-end, seek-found, seek-more, seek-start}
@@ -13,7 +13,7 @@ use Rattle.search.proofs.seek.Statement.{statement}
 use Rattle.search.proofs.seek.Tie as tie
 
 abbrev Inv-loop : tie.InvT-loop
-Inv-loop book nodes v s end c₀ c = Seeking (wordsOf plain book) v s c
+Inv-loop book nodes v s end c₀ c = Seeking (wordsOf (ruleIn book) book) v s c
 
 abbrev μ-loop : tie.MeasureT-loop
 μ-loop book nodes v s end c₀ c = end - c
