@@ -16,14 +16,23 @@ ghost use Rattle.merge.specs.Passing.{ListAsk, PassedTo};
 use records::Verdict;
 use shapes::Answer;
 use shapes::Head;
+use symbols::Rule;
 
 // Reads a list that has no limit of its own, and notes nothing.
 fn judge_alone(list: &[u8]) -> Verdict
     ensures { λ r. ⌜ r ≡ verdictOf (readAlone (now (list .entry))) ⌝ }
 {
     let mut lens = [0u8; 0];
+    let mut counts = [0u8; 0];
     let mut shares = [0u8; 0];
-    records::judge(list, list.len(), &mut lens, &mut shares)
+    records::judge(
+        Rule::Plain,
+        list,
+        list.len(),
+        &mut lens,
+        &mut counts,
+        &mut shares,
+    )
 }
 
 // Whether both lists read well: else refusal 5 or 6, the record's number and the list's, the first list's before the second's.
@@ -126,11 +135,11 @@ pub enum Lesser {
 fn lesser_of(x: &[u8], y: &[u8]) -> Lesser
     ensures { λ r. ⌜ LesserSays (now (x .entry)) (now (y .entry)) r ⌝ }
 {
-    let shares = symbols::shared_symbols(x, y);
-    if symbols::is_above(x, y, shares) {
+    let shares = symbols::shared_symbols(Rule::Plain, x, y);
+    if symbols::is_above(Rule::Plain, x, y, shares) {
         return Lesser::First;
     }
-    if symbols::is_above(y, x, shares) {
+    if symbols::is_above(Rule::Plain, y, x, shares) {
         return Lesser::Second;
     }
     Lesser::Both

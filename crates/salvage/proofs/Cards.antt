@@ -1,6 +1,7 @@
 -- Laws of a worn card's map and of its blocks.
 --     mark-told, told-mark      the mark as bytes, and as two numbers
 --     mapped-trail              a map that makes sense has a trailer that passes
+--     mapped-kind, not-plain, is-plain     it is a plain book's
 --     not-trailed, trailed, MapRead, map-read, not-met, table-ask, map-climbs, mapped-is     whether a map makes sense, by the code's tests
 --     mapped-long, mapped-few, mapped-low, mapped-high, mapped-table     what it shows
 --     bound-inner, bound-last   a bound, where the code reads it
@@ -21,21 +22,27 @@ use lib.Dec.{eqb, leb, ltb}
 use lib.ListN.{drop, getD, length, take}
 use lib.Seq.{take-length}
 use borrow.Author.Tests.{eq-eqb, eqb-true, le-leb, leb-true, lt-ltb, ltb-true, not-false, not-true}
-use Rattle.words.specs.Words.{Bytes, InBytes, both, pick, same}
+use Rattle.words.specs.Words.{Bytes, InBytes, both, pick, plain, same}
 use Rattle.words.proofs.Words.{apart, both-true, false≠true, same-refl, same-true}
-use Rattle.format.specs.Book.{mark, number, numbers, told, trailerSize}
+use Rattle.format.specs.Book.{number, numbers, told, trailerSize}
 use Rattle.format.specs.Entries.{decode}
+use Rattle.format.specs.Marks.{PlainBook, kindOf, markOf}
 use Rattle.format.specs.Salvage.{Block, Broken, Whole, blockCount, bounds, climbs, fromZero, judgedAlone, mapped}
 use Rattle.format.proofs.Numbers.{numbers-are, numbers-told}
 use Rattle.format.proofs.Salvage.{bounds-inner, bounds-last, bounds-long, bounds-rise, climbs-end, climbs-next, count-few, count-starts, from-first, span-at, whole-alone, whole-tells}
 use Rattle.answers.specs.Salvage.{cardBlocks, reported}
 use Rattle.answers.proofs.Salvage.{Mapped, block-at, blocks-many, mapped-parts}
 use Rattle.numbers.proofs.Parts.{Held, held-bytes}
+use Rattle.symbols.specs.Rules.{kindBy}
+use Rattle.symbols.specs.declared.Rule.{Rule as ByRule}
+use Rattle.symbols.specs.declared.Rule.the-variants.{Folded, Plain}
+use Rattle.symbols.proofs.Symbols.{kind-by}
+use Rattle.trailer.proofs.Telling.{mark-kind}
 use Rattle.trailer.specs.Trailer.{Trail, TrailSays, markBack, markFront, trailerIn}
 use Rattle.trailer.specs.declared.Trailer.{Trailer}
 use Rattle.streams.proofs.Alone.{alone-run, run-alone}
 use Rattle.entries.specs.Judging.{BlockSays}
-use Rattle.salvage.specs.Cards.{BlockAsk, SpanIs, Table, WholeSays}
+use Rattle.salvage.specs.Cards.{BlockAsk, PlainSays, SpanIs, Table, WholeSays}
 
 -- ---- the trailer
 
@@ -47,28 +54,31 @@ module _ (s : Bytes) (long : trailerSize ≤ length s) where
   place : (i : ℕ) → number s (length s - trailerSize + 2 * (6 + i)) ≡ number s (end + 2 * i)
   place i = let there : length s - trailerSize + 2 * (6 + i) ≡ end + 2 * i = omega arith in ap (number s) there
 
-  pub told-mark : InBytes s → told s 6 ≡ markFront → told s 7 ≡ markBack → same (drop end s) mark ≡ true
+  pub told-mark : InBytes s → told s 6 ≡ markFront → told s 7 ≡ markBack PlainBook → same (drop end s) (markOf PlainBook) ≡ true
   unfolding numbers
   told-mark bytes front back =
-      let are : drop end s ≡ mark = ap (drop end) (sym (take-length s)) ∙ numbers-are s bytes (markFront ∷ markBack ∷ []) end (length s) (omega arith) (omega arith) at in
-      rw are (same-refl mark)
+      let are : drop end s ≡ markOf PlainBook = ap (drop end) (sym (take-length s)) ∙ numbers-are s bytes (markFront ∷ markBack PlainBook ∷ []) end (length s) (omega arith) (omega arith) at in
+      rw are (same-refl (markOf PlainBook))
     where
-      at : (i : ℕ) → i < 2 → number s (end + 2 * i) ≡ getD (markFront ∷ markBack ∷ []) i 0
+      at : (i : ℕ) → i < 2 → number s (end + 2 * i) ≡ getD (markFront ∷ markBack PlainBook ∷ []) i 0
       at zero h = sym (place 0) ∙ front
       at (suc zero) h = sym (place 1) ∙ back
       at (suc (suc i)) h = absurd (omega arith)
 
-  pub mark-told : same (drop end s) mark ≡ true → (told s 6 ≡ markFront) × (told s 7 ≡ markBack)
+  pub mark-told : same (drop end s) (markOf PlainBook) ≡ true → (told s 6 ≡ markFront) × (told s 7 ≡ markBack PlainBook)
   unfolding numbers
   mark-told e =
-      let are : drop end (take (length s) s) ≡ numbers (markFront ∷ markBack ∷ []) = ap (drop end) (take-length s) ∙ same-true (drop end s) mark e in
-      let at : (i : ℕ) → i < 2 → getD (markFront ∷ markBack ∷ []) i 0 < 65536 → number s (end + 2 * i) ≡ getD (markFront ∷ markBack ∷ []) i 0 =
-      numbers-told s (markFront ∷ markBack ∷ []) end (length s) (omega arith) (omega arith) are in
+      let are : drop end (take (length s) s) ≡ numbers (markFront ∷ markBack PlainBook ∷ []) = ap (drop end) (take-length s) ∙ same-true (drop end s) (markOf PlainBook) e in
+      let at : (i : ℕ) → i < 2 → getD (markFront ∷ markBack PlainBook ∷ []) i 0 < 65536 → number s (end + 2 * i) ≡ getD (markFront ∷ markBack PlainBook ∷ []) i 0 =
+      numbers-told s (markFront ∷ markBack PlainBook ∷ []) end (length s) (omega arith) (omega arith) are in
       (place 0 ∙ at 0 (omega arith) (omega arith), place 1 ∙ at 1 (omega arith) (omega arith))
 
 number-fits : (s : Bytes) → InBytes s → (o : ℕ) → number s o < 65536
 unfolding number
 number-fits s bytes o = omega (arith, bytes o, bytes (o + 1))
+
+pub mapped-kind : {s : Bytes} → InBytes s → Mapped s → kindOf s ≡ PlainBook
+mapped-kind {s} bytes m = mark-kind s (m .sized) bytes PlainBook (mark-told s (m .sized) (m .marked) .1)
 
 pub mapped-trail : {s : Bytes} → InBytes s → Mapped s → Trail s
 mapped-trail {s} bytes m =
@@ -84,7 +94,7 @@ mapped-trail {s} bytes m =
       total = omega (arith, m .nodes);
       whole = m .long;
       front = marks .0;
-      back = marks .1;
+      back = marks .1 ∙ ap markBack (sym (mapped-kind bytes m));
     }
 
 -- a Boolean that cannot be true
@@ -100,16 +110,34 @@ pub trailed : (s : Bytes) (r : Bool) → TrailSays s r → not r ≡ false → T
 trailed s true says h = says
 trailed s false says h = absurd (false≠true (sym h))
 
+pub plain-kind : (r : ByRule) → r ≡ Plain → kindBy r ≡ PlainBook
+plain-kind r e = ap kindBy e
+
+pub folded-kind : (r : ByRule) → r ≡ Folded → kindBy r ≡ PlainBook → ⊥
+folded-kind r e h = absurd (lt-irrefl 0 (omega (arith, ap markBack (sym (ap kindBy e) ∙ h))))
+
+-- the mark is not a plain book's
+pub not-plain : (s : Bytes) (t : Trailer) → Held s → t ≡ trailerIn s → (r : Bool) → PlainSays (kindBy (t .rule)) r → not r ≡ true → false ≡ mapped s
+not-plain s t held e true says h = absurd (false≠true h)
+not-plain s t held e false says h =
+    no-map (mapped s) (λ m. says (ap (λ (x : Trailer). kindBy (x .rule)) e ∙ kind-by (kindOf s) ∙ mapped-kind (held-bytes s held) (mapped-parts s m)))
+
+pub is-plain : (s : Bytes) (t : Trailer) → t ≡ trailerIn s → (r : Bool) → PlainSays (kindBy (t .rule)) r → not r ≡ false → kindOf s ≡ PlainBook
+is-plain s t e true says h = sym (ap (λ (x : Trailer). kindBy (x .rule)) e ∙ kind-by (kindOf s)) ∙ says
+is-plain s t e false says h = absurd (false≠true (sym h))
+
 -- the numbers that the code has read
 pub record MapRead (s : Bytes) (table count nodes : ℕ) : Type 0 where
   pub trail : Trail s
+  pub plain : kindOf s ≡ PlainBook
   pub table-is : table ≡ told s 2
   pub count-is : count ≡ blockCount (told s 0) (told s 1)
   pub nodes-is : nodes ≡ told s 3
 
-pub map-read : {s : Bytes} {t : Trailer} {n k table count nodes : ℕ} → Trail s → t ≡ trailerIn s → n ≡ t .names → k ≡ t .block → table ≡ t .blocks → nodes ≡ t .nodes → count ≡ blockCount n k → MapRead s table count nodes
-map-read trail e ne ke te ue ce = record {
+pub map-read : {s : Bytes} {t : Trailer} {n k table count nodes : ℕ} → Trail s → kindOf s ≡ PlainBook → t ≡ trailerIn s → n ≡ t .names → k ≡ t .block → table ≡ t .blocks → nodes ≡ t .nodes → count ≡ blockCount n k → MapRead s table count nodes
+map-read trail plain e ne ke te ue ce = record {
   trail = trail;
+  plain = plain;
   table-is = te ∙ ap (λ (t : Trailer). t .blocks) e;
   count-is = ce ∙ ap₂ blockCount (ne ∙ ap (λ (t : Trailer). t .names) e) (ke ∙ ap (λ (t : Trailer). t .block) e);
   nodes-is = ue ∙ ap (λ (t : Trailer). t .nodes) e;
@@ -130,7 +158,7 @@ module _ {s : Bytes} {table count nodes : ℕ} (w : MapRead s table count nodes)
     unfolding mapped
     map-climbs held e =
         let t = w .trail in
-        rw (le-leb trailerSize (length s) (t .long), le-leb (told s 0) 2000 (t .few), le-leb 1 (told s 1) (t .low), le-leb (told s 1) 64 (t .high), eq-eqb (told s 2 + 2 * blockCount (told s 0) (told s 1)) (told s 3) size, eq-eqb (told s 3 + 12 * told s 4 + trailerSize) (length s) (omega (arith, t .total)), eq-eqb (told s 5) (length s) (t .whole), told-mark s (t .long) (held-bytes s held) (t .front) (t .back))
+        rw (le-leb trailerSize (length s) (t .long), le-leb (told s 0) 2000 (t .few), le-leb 1 (told s 1) (t .low), le-leb (told s 1) 64 (t .high), eq-eqb (told s 2 + 2 * blockCount (told s 0) (told s 1)) (told s 3) size, eq-eqb (told s 3 + 12 * told s 4 + trailerSize) (length s) (omega (arith, t .total)), eq-eqb (told s 5) (length s) (t .whole), told-mark s (t .long) (held-bytes s held) (t .front) (t .back ∙ ap markBack (w .plain)))
         e
 
 pub mapped-is : (s : Bytes) {m : Bool} → m ≡ mapped s → not m ≡ false → mapped s ≡ true
@@ -255,7 +283,7 @@ module _ {s : Bytes} {i : ℕ} (ask : BlockAsk s i) where
   block-is {start} {end} {names} k = block-at s i (ask .within) ∙ ap (λ (b : ℕ × Bytes). judgedAlone (b .0) (b .1)) (k .is)
 
 -- whether a block is whole, by what the check of it says
-pub whole-says : (s : Bytes) (start end names : ℕ) → start ≤ end → end ≤ length s → (r : Bool) (name : Bytes) (len : ℕ) → BlockSays s start end names r name len → WholeSays s start end names r
+pub whole-says : (s : Bytes) (start end names : ℕ) → start ≤ end → end ≤ length s → (r : Bool) (name : Bytes) (len : ℕ) → BlockSays plain s start end names r name len → WholeSays s start end names r
 whole-says s start end names o h true name len says = whole-tells names (take (end - start) (drop start s)) _ (run-alone s start end names h _ says)
 whole-says s start end names o h false name len says = broken (judgedAlone names (take (end - start) (drop start s))) refl
   where

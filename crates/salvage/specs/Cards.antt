@@ -2,16 +2,18 @@
 --     Table             the block table lies where the trailer says, and has a bound of number i
 --     BlockAsk          the map makes sense, and there is a block of number i
 --     SpanIs            where block i stands, and how many names it should have
+--     PlainSays         whether a kind of book is the plain one
 --     WholeAsk, WholeSays     a span inside the bytes; whether its block, judged alone, is whole
 -- The laws are in proofs/Cards.antt. Assumes nothing: these are definitions.
 use Prim.Native.Nat.{ℕ, _+_, _-_, _*_, _<_, _≤_}
 use mathlib.Core.Path.{_≡_}
-use mathlib.Core.Bool.{Bool, true}
+use mathlib.Core.Bool.{Bool, false, true}
 use mathlib.Core.List.{[]}
 use lib.ListN.{drop, getD, length, take}
 use Rattle.words.specs.Words.{Bytes, pick}
 use Rattle.format.specs.Book.{told, trailerSize}
 use Rattle.format.specs.Entries.{decode}
+use Rattle.format.specs.Marks.{BookKind, PlainBook}
 use Rattle.format.specs.Salvage.{Broken, Whole, blockCount, judgedAlone, mapped, spans}
 use Rattle.answers.specs.Salvage.{cardBlocks}
 
@@ -33,6 +35,10 @@ pub record SpanIs (s : Bytes) (i start end names : ℕ) : Type 0 where
 pub record WholeAsk (s : Bytes) (start end : ℕ) : Type 0 where
   pub order : start ≤ end
   pub inside : end ≤ length s
+
+abbrev pub PlainSays : BookKind → Bool → Type 0
+PlainSays κ true = κ ≡ PlainBook
+PlainSays κ false = κ ≡ PlainBook → ⊥
 
 -- its names are those that its bytes tell
 abbrev pub WholeSays : Bytes → ℕ → ℕ → ℕ → Bool → Type 0

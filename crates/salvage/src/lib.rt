@@ -10,11 +10,13 @@ ghost use Rattle.format.specs.Salvage.{Broken, blockCount, bounds, fromZero, ma
 ghost use Rattle.answers.specs.Salvage.{cardBlocks, recordsIn, reported, savedRecords};
 ghost use Rattle.shapes.specs.Salvage.{keptRow};
 ghost use Rattle.shapes.specs.Shapes.{written};
-ghost use Rattle.salvage.specs.Cards.{BlockAsk, SpanIs, Table, WholeAsk, WholeSays};
+ghost use Rattle.symbols.specs.Rules.{kindBy};
+ghost use Rattle.salvage.specs.Cards.{BlockAsk, PlainSays, SpanIs, Table, WholeAsk, WholeSays};
 ghost use Rattle.salvage.specs.Saving.{BytesPut, NamesAsk, NamesPut, savedOf};
 use entries::Cursor;
 use shapes::Answer;
 use shapes::Kept;
+use symbols::Rule;
 
 // A block's span, and how many names it should have.
 pub struct Span {
@@ -65,6 +67,16 @@ fn blocks_for(n: usize, k: usize) -> usize
     (n + (k - 1)) / k
 }
 
+// Whether a card is a plain book's, by its rule: no other has a map.
+fn is_plain(rule: Rule) -> bool
+    ensures { λ r. ⌜ PlainSays (kindBy rule) r ⌝ }
+{
+    match rule {
+        Rule::Plain => true,
+        Rule::Folded => false,
+    }
+}
+
 // Whether the trailer and the block table make sense.
 fn is_mapped(card: &[u8]) -> bool
     ensures { λ r. ⌜ r ≡ mapped (now (card .entry)) ⌝ }
@@ -73,6 +85,10 @@ fn is_mapped(card: &[u8]) -> bool
         return false;
     }
     let t = trailer::read(card);
+    let rule = t.rule;
+    if !is_plain(rule) {
+        return false;
+    }
     let table = numbers::wide16(t.blocks);
     let count = blocks_for(numbers::wide16(t.names), numbers::wide16(t.block));
     if table + 2 * count != numbers::wide16(t.nodes) {
@@ -113,7 +129,14 @@ fn is_whole(card: &[u8], span: Span) -> bool
     ensures { λ r. ⌜ WholeSays (now (card .entry)) (span .start) (span .end) (span .names) r ⌝ }
 {
     let mut name = [0u8; 200];
-    let last = entries::check_block(card, span.start, span.end, span.names, &mut name);
+    let last = entries::check_block(
+        Rule::Plain,
+        card,
+        span.start,
+        span.end,
+        span.names,
+        &mut name,
+    );
     last.ok
 }
 

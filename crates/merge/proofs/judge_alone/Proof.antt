@@ -6,8 +6,8 @@ use Rattle.merge.proofs.judge_alone.Statement.{statement}
 use Rattle.merge.proofs.judge_alone.Tie as tie
 
 returns : tie.Need-returns
-returns c = verdict-is _ _ _ _ _ (c .before .before .judge .ensures)
+returns c = verdict-is _ _ _ _ _ _ _ (c .before .before .before .judge .ensures)
 
 pub judge-alone-spec : {M : Type 1} → statement M
 judge-alone-spec =
-    tie.close (tie.spec (λ c. search needs) (λ c. search needs) (λ c κs. search needs) returns)
+    tie.close (tie.spec (λ c. search needs) (λ c. search needs) (λ c. search needs) (λ c κs. search needs) returns)

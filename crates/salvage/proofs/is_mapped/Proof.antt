@@ -5,7 +5,7 @@ use mathlib.Core.Path.{ap}
 use borrow.Author.Needs.{needs}
 use Rattle.trailer.specs.Trailer.{Trail}
 use Rattle.trailer.specs.declared.Trailer.{Trailer}
-use Rattle.salvage.proofs.Cards.{MapRead, map-climbs, map-read, not-met, not-trailed, table-ask, trailed}
+use Rattle.salvage.proofs.Cards.{MapRead, is-plain, map-climbs, map-read, not-met, not-plain, not-trailed, table-ask, trailed}
 use Rattle.salvage.proofs.is_mapped.Statement.{statement}
 use Rattle.salvage.proofs.is_mapped.Tie as tie
 
@@ -14,12 +14,13 @@ passed : (c : tie.Else1) → Trail (c .before .before .before .args .card .now)
 passed c = trailed _ (c .before .is-trailer .result) (c .before .is-trailer .ensures) (c .if1 .left)
 
 -- the numbers are read
-five : (c : tie.After-wide164) → let a = c .before .before .before .before .before .before .before .before .before .args in
+five : (c : tie.After-wide164) → let a = c .before .before .before .before .before .before .before .before .before .before .before .args in
     MapRead (a .card .now) (c .before .before .before .before .wide16 .result) (c .before .blocks-for .result) (c .wide164 .result)
 five c =
     let k = c .before .before in
-    let read = k .before .before .before in
-    map-read (passed (read .before)) (read .read .ensures) (k .before .wide162 .ensures .0) (k .wide163 .ensures .0) (k .before .before .wide16 .ensures .0) (c .wide164 .ensures .0) (c .before .blocks-for .ensures .0)
+    let kind = k .before .before .before in
+    let read = kind .before .before in
+    map-read (passed (read .before)) (is-plain _ _ (read .read .ensures) (kind .before .is-plain .result) (kind .before .is-plain .ensures) (kind .if2 .left)) (read .read .ensures) (k .before .wide162 .ensures .0) (k .wide163 .ensures .0) (k .before .before .wide16 .ensures .0) (c .wide164 .ensures .0) (c .before .blocks-for .ensures .0)
 
 pub is-mapped-spec : {M : Type 1} → statement M
 is-mapped-spec =
@@ -29,10 +30,12 @@ is-mapped-spec =
     (λ c. search not-trailed)
     (λ c κs. passed c .long)
     (λ c κs. search needs)
+    (λ c. search not-plain)
+    (λ c κs. search needs)
     (λ c κs. search needs)
     (λ c κs. search needs)
     (λ c κs.
-    let read = c .before .before .before in
+    let read = c .before .before .before .before .before in
     let t = passed (read .before) in
     let names = ap (λ (t : Trailer). t .names) (read .read .ensures) in
     let block = ap (λ (t : Trailer). t .block) (read .read .ensures) in
@@ -40,6 +43,6 @@ is-mapped-spec =
     (λ c. search needs)
     (λ c. search needs)
     (λ c κs. search needs)
-    (λ c. not-met (five (c .before)) (c .if2 .taken))
-    (λ c κs. table-ask (five (c .before)) (c .if2 .left))
-    (λ c. map-climbs (five (c .before .before)) (c .before .if2 .left) (search needs) (c .starts-rise .ensures)))
+    (λ c. not-met (five (c .before)) (c .if3 .taken))
+    (λ c κs. table-ask (five (c .before)) (c .if3 .left))
+    (λ c. map-climbs (five (c .before .before)) (c .before .if3 .left) (search needs) (c .starts-rise .ensures)))
