@@ -1,5 +1,4 @@
 -- Laws of the public calls.
-pub mod Building
 pub mod Reading
 pub mod Filling
 pub mod Batching

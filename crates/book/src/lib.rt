@@ -1,13 +1,15 @@
 // The public calls. None asks anything of its caller: any bytes, any numbers and any lengths are taken, and every call ends. Each has
 // one statement: its answer and all that was lent, as they are when it ends, equal a function of what came in. They are exported for C
-// and Rust; a slice is a pointer and a length. Inner functions, which may ask something, stand in the crates below.
+// and Rust; a slice is a pointer and a length. A call over a book goes by the rule of the book's own mark, which its statement names. Inner
+// functions, which may ask something, stand in the crates below.
 pub use shapes::Answer;
 pub use shapes::Head;
 pub use shapes::Kept;
 pub use shapes::Row;
+use symbols::Rule;
 ghost use mathlib.Core.Path.{_≡_};
 ghost use mathlib.Core.List.{map};
-ghost use Rattle.words.specs.Words.{plain};
+ghost use Rattle.format.specs.Marks.{FoldedBook, PlainBook, kindOf};
 ghost use Rattle.answers.specs.Calls.{batch, build, check, question as askedOf, readBack};
 ghost use Rattle.answers.specs.Heads.{headOf, partOf};
 ghost use Rattle.answers.specs.Merging.{judgeLists, mergeLists};
@@ -19,37 +21,23 @@ ghost use Rattle.shapes.specs.Shapes.{answered, rowOf, batched, written};
 // Builds the book of a list with blocks of so many names, at the front of the room. Refusals: 8; record by record 5, 6, 7; 9; 4.
 #[no_mangle]
 pub extern "C" fn book_build(list: &[u8], block: usize, room: &mut [u8]) -> Answer
-    ensures { λ r. ⌜ written r (now (room .exit)) ≡ build plain (now (list .entry)) block (now (room .entry)) ⌝ }
+    ensures { λ r. ⌜ written r (now (room .exit)) ≡ build PlainBook (now (list .entry)) block (now (room .entry)) ⌝ }
 {
-    if block == 0 {
-        return shapes::refuse(8, 0);
-    }
-    if 64 < block {
-        return shapes::refuse(8, 0);
-    }
-    let mut lens = [0u8; 2000];
-    let mut shares = [0u8; 2000];
-    let verdict = records::judge(list, 2000, &mut lens, &mut shares);
-    match verdict {
-        records::Verdict::Bad(code, record) => shapes::refuse(code, record),
-        records::Verdict::Good(n) => {
-            let built = build::build_judged(list, n, &lens, &shares, block, room);
-            match built {
-                build::Built::Refused(code) => shapes::refuse(code, 0),
-                build::Built::Written(total) => Answer {
-                    code: 0,
-                    first: total,
-                    second: 0,
-                },
-            }
-        }
-    }
+    build::build_list(Rule::Plain, list, block, room)
+}
+
+// Builds the folded book, in which capital and small letters are one symbol: 6 is also given for names that are equal once folded.
+#[no_mangle]
+pub extern "C" fn book_build_folded(list: &[u8], block: usize, room: &mut [u8]) -> Answer
+    ensures { λ r. ⌜ written r (now (room .exit)) ≡ build FoldedBook (now (list .entry)) block (now (room .entry)) ⌝ }
+{
+    build::build_list(Rule::Folded, list, block, room)
 }
 
 // Whether bytes are a book: then how many names it has, in blocks of how many. Refusal: 2.
 #[no_mangle]
 pub extern "C" fn book_check(book: &[u8]) -> Answer
-    ensures { λ r. ⌜ answered r ≡ check plain (now (book .entry)) ⌝ }
+    ensures { λ r. ⌜ answered r ≡ check (kindOf (now (book .entry))) (now (book .entry)) ⌝ }
 {
     if !accept::is_book(book) {
         return shapes::refuse(2, 0);
@@ -65,7 +53,7 @@ pub extern "C" fn book_check(book: &[u8]) -> Answer
 // The name at a position of a book, at the front of the room. Refusals: 2, 3, 4.
 #[no_mangle]
 pub extern "C" fn book_read(book: &[u8], position: usize, room: &mut [u8]) -> Answer
-    ensures { λ r. ⌜ written r (now (room .exit)) ≡ readBack plain (now (book .entry)) position (now (room .entry)) ⌝ }
+    ensures { λ r. ⌜ written r (now (room .exit)) ≡ readBack (kindOf (now (book .entry))) (now (book .entry)) position (now (room .entry)) ⌝ }
 {
     let checked = accept::check_book(book);
     match checked {
@@ -90,7 +78,7 @@ pub extern "C" fn book_read(book: &[u8], position: usize, room: &mut [u8]) -> An
 // The position of the name that equals the question, and 1; or 0 and 0. Refusals: 2, 1.
 #[no_mangle]
 pub extern "C" fn book_exact(book: &[u8], question: &[u8]) -> Answer
-    ensures { λ r. ⌜ answered r ≡ askedOf plain 1 (now (book .entry)) (now (question .entry)) ⌝ }
+    ensures { λ r. ⌜ answered r ≡ askedOf (kindOf (now (book .entry))) 1 (now (book .entry)) (now (question .entry)) ⌝ }
 {
     questions::ask_alone(book, 1, question)
 }
@@ -98,7 +86,7 @@ pub extern "C" fn book_exact(book: &[u8], question: &[u8]) -> Answer
 // How many names are less than the question. Refusals: 2, 1.
 #[no_mangle]
 pub extern "C" fn book_place(book: &[u8], question: &[u8]) -> Answer
-    ensures { λ r. ⌜ answered r ≡ askedOf plain 2 (now (book .entry)) (now (question .entry)) ⌝ }
+    ensures { λ r. ⌜ answered r ≡ askedOf (kindOf (now (book .entry))) 2 (now (book .entry)) (now (question .entry)) ⌝ }
 {
     questions::ask_alone(book, 2, question)
 }
@@ -106,7 +94,7 @@ pub extern "C" fn book_place(book: &[u8], question: &[u8]) -> Answer
 // The question's place, and how many names begin with it. Refusals: 2, 1.
 #[no_mangle]
 pub extern "C" fn book_range(book: &[u8], question: &[u8]) -> Answer
-    ensures { λ r. ⌜ answered r ≡ askedOf plain 3 (now (book .entry)) (now (question .entry)) ⌝ }
+    ensures { λ r. ⌜ answered r ≡ askedOf (kindOf (now (book .entry))) 3 (now (book .entry)) (now (question .entry)) ⌝ }
 {
     questions::ask_alone(book, 3, question)
 }
@@ -114,7 +102,7 @@ pub extern "C" fn book_range(book: &[u8], question: &[u8]) -> Answer
 // The position of a name that is as near as any, and how many leading bytes it shares with the question. Refusals: 2, 1, 10.
 #[no_mangle]
 pub extern "C" fn book_nearest(book: &[u8], question: &[u8]) -> Answer
-    ensures { λ r. ⌜ answered r ≡ askedOf plain 4 (now (book .entry)) (now (question .entry)) ⌝ }
+    ensures { λ r. ⌜ answered r ≡ askedOf (kindOf (now (book .entry))) 4 (now (book .entry)) (now (question .entry)) ⌝ }
 {
     questions::ask_alone(book, 4, question)
 }
@@ -122,7 +110,7 @@ pub extern "C" fn book_nearest(book: &[u8], question: &[u8]) -> Answer
 // The greatest length of the names that begin with the question; 0 where none does. Refusals: 2, 1.
 #[no_mangle]
 pub extern "C" fn book_width(book: &[u8], question: &[u8]) -> Answer
-    ensures { λ r. ⌜ answered r ≡ askedOf plain 5 (now (book .entry)) (now (question .entry)) ⌝ }
+    ensures { λ r. ⌜ answered r ≡ askedOf (kindOf (now (book .entry))) 5 (now (book .entry)) (now (question .entry)) ⌝ }
 {
     questions::ask_alone(book, 5, question)
 }
@@ -135,7 +123,7 @@ pub extern "C" fn book_batch(
     rows: &[Row],
     answers: &mut [Answer],
 ) -> Answer
-    ensures { λ r. ⌜ batched r (now (answers .exit)) ≡ batch plain (now (book .entry)) (now (questions .entry)) (map rowOf (now (rows .entry))) (map answered (now (answers .entry))) ⌝ }
+    ensures { λ r. ⌜ batched r (now (answers .exit)) ≡ batch (kindOf (now (book .entry))) (now (book .entry)) (now (questions .entry)) (map rowOf (now (rows .entry))) (map answered (now (answers .entry))) ⌝ }
 {
     let opening = questions::open_batch(book, rows.len(), answers.len());
     if opening.answer.code != 0 {

@@ -54,7 +54,7 @@ use denote.Triple.Statement.{Contract, Triple}
 use denote.Triple.Table.{entered, cited}
 use denote.Triple.Walked.{says, Stays, stay-dropped, stay-slice, walkOf, goes-dropped, goes-slice, Walks, ends-at, walked, walk-meets}
 use denote.Exit.{yes}
-use Rattle.words.specs.Words.{plain}
+use Rattle.format.specs.Marks.{kindOf, ruleIn}
 use Rattle.format.specs.Book.{opened}
 use Rattle.answers.specs.Calls.{batch, rowAnswer}
 use Rattle.shapes.specs.Shapes.{answered, rowOf, batched}
@@ -65,6 +65,8 @@ use Rattle.shapes.proofs.Row as R
 use Rattle.shapes.proofs.Row.Laws as R′
 use Rattle.shapes.proofs.Answer as P
 use Rattle.shapes.proofs.Answer.Laws as P′
+use Rattle.symbols.specs.declared.Rule.{Rule}
+use Rattle.symbols.specs.declared.Rule.the-variants.{Folded, Plain}
 use Rattle.questions.specs.Asking.{Accepted}
 use Rattle.questions.specs.declared.Opening.{Opening}
 use Rattle.questions.proofs.Opening as O
@@ -85,6 +87,15 @@ use Rattle.book.proofs.book_batch as f
 use Rattle.book.proofs.book_batch.Statement as stated
 use Rattle.book.proofs.book_batch.Code as code
 use Rattle.book.proofs.book_batch.Code.Mir as mir′
+
+-- an opening as the machine has it: the rule in its trailer is a case of an enum, and each case computes
+vals-are : (o : Opening) → LL.vals O.the-type O′.the-laws o ≡ O′.lowered o ∷ []
+vals-are o = by-rule (o .answer) (o .trailer .names) (o .trailer .block) (o .trailer .blocks) (o .trailer .nodes) (o .trailer .count) (o .trailer .rule)
+  where
+    by-rule : (a : Answer) (n k s u m : ℕ) (r : Rule) → let x : Opening = record { answer = a; trailer = record { names = n; block = k; blocks = s; nodes = u; count = m; rule = r } } in
+        LL.vals O.the-type O′.the-laws x ≡ O′.lowered x ∷ []
+    by-rule a n k s u m Plain = refl
+    by-rule a n k s u m Folded = refl
 
 abbrev stayed : Stays (f.ended .signature .params) (f.ended .kept)
 stayed = (stay-dropped (shrSliceOf (0 ∷ []) tt (plainOf (λ _. u8))) yes, (stay-dropped (shrSliceOf (1 ∷ []) tt (plainOf (λ _. u8))) yes, (stay-dropped (shrSliceOf (2 ∷ []) tt (plainOf (λ _. R.the-row))) yes, (stay-slice (3 ∷ []) tt (plainOf (λ _. P.the-row)), tt))))
@@ -166,7 +177,7 @@ module _ {M : Type 1} (𝓤 : URA M) (H : Heap 𝓤) (A : Atoms 𝓤) (W : Given
   Obs l = fobs aγ (codedHoleys P.the-row .code (heres P.the-row l))
 
   exits : Is P.the-row (start .answer) (P′.lowered (start .answer) ∷ []) → (l : List Answer) → length l ≡ length old
-      → batched (start .answer) l ≡ batch plain (now book) (now qs) (map rowOf rs) (map answered old)
+      → batched (start .answer) l ≡ batch (kindOf (now book)) (now book) (now qs) (map rowOf rs) (map answered old)
       → ent 𝓤 (⋆ 𝓤 H A (‵ (Obs l) ∷ ‵ (fbor κa (Held P.the-row (length l) ab ao aγ)) ∷ ‵ (flft κa qa) ∷ ‵ (flft κr qr) ∷ ‵ (flft κb qb) ∷ ‵ (flft κq qq) ∷ [])) (Post (P′.lowered (start .answer)))
   exits is l len e =
       qed W (‵ (Obs l) ∷ ‵ (fbor κa (Held P.the-row (length l) ab ao aγ)) ∷ ‵ (flft κa qa) ∷ ‵ (flft κr qr) ∷ ‵ (flft κb qb) ∷ ‵ (flft κq qq) ∷ []) ∵
@@ -213,7 +224,7 @@ module _ {M : Type 1} (𝓤 : URA M) (H : Heap 𝓤) (A : Atoms 𝓤) (W : Given
       known = qed W (raw (onEntry 𝓤 H A answers.signature (κb, (κq, tt)) (qb, (qq, tt)) (book, (start, (qs, (d, tt)))) (vb ∷ [], (O′.lowered start ∷ [], (vq ∷ [], (R′.lowered d ∷ [], tt))))) ∷ []) ∵ says ! accepted $ done !
 
   abbrev Said : Row → Answer → Type 0
-  Said d r = answered r ≡ rowAnswer plain (opened plain (now book)) (now qs) (rowOf d)
+  Said d r = answered r ≡ rowAnswer (ruleIn (now book)) (opened (kindOf (now book)) (now book)) (now qs) (rowOf d)
 
   said-answer : (d : Row) (r : Answer) → ent 𝓤 (ensured 𝓤 H A answers.ended (answers.clauses 𝓤 H A mem run) (κb, (κq, tt)) (book, (start, (qs, (d, tt)))) tt r) (fact 𝓤 (Said d r))
   said-answer d r = exE 𝓤 _ (λ ws. snd∗ 𝓤 (sem 𝓤 H A (lasts answers.ended (κb, (κq, tt)) (book, (start, (qs, (d, tt)))) ws)) (fact 𝓤 (Said d r)))
@@ -354,7 +365,7 @@ module _ {M : Type 1} (𝓤 : URA M) (H : Heap 𝓤) (A : Atoms 𝓤) (W : Given
         looped (is-o v is-v) l₀ l₁ l₂ l₃ l₄ l₅ l₆ l₇ l₈ l₉ l₁₀ l₁₁ l₁₂ l₁₃ l₁₄ l₁₅ l₁₆ (eqb→eq (start .answer .code) 0 (not-not (eqb (start .answer .code) 0) ok))))))))))))))))))))))))
       where
         tells-o : (v : Val) → Is O.the-row start (v ∷ []) → v ∷ [] ≡ O′.lowered start ∷ []
-        tells-o v is-v = LL.tells O.the-type O′.the-laws start (v ∷ []) is-v
+        tells-o v is-v = LL.tells O.the-type O′.the-laws start (v ∷ []) is-v ∙ vals-are start
 
         is-o : (v : Val) → Is O.the-row start (v ∷ []) → Is O.the-row start (O′.lowered start ∷ [])
         is-o v is-v = subst (Is O.the-row start) (tells-o v is-v) is-v
