@@ -23,4 +23,9 @@ fn main() {
     walk::run(Call::Ask, b"dearest.cases", &mut file);
     walk::run(Call::Batch, b"batch.cases", &mut file);
     walk::run(Call::Merge, b"merge.cases", &mut file);
+    walk::run(Call::BuildFolded, b"folded_build.cases", &mut file);
+    walk::run(Call::Check, b"folded_check.cases", &mut file);
+    walk::run(Call::Read, b"folded_read.cases", &mut file);
+    walk::run(Call::Ask, b"folded_ask.cases", &mut file);
+    walk::run(Call::Batch, b"folded_batch.cases", &mut file);
 }

@@ -15,6 +15,7 @@ use crate::reading;
 // What the cases of a file call.
 pub enum Call {
     Build,
+    BuildFolded,
     Check,
     Read,
     Ask,
@@ -29,7 +30,11 @@ fn run_one(call: Call, number: usize, file: &[u8], before: Place) -> Place
 {
     match call {
         Call::Build => {
-            let next = building::run_one(number, file, before.next);
+            let next = building::run_one(false, number, file, before.next);
+            places::without_book(before, next)
+        }
+        Call::BuildFolded => {
+            let next = building::run_one(true, number, file, before.next);
             places::without_book(before, next)
         }
         Call::Check => {

@@ -1,10 +1,23 @@
 // Runs the listing where `list_book` does not, and the gate holds what it prints to the file `stdout`: bytes that are no book, a book
-// without names, and a book of names with bytes that are escaped.
+// without names, a book of names with bytes that are escaped, and a folded book, whose counts are of bytes.
+ghost use mathlib.Core.Path.{_≡_};
+ghost use Prim.Native.Nat.{_≤_};
+ghost use lib.ListN.{length};
+
+// Builds a book of either kind.
+fn build_kind(folded: bool, records: &[u8], block: usize, room: &mut [u8]) -> book::Answer
+    ensures { λ r. ⌜ (r .code ≡ 0 → r .first ≤ length (now (room .exit))) ⌝ }
+{
+    if folded {
+        return book::book_build_folded(records, block, room);
+    }
+    book::book_build(records, block, room)
+}
 
 // Lists the book of records in blocks of so many names.
-fn list_built(records: &[u8], block: usize) {
+fn list_built(folded: bool, records: &[u8], block: usize) {
     let mut room = [0u8; 500];
-    let answer = book::book_build(records, block, &mut room);
+    let answer = build_kind(folded, records, block, &mut room);
     let code = answer.code;
     let first = answer.first;
     if code == 0 {
@@ -16,6 +29,7 @@ fn main() {
     let escaped = b"\x04\x00\x1F ~\x05\x00\x1F ~\x7F\x03A\\B\x04\xC3\x87ay\x01\xFF";
     listing::list(b"");
     listing::list(b"\x03Mar\x06Marina");
-    list_built(b"", 64);
-    list_built(escaped, 3);
+    list_built(false, b"", 64);
+    list_built(false, escaped, 3);
+    list_built(true, b"\x03mar\x06Marina\x0DMARKET Square", 4);
 }

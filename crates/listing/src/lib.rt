@@ -1,9 +1,11 @@
 // The listing of a book, on standard output: a line of numbers, then a line for each name. Whatever bytes come, it is safe and ends.
 // The book is checked once, by `accept::check_book`; then each name is read by `names::read_name`, which trusts what the check has
-// shown. What an entry stores is not told with its name, so the stored count is made of the name before.
+// shown. What an entry stores is not told with its name, so the stored count is made of the name before: it is a count of bytes in every
+// book, and by the plain rule symbols are equal just where bytes are.
 ghost use Prim.Native.Nat.{ℕ, _<_};
 ghost use Rattle.names.specs.Names.{PositionAsk};
 use libc::STDOUT_FILENO;
+use symbols::Rule;
 
 // A number, after a word or a space.
 fn say(before: &[u8], number: usize) {
@@ -49,7 +51,7 @@ fn say_line(position: usize, k: usize, before: &[u8], name: &[u8])
 {
     let mut count: usize = 0;
     if position % k != 0 {
-        count = symbols::shared_symbols(before, name);
+        count = symbols::shared_symbols(Rule::Plain, before, name);
     }
     say(b"", position);
     say(b" ", position / k);

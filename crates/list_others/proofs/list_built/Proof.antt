@@ -1,15 +1,13 @@
--- `list_others::list_built` is safe: what an accepted build counts stands in the room, by `build-within`.
+-- `list_others::list_built` is safe: what an accepted build counts stands in the room, by `build_kind`.
 -- Assumes nothing.
 use mathlib.Core.Path.{sym}
 use lib.Seq.{length-take-le}
 use borrow.Author.Needs.{needs}
-use Rattle.words.specs.Words.{plain}
-use Rattle.answers.proofs.Calls.{build-within}
 use Rattle.list_others.proofs.list_built.Statement.{statement}
 use Rattle.list_others.proofs.list_built.Tie as tie
 
 array-share-prefix-room : tie.Need-array-share-prefix-room
-array-share-prefix-room c = build-within plain _ _ _ _ (c .before .before .book-build .ensures) (c .if1 .taken)
+array-share-prefix-room c = c .before .before .build-kind .ensures (c .if1 .taken)
 
 slice-aggregate-list : tie.Need-slice-aggregate-list
 slice-aggregate-list c = sym (length-take-le _ _ (array-share-prefix-room (c .before)))

@@ -3,13 +3,13 @@
 use mathlib.Core.Path.{sym}
 use lib.Seq.{length-take-le}
 use borrow.Author.Needs.{needs}
-use Rattle.words.specs.Words.{plain}
+use Rattle.format.specs.Marks.{PlainBook}
 use Rattle.answers.proofs.Calls.{build-within}
 use Rattle.make_book.proofs.make.Statement.{statement}
 use Rattle.make_book.proofs.make.Tie as tie
 
 array-share-prefix-room : tie.Need-array-share-prefix-room
-array-share-prefix-room c = build-within plain _ 16 _ _ (c .before .before .book-build .ensures) (c .if1 .taken)
+array-share-prefix-room c = build-within PlainBook _ 16 _ _ (c .before .before .book-build .ensures) (c .if1 .taken)
 
 slice-aggregate-write-all : tie.Need-slice-aggregate-write-all
 slice-aggregate-write-all c = sym (length-take-le _ _ (array-share-prefix-room (c .before)))

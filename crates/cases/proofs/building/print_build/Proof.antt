@@ -1,13 +1,13 @@
 -- `cases::building::print_build` is safe: what an accepted build counts stands in the room, by `build-within`.
 -- Assumes nothing.
 use borrow.Author.Needs.{needs}
-use Rattle.words.specs.Words.{plain}
+use Rattle.format.specs.Marks.{PlainBook}
 use Rattle.answers.proofs.Calls.{build-within}
 use Rattle.cases.proofs.building.print_build.Statement.{statement}
 use Rattle.cases.proofs.building.print_build.Tie as tie
 
 print-room-requires : tie.Need-print-room-requires
-print-room-requires c κs = build-within plain _ _ _ _ (c .before .before .before .book-build .ensures)
+print-room-requires c κs = build-within PlainBook _ _ _ _ (c .before .before .before .book-build .ensures)
 
 pub print-build-spec : {M : Type 1} → statement M
 print-build-spec =
