@@ -115,10 +115,10 @@ pub use salvage::{blocks_of, salvage, Block, Blocks, Names, Salvaged};
 
 /// The bytes of stack that are enough for [`build`] and [`build_folded`], whatever is
 /// lent to them.
-pub const BUILD_STACK: usize = 5760;
+pub const BUILD_STACK: usize = 7936;
 /// The bytes of stack that are enough for every other call, whatever is lent to
 /// it: a book, or bytes that are none.
-pub const STACK: usize = 23_552;
+pub const STACK: usize = 29_696;
 
 /// What a check tells of a book.
 #[derive(Clone, Copy, Debug, PartialEq, Eq, Hash)]
