@@ -8,6 +8,7 @@ use fenced::{on_stack, Fence, Fenced};
 use mistrogu::{blocks_of, BUILD_STACK, LONGEST_BOOK, LONGEST_NAME, MOST_SALVAGED, STACK};
 use model::{book_check, book_of, write_list, BookKind};
 use proved::{Answer, Kept, Row};
+use vectors::folded::on_past_the_end;
 use vectors::hostile::{kinds, DEEPER_THAN_ANY};
 use vectors::lists::{self, Names};
 use vectors::spelling::by_turns;
@@ -202,6 +203,8 @@ fn call_with_all(fence: Fence) {
             call_with_names(kind, about, &names, fence);
         }
     }
+    let names = on_past_the_end();
+    call_with_names(BookKind::Folded, "on past the end", &names, fence);
 }
 
 /// Makes all calls with the book of this kind of these names, with the book worn,

@@ -120,6 +120,25 @@ fn accented() -> Names {
     sorted_for(BookKind::Folded, names)
 }
 
+/// So many bytes stand behind the entries of a book of three names in one block:
+/// one offset, five nodes and the trailer.
+const BEHIND_THREE: usize = 2 + 5 * 12 + 16;
+
+/// Names of a folded book in blocks of 16, of which the first goes on behind its
+/// second byte as the last does behind its count: by the last name's own bytes,
+/// then by all that stands in the book behind them, then by more. Whoever counts
+/// what is alike there, and does not ask first whether both names begin alike,
+/// counts past the end of the book.
+pub fn on_past_the_end() -> Names {
+    let with_end = |end: &[u8]| {
+        let first = [&b"aaX2"[..], end, &[b'!'; 40]].concat();
+        vec![first, b"abx1".to_vec(), b"abX2".to_vec()]
+    };
+    // what the book ends with does not hang on what the first name goes on with
+    let book = book_of(BookKind::Folded, 16, &with_end(&[0; BEHIND_THREE]));
+    with_end(&book[book.len() - BEHIND_THREE..])
+}
+
 /// Lists that are none for a folded book, by what is wrong with them: names that
 /// fold to one, or fall by their symbols.
 fn not_rising() -> Vec<(&'static str, Names)> {

@@ -4,6 +4,7 @@ use model::names::{is_sound_list, leading_equal};
 use model::tree::tree;
 use model::{book_of, read_list, write_list, BookKind, Rule};
 use vectors::damage::{spoil_bytes, spoil_names};
+use vectors::folded::on_past_the_end;
 use vectors::lists::{self, Names};
 use vectors::random::Random;
 
@@ -27,6 +28,19 @@ fn the_fixed_lists_are_sound() {
     for (shape, names) in shapes.into_iter().chain(lists::lettered()) {
         assert!(is_sound_list(Rule::Plain, &names), "{shape}");
     }
+}
+
+#[test]
+fn a_first_name_goes_on_as_its_book_does_behind_the_last_count() {
+    let names = on_past_the_end();
+    assert!(is_sound_list(Rule::Folded, &names));
+    let book = book_of(BookKind::Folded, 16, &names);
+    let last = &names[2][2..];
+    let at = book.len() - 78 - last.len();
+    assert_eq!(book[at - 2..at], [2, 2]);
+    assert!(book[at..].starts_with(last));
+    assert!(names[0][2..].starts_with(&book[at..]));
+    assert!(names[0].len() > 2 + book.len() - at);
 }
 
 #[test]
