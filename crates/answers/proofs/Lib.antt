@@ -1,6 +1,7 @@
 -- Laws of the questions and of the calls. No contract cites them.
 pub mod Accents
 pub mod Beside
+pub mod Doubles
 pub mod Places
 pub mod Nearest
 pub mod Widths
