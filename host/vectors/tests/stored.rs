@@ -7,6 +7,7 @@
 use model::{book_of, listing, make_book, write_list, BookKind};
 use std::fs;
 use std::path::{Path, PathBuf};
+use vectors::folded;
 use vectors::sets::LONGEST_FILE;
 use vectors::{expected_of_all, lists, SETS, TESTED_SETS};
 
@@ -85,6 +86,7 @@ fn the_stored_listings_are_what_the_second_program_prints() {
         b"\x03Mar\x06Marina".to_vec(),
         book_of(BookKind::Plain, 64, &[]),
         book_of(BookKind::Plain, 3, &escaped.map(<[u8]>::to_vec)),
+        book_of(BookKind::Folded, 4, &folded::spelt_example()),
     ];
     let today: Vec<u8> = others.iter().flat_map(|bytes| listing(bytes)).collect();
     assert_stored(&program_folder("list_others").join("stdout"), &today);
