@@ -1,5 +1,6 @@
 -- Laws of symbols by the rule that the code takes along, and of the comparison of names.
 --     symbol-plain, -below, -behind, -capital     a byte's symbol, way by way
+--     pair-..                   a byte and a greater one, by the folded rule
 --     alike-.., higher-.., has-..   two bytes and their symbols; a byte and a symbol
 --     kind-by, rule-by, rule-lawful     the code's rules are the kinds' rules, and lawful
 --     symbol-in-.., symbol-past     a name's symbol; past the last byte stands the end symbol
@@ -8,15 +9,15 @@
 --     below-..                  which of two names is above, by what they share
 -- Assumes nothing.
 use Prim.Native.Nat.{ℕ, suc, _+_, _-_, _≤_, _<_}
-use native.Mathlib.Nat.{not-suc-le-zero}
+use native.Mathlib.Nat.{lt-irrefl, not-suc-le-zero}
 use native.Mathlib.Omega.{arith}
 use mathlib.Core.Path.{_≡_, refl, sym, ap, ap₂, _∙_}
 use mathlib.Core.Bool.{Bool, true, false, not}
 use mathlib.Core.List.{[], _∷_}
 use lib.Dec.{eqb, leb, ltb}
-use borrow.Author.Tests.{eq-eqb, eqb-true, le-leb, le-ltb, lt-leb, lt-ltb, ltb-false, ltb-true, ne-eqb, not-false, not-true}
+use borrow.Author.Tests.{eq-eqb, eqb-false, eqb-true, le-leb, leb-false, leb-true, le-ltb, lt-leb, lt-ltb, ltb-false, ltb-true, ne-eqb, not-false, not-true}
 use lib.ListN.{length, getD, length-map}
-use Rattle.words.specs.Words.{Bytes, Lawful, at, less, plain, shared, word}
+use Rattle.words.specs.Words.{Bytes, Lawful, at, both, less, pick, plain, shared, word}
 use Rattle.words.proofs.Words.{at-past, false≠true, less-by, part-at, shared-comm, shared-le, shared-more, shared-other, word-at}
 use Rattle.format.specs.Marks.{BookKind, FoldedBook, PlainBook, ruleOf}
 use Rattle.format.proofs.Marks.{kind-lawful}
@@ -41,6 +42,48 @@ module _ (r : ByRule) (x t : ℕ) where
   pub symbol-capital : r ≡ Folded → t ≡ x → 65 ≤ x → x ≤ 90 → (t + 1 + 32 ≡ ruleBy r x) × (t + 1 + 32 < 257)
   symbol-capital e w g l = rw (e, le-leb 65 x g, le-leb x 90 l) (omega arith, omega arith)
 
+-- two tests that say the same
+same-eqb : (a b c d : ℕ) → (a ≡ b → c ≡ d) → (c ≡ d → a ≡ b) → eqb a b ≡ eqb c d
+same-eqb a b c d to from = go (eqb a b) refl
+  where
+    go : (v : Bool) → eqb a b ≡ v → eqb a b ≡ eqb c d
+    go true q = q ∙ sym (eq-eqb c d (to (eqb-true a b q)))
+    go false q = q ∙ sym (ne-eqb c d (λ e. eqb-false a b q (from e)))
+
+folded-low : (x : ℕ) → x < 65 → ruleBy Folded x ≡ x + 1
+folded-low x h = rw (lt-leb 65 x h) (omega arith)
+
+folded-high : (x : ℕ) → 90 < x → ruleBy Folded x ≡ x + 1
+folded-high x h = rw (le-leb 65 x (omega arith), lt-leb x 90 h) (omega arith)
+
+folded-least : (x : ℕ) → x < ruleBy Folded x
+folded-least x = go (both (leb 65 x) (leb x 90))
+  where
+    go : (v : Bool) → x < pick v (plain (x + 32)) (plain x)
+    go true = omega arith
+    go false = omega arith
+
+folded-capital : (x : ℕ) → 65 ≤ x → x ≤ 90 → ruleBy Folded x ≡ x + 33
+folded-capital x g l = rw (le-leb 65 x g, le-leb x 90 l) (omega arith)
+
+-- x is less than y
+module _ (x y : ℕ) (lower : x < y) where
+  -- what is no capital letter has the next number for its symbol
+  pub pair-below : x < 65 → false ≡ eqb (ruleBy Folded x) (ruleBy Folded y)
+  pair-below h = sym (ne-eqb (ruleBy Folded x) (ruleBy Folded y) (λ q. lt-irrefl x (omega (arith, q, folded-low x h, folded-least y))))
+
+  pub pair-behind : 90 < x → false ≡ eqb (ruleBy Folded x) (ruleBy Folded y)
+  pair-behind h = sym (ne-eqb (ruleBy Folded x) (ruleBy Folded y) (λ q. lt-irrefl x (omega (arith, q, folded-high x h, folded-high y (omega arith)))))
+
+  pub pair-capital : 65 ≤ x → x ≤ 90 → eqb (x + 32) y ≡ eqb (ruleBy Folded x) (ruleBy Folded y)
+  pair-capital g l = go (leb y 90) refl
+    where
+      go : (v : Bool) → leb y 90 ≡ v → eqb (x + 32) y ≡ eqb (ruleBy Folded x) (ruleBy Folded y)
+      go true q = ne-eqb (x + 32) y (λ e. lt-irrefl y (omega (arith, leb-true y 90 q))) ∙ sym (ne-eqb (ruleBy Folded x) (ruleBy Folded y)
+          (λ e. lt-irrefl x (omega (arith, e, folded-capital x g l, folded-capital y (omega arith) (leb-true y 90 q)))))
+      go false q = same-eqb (x + 32) y (ruleBy Folded x) (ruleBy Folded y)
+          (λ e. omega (arith, folded-capital x g l, folded-high y (leb-false y 90 q))) (λ e. omega (arith, folded-capital x g l, folded-high y (leb-false y 90 q)))
+
 module _ (r : ByRule) (x y : ℕ) where
   pub alike-same : x ≡ y → true ≡ eqb (ruleBy r x) (ruleBy r y)
   alike-same e = sym (eq-eqb (ruleBy r x) (ruleBy r y) (ap (ruleBy r) e))
@@ -48,9 +91,12 @@ module _ (r : ByRule) (x y : ℕ) where
   pub alike-not : r ≡ Plain → (x ≡ y → ⊥) → false ≡ eqb (ruleBy r x) (ruleBy r y)
   alike-not e n = rw e (sym (ne-eqb (suc x) (suc y) (λ q. n (omega arith))))
 
-  -- s and t are the symbols, by the folded rule
-  pub alike-folded : (s t : ℕ) → r ≡ Folded → s ≡ ruleBy Folded x → t ≡ ruleBy Folded y → eqb s t ≡ eqb (ruleBy r x) (ruleBy r y)
-  alike-folded s t e p q = rw e (ap₂ eqb p q)
+  -- v says it of the lesser byte and the greater
+  pub alike-upward : (v : Bool) → r ≡ Folded → v ≡ eqb (ruleBy Folded x) (ruleBy Folded y) → v ≡ eqb (ruleBy r x) (ruleBy r y)
+  alike-upward v e q = rw e q
+
+  pub alike-downward : (v : Bool) → r ≡ Folded → v ≡ eqb (ruleBy Folded y) (ruleBy Folded x) → v ≡ eqb (ruleBy r x) (ruleBy r y)
+  alike-downward v e q = rw e (q ∙ same-eqb (ruleBy Folded y) (ruleBy Folded x) (ruleBy Folded x) (ruleBy Folded y) sym sym)
 
   pub higher-plain : r ≡ Plain → ltb x y ≡ ltb (ruleBy r x) (ruleBy r y)
   higher-plain e = rw e (go (ltb x y) refl)

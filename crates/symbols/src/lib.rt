@@ -46,6 +46,20 @@ pub fn has_symbol(rule: Rule, x: u8, s: usize) -> bool
     }
 }
 
+// Whether two bytes, of which x is the lesser, have the same symbol by the folded rule: a capital letter and its small one.
+fn is_pair(x: u8, y: u8) -> bool
+    requires { ⌜ x < y ⌝ }
+    ensures { λ r. ⌜ r ≡ eqb (ruleBy Rule.Folded x) (ruleBy Rule.Folded y) ⌝ }
+{
+    if x < 65 {
+        return false;
+    }
+    if 90 < x {
+        return false;
+    }
+    x + 32 == y
+}
+
 // Whether two bytes have the same symbol.
 pub fn is_alike(rule: Rule, x: u8, y: u8) -> bool
     ensures { λ r. ⌜ r ≡ eqb (ruleBy rule x) (ruleBy rule y) ⌝ }
@@ -55,7 +69,12 @@ pub fn is_alike(rule: Rule, x: u8, y: u8) -> bool
     }
     match rule {
         Rule::Plain => false,
-        Rule::Folded => symbol(Rule::Folded, x) == symbol(Rule::Folded, y),
+        Rule::Folded => {
+            if x < y {
+                return is_pair(x, y);
+            }
+            is_pair(y, x)
+        }
     }
 }
 

@@ -1,7 +1,8 @@
 -- `symbols::is_alike` meets its contract.
 -- Assumes nothing.
+use native.Mathlib.Omega.{arith}
 use borrow.Author.Needs.{needs}
-use Rattle.symbols.proofs.Symbols.{alike-folded, alike-not, alike-same}
+use Rattle.symbols.proofs.Symbols.{alike-downward, alike-not, alike-same, alike-upward}
 use Rattle.symbols.proofs.is_alike.Statement.{statement}
 use Rattle.symbols.proofs.is_alike.Tie as tie
 
@@ -13,6 +14,7 @@ is-alike-spec =
     (λ c. search needs)
     (λ c. search needs)
     (λ c κs. search needs)
-    (λ c κs. search needs)
+    (λ c. alike-upward _ _ _ _ (c .before .before .enum-told2 .given .1) (c .is-pair .ensures))
+    (λ c κs. omega arith)
     (λ c. alike-not _ _ _ (c .enum-told .given .1) (search needs))
-    (λ c. alike-folded _ _ _ _ _ (c .before .before .enum-told2 .given .1) (c .before .symbol .ensures .0) (c .symbol2 .ensures .0)))
+    (λ c. alike-downward _ _ _ _ (c .before .before .enum-told2 .given .1) (c .is-pair2 .ensures)))
