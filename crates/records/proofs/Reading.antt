@@ -1,55 +1,35 @@
 -- Laws of the reading of a list, one for each way that the code goes.
---     part                       so many bytes of a list, from one place on
 --     ReadUpTo, Reads            so many names are read, and noted: reads-start
 --     StandsAt, stands-at        the next record begins here, with this length
 --     Comparing                  it is of good length, and its name agrees with the last so far: comparing-start, byte-same
---     ComesApart                 and no further: one-ends, bytes-differ, rests-part
---     Alike                      its name has so many symbols of the last: symbols-alike, new-there
---     NewAbove                   its name is above the last: old-ends, symbol-above; reads-noted, reads-passed, list-falls
+--     ComesApart                 and no further: one-ends, bytes-differ
+--     NewAbove, new-above        its name is above the last: reads-noted, reads-passed, list-falls
 --     good-list                  how a list is judged that reads well
---     no-name, long-name, cut-name, new-ends, symbol-not-above, too-many     and one that is refused
+--     no-name, long-name, cut-name, not-above, too-many     and one that is refused
 -- Assumes nothing.
 use Prim.Native.Nat.{ℕ, suc, _+_, _-_, _≤_, _<_, min, zero-le}
-use native.Mathlib.Nat.{add-zero, lt-irrefl, not-suc-le-zero}
+use native.Mathlib.Nat.{lt-irrefl, not-suc-le-zero}
 use native.Mathlib.Decide.{ℕ-discrete}
 use native.Mathlib.Numerals.{add-one}
 use native.Mathlib.Omega.{arith}
 use mathlib.Core.Path.{_≡_, refl, sym, ap, ap₂, _∙_, subst}
-use mathlib.Core.Bool.{Bool, true, false, not}
+use mathlib.Core.Bool.{Bool, true, false}
 use mathlib.Core.List.{List, [], _∷_, _++_, append-assoc, append-nil}
 use lib.Dec.{leb, ltb}
-use lib.ListN.{length, length-map, getD, set, take, drop, length-append, length-drop, length-set, drop-of-length-le, List·getD-append}
-use lib.Seq.{drop-cons, drop-drop, getD-at, getD-take, getD-drop, getD-set-same, getD-set-other}
-use borrow.Author.Tests.{lt-ltb, le-ltb, le-leb, lt-leb, not-false, not-true}
-use Rattle.words.specs.Words.{Bytes, Lawful, Rule, at, both, less, pick, shared, word}
-use Rattle.words.proofs.Words.{at-past, less-by, part-at, shared-comm, shared-le, shared-more, word-at}
+use lib.ListN.{length, getD, set, drop, length-append, length-drop, length-set, drop-of-length-le, List·getD-append}
+use lib.Seq.{drop-cons, drop-drop, getD-at, getD-set-same, getD-set-other}
+use borrow.Author.Tests.{lt-ltb, le-ltb, le-leb, lt-leb}
+use Rattle.words.specs.Words.{Bytes, Lawful, Rule, both, less, pick, shared, word}
+use Rattle.words.proofs.Words.{part-at, shared-more}
 use Rattle.format.specs.Outcomes.{given}
 use Rattle.format.specs.Records.{Names, Reading, Refused, after, goodLength, readFrom, readList}
 use Rattle.format.proofs.Records.{read-refused, read-skip}
 use Rattle.numbers.proofs.Parts.{part-length}
-use Rattle.symbols.specs.Parting.{Parted}
 use Rattle.records.specs.declared.Verdict.the-variants.{Good, Bad}
+use Rattle.records.specs.Above.{AboveAsk, part, sharedAbove}
 use Rattle.records.specs.Lists.{Judged, Noted, namesIn, readingOf}
-use Rattle.records.proofs.Alike.{alike-on, part-rest}
-
--- ---- which of two names is less
-
-abbrev pub part : Bytes → ℕ → ℕ → Bytes
-part s from size = take size (drop from s)
-
--- symbol number i of the name there
-abbrev symbol : Rule → Bytes → ℕ → ℕ → ℕ → ℕ
-symbol ρ s from size i = at (word ρ (part s from size)) i
-
-module _ (s : Bytes) (from size : ℕ) (inside : from + size ≤ length s) where
-  part-byte : (i : ℕ) → i < size → getD (part s from size) i 0 ≡ getD s (from + i) 0
-  part-byte i h = rw (getD-take, getD-drop)
-
-  symbol-in : (ρ : Rule) (i : ℕ) → i < size → symbol ρ s from size i ≡ ρ (getD s (from + i) 0)
-  symbol-in ρ i h = word-at ρ (part s from size) i (omega (arith, part-length s from size inside)) ∙ ap ρ (part-byte i h)
-
-  symbol-past : (ρ : Rule) (i : ℕ) → size ≤ i → symbol ρ s from size i ≡ 0
-  symbol-past ρ i h = at-past (word ρ (part s from size)) i (omega (arith, part-length s from size inside, length-map (part s from size) ρ))
+use Rattle.records.proofs.Above.{above-less, above-not, above-shares, above-short, part-byte}
+use Rattle.records.proofs.Alike.{shared-both}
 
 -- ---- what is noted
 
@@ -153,19 +133,15 @@ pub record Comparing (ρ : Rule) (s : Bytes) (most : ℕ) (lens counts shares : 
 
 module _ {ρ : Rule} {s : Bytes} {most : ℕ} {lens counts shares : List ℕ} {o p m n len i : ℕ} where
   -- and in no more
-  pub record ComesApart (k : Comparing ρ s most lens counts shares o p m n len i) : Type 0 where
-    pub common : i ≡ shared (part s p m) (part s (o + 1) len)
+  abbrev pub ComesApart : Comparing ρ s most lens counts shares o p m n len i → Type 0
+  ComesApart k = AboveAsk s p m (o + 1) len i
 
-  -- the names have j symbols in common
-  pub record Alike (k : Comparing ρ s most lens counts shares o p m n len i) (j : ℕ) : Type 0 where
-    pub parted : ComesApart k
-    pub common : j ≡ shared (word ρ (part s p m)) (word ρ (part s (o + 1) len))
-    pub in-old : j ≤ m
-    pub in-new : j ≤ len
-
+  -- it is above the last, and has j symbols of it
   pub record NewAbove (k : Comparing ρ s most lens counts shares o p m n len i) (j : ℕ) : Type 0 where
-    pub alike : Alike k j
+    pub parted : ComesApart k
+    pub alike : j ≡ shared (word ρ (part s p m)) (word ρ (part s (o + 1) len))
     pub above : less (word ρ (part s p m)) (word ρ (part s (o + 1) len)) ≡ true
+    pub in-new : j ≤ len
 
 reading-start : (ρ : Rule) → Lawful ρ → (s : Bytes) (most : ℕ) (lens counts shares : List ℕ) → length lens ≡ length counts → length lens ≡ length shares → ReadUpTo ρ s most lens counts shares 0 0 0 0
 unfolding readList
@@ -265,25 +241,19 @@ module _ {ρ : Rule} {s : Bytes} {most : ℕ} {lens counts shares : List ℕ} {o
   new-length : length (part s (o + 1) len) ≡ len
   new-length = part-length s (o + 1) len (k .whole)
 
-  old-byte : i < m → getD (part s p m) i 0 ≡ getD s (p + i) 0
-  old-byte h = part-byte s p m (k .stands .read .inside) i h
-
-  new-byte : i < len → getD (part s (o + 1) len) i 0 ≡ getD s (o + 1 + i) 0
-  new-byte h = part-byte s (o + 1) len (k .whole) i h
-
   -- one byte more that is the same
   one-more : i < m → i < len → getD s (p + i) 0 ≡ getD s (o + 1 + i) 0 → i < shared (part s p m) (part s (o + 1) len)
   one-more h l e =
-      shared-more (part s p m) (part s (o + 1) len) i (k .agree) (omega (arith, old-length)) (omega (arith, new-length)) (old-byte h ∙ e ∙ sym (new-byte l))
+      shared-more (part s p m) (part s (o + 1) len) i (k .agree) (omega (arith, old-length)) (omega (arith, new-length))
+      (part-byte s p m i h ∙ e ∙ sym (part-byte s (o + 1) len i l))
+
+  no-more : i ≡ shared (part s p m) (part s (o + 1) len) → ComesApart k
+  no-more e = record { old-inside = k .stands .read .inside; new-inside = k .whole; common = e }
 
   -- the bytes are compared up to the end of the shorter name
   module _ {shorter : ℕ} (least : shorter ≡ min len m) where
     pub one-ends : i ≡ shorter → ComesApart k
-    one-ends e =
-        let in-old : shared (part s p m) (part s (o + 1) len) ≤ m = omega (arith, shared-le (part s p m) (part s (o + 1) len), old-length) in
-        let in-new : shared (part s p m) (part s (o + 1) len) ≤ len =
-        omega (arith, shared-le (part s (o + 1) len) (part s p m), shared-comm (part s p m) (part s (o + 1) len), new-length) in
-        record { common = omega arith }
+    one-ends e = no-more (omega (arith, k .agree, shared-both (part s p m) (part s (o + 1) len), old-length, new-length))
 
     module _ (left : i ≡ shorter → ⊥) where
       old-left : i < m
@@ -293,9 +263,7 @@ module _ {ρ : Rule} {s : Bytes} {most : ℕ} {lens counts shares : List ℕ} {o
       new-left = omega arith
 
       pub bytes-differ : (getD s (p + i) 0 ≡ getD s (o + 1 + i) 0 → ⊥) → ComesApart k
-      bytes-differ d = record {
-        common = sym (part-at (part s p m) (part s (o + 1) len) i (k .agree) (λ e. d (sym (old-byte old-left) ∙ e ∙ new-byte new-left)));
-      }
+      bytes-differ d = no-more (sym (part-at (part s p m) (part s (o + 1) len) i (k .agree) (λ e. d (sym (part-byte s p m i old-left) ∙ e ∙ part-byte s (o + 1) len i new-left))))
 
       pub byte-same : getD s (p + i) 0 ≡ getD s (o + 1 + i) 0 → Comparing ρ s most lens counts shares o p m n len (i + 1)
       byte-same e = record {
@@ -308,79 +276,25 @@ module _ {ρ : Rule} {s : Bytes} {most : ℕ} {lens counts shares : List ℕ} {o
         agree = omega (arith, one-more old-left new-left e);
       }
 
--- behind the bytes that are the same symbols are compared
-module _ {ρ : Rule} {s : Bytes} {most : ℕ} {lens counts shares : List ℕ} {o p m n len i : ℕ} {k : Comparing ρ s most lens counts shares o p m n len i} (q : ComesApart k) {shorter : ℕ}
-    (least : shorter ≡ min len m) where
-  -- what is left of either name, up to the end of the shorter
-  abbrev old-rest : Bytes
-  old-rest = take (p + shorter - (p + i)) (drop (p + i) s)
+-- then it is asked whether it is above the last; j tells it, and how many symbols they share
+module _ {ρ : Rule} {s : Bytes} {most : ℕ} {lens counts shares : List ℕ} {o p m n len i : ℕ} (k : Comparing ρ s most lens counts shares o p m n len i)
+    {j : ℕ} (e : j ≡ sharedAbove ρ (part s p m) (part s (o + 1) len)) where
+  pub not-above : j ≡ len → Judged ρ s most lens counts shares (Bad 6 n)
+  not-above h =
+      refused ρ s most lens counts shares 6 n
+      (asked (k .stands) true false _ (sized k) (above-not ρ (part s p m) (part s (o + 1) len) e (omega (arith, new-length k))) refl)
 
-  abbrev new-rest : Bytes
-  new-rest = take (o + 1 + shorter - (o + 1 + i)) (drop (o + 1 + i) s)
-
-  old-inside : p + i + (p + shorter - (p + i)) ≤ length s
-  old-inside = omega (arith, k .stands .read .inside, k .in-old, k .in-new)
-
-  new-inside : o + 1 + i + (o + 1 + shorter - (o + 1 + i)) ≤ length s
-  new-inside = omega (arith, k .whole, k .in-old, k .in-new)
-
-  pub rests-part : Parted (take (p + shorter - (p + i)) (drop (p + i) s)) (take (o + 1 + shorter - (o + 1 + i)) (drop (o + 1 + i) s))
-  rests-part = record {
-    differ = λ a b e.
-        let l : i < shorter = omega (arith, part-length s (p + i) (p + shorter - (p + i)) old-inside) in
-        let same : getD s (p + i) 0 ≡ getD s (o + 1 + i) 0 =
-        simp add-zero at (sym (part-byte s (p + i) (p + shorter - (p + i)) old-inside 0 (omega arith)) ∙ e ∙ part-byte s (o + 1 + i) (o + 1 + shorter - (o + 1 + i)) new-inside 0 (omega arith)) in
-        lt-irrefl i (omega (arith, one-more k (omega arith) (omega arith) same, q .common));
-  }
-
-  pub symbols-alike : {t : ℕ} → t ≡ shared (word ρ (take (p + shorter - (p + i)) (drop (p + i) s))) (word ρ (take (o + 1 + shorter - (o + 1 + i)) (drop (o + 1 + i) s))) → Alike k (i + t)
-  symbols-alike {t} e =
+  pub new-above : ComesApart k → (j ≡ len → ⊥) → NewAbove k j
+  new-above q h =
       let x : Bytes = part s p m in
       let y : Bytes = part s (o + 1) len in
-      let is : i + t ≡ shared (word ρ x) (word ρ y) =
-      ap (λ (c : ℕ). i + c) (e ∙ ap₂ (λ (a b : Bytes). shared (word ρ a) (word ρ b)) (part-rest s p m i shorter (omega arith)) (part-rest s (o + 1) len i shorter (omega arith)))
-      ∙ sym (alike-on ρ x y i shorter (k .agree) (omega (arith, k .in-old, k .in-new)) (omega (arith, old-length k, new-length k))) in
+      let less-long : j ≡ length y → ⊥ = λ z. h (omega (arith, new-length k)) in
       record {
         parted = q;
-        common = is;
-        in-old = omega (arith, shared-le (word ρ x) (word ρ y), length-map x ρ, old-length k);
-        in-new = omega (arith, shared-le (word ρ y) (word ρ x), shared-comm (word ρ x) (word ρ y), length-map y ρ, new-length k);
+        alike = above-shares ρ x y e less-long;
+        above = above-less ρ x y e less-long;
+        in-new = omega (arith, above-short ρ x y e less-long, new-length k);
       }
-
--- where the names part, their symbols tell which one is less
-module _ {ρ : Rule} {s : Bytes} {most : ℕ} {lens counts shares : List ℕ} {o p m n len i : ℕ} {k : Comparing ρ s most lens counts shares o p m n len i} {j : ℕ} (q : Alike k j) where
-  order : less (word ρ (part s p m)) (word ρ (part s (o + 1) len)) ≡ ltb (symbol ρ s p m j) (symbol ρ s (o + 1) len j)
-  order = less-by (word ρ (part s p m)) (word ρ (part s (o + 1) len)) j (sym (q .common))
-
-  not-less : ltb (symbol ρ s p m j) (symbol ρ s (o + 1) len j) ≡ false → Judged ρ s most lens counts shares (Bad 6 n)
-  not-less e = refused ρ s most lens counts shares 6 n (asked (k .stands) true false _ (sized k) (order ∙ e) refl)
-
-  is-less : ltb (symbol ρ s p m j) (symbol ρ s (o + 1) len j) ≡ true → NewAbove k j
-  is-less e = record { alike = q; above = order ∙ e }
-
-  pub new-ends : j ≡ len → Judged ρ s most lens counts shares (Bad 6 n)
-  new-ends e = not-less (le-ltb (symbol ρ s p m j) (symbol ρ s (o + 1) len j) (omega (arith, symbol-past s (o + 1) len (k .whole) ρ j (omega arith))))
-
-  module _ (left : j ≡ len → ⊥) where
-    pub new-there : o + 1 + j < length s
-    new-there = omega (arith, q .in-new, k .whole)
-
-    new-symbol : symbol ρ s (o + 1) len j ≡ ρ (getD s (o + 1 + j) 0)
-    new-symbol = symbol-in s (o + 1) len (k .whole) ρ j (omega (arith, q .in-new))
-
-    pub old-ends : m ≤ j → NewAbove k j
-    old-ends h = is-less (lt-ltb (symbol ρ s p m j) (symbol ρ s (o + 1) len j) (omega (arith, new-symbol, k .stands .read .lawful .low (getD s (o + 1 + j) 0), symbol-past s p m (k .stands .read .inside) ρ j h)))
-
-    -- v says whether the symbol of the new name is higher
-    module _ (h : j < m) (v : Bool) (e : v ≡ ltb (ρ (getD s (p + j) 0)) (ρ (getD s (o + 1 + j) 0))) where
-      higher : ltb (symbol ρ s p m j) (symbol ρ s (o + 1) len j) ≡ v
-      higher = ap₂ ltb (symbol-in s p m (k .stands .read .inside) ρ j h) new-symbol ∙ sym e
-
-      pub symbol-not-above : not v ≡ true → Judged ρ s most lens counts shares (Bad 6 n)
-      symbol-not-above f = not-less (higher ∙ not-true v f)
-
-      pub symbol-above : not v ≡ false → NewAbove k j
-      symbol-above f = is-less (higher ∙ not-false v f)
 
 module _ {ρ : Rule} {s : Bytes} {most : ℕ} {lens counts shares : List ℕ} {o p m n len i : ℕ} {k : Comparing ρ s most lens counts shares o p m n len i} {j : ℕ} (a : NewAbove k j) where
   pub too-many : most ≤ n → Judged ρ s most lens counts shares (Bad 7 n)
@@ -430,8 +344,8 @@ module _ {ρ : Rule} {s : Bytes} {most : ℕ} {lens counts shares : List ℕ} {o
                 (length-set lens n len ∙ r .counts-row ∙ sym (length-set counts n i)) (length-set lens n len ∙ r .shares-row ∙ sym (length-set shares n j))
                 (λ b. noted-more (r .done) x n (r .counted) len i j (r .noted (omega (arith, length-set lens n len))) l (omega (arith, r .counts-row)) (omega (arith, r .shares-row)) (new-length k)
                 (λ e. omega (arith, k .in-old, r .alone e))
-                (λ c e. a .alike .parted .common ∙ ap (λ (y : Bytes). shared y x) (sym (r .last c e)))
-                (λ c e. a .alike .common ∙ ap (λ (y : Bytes). shared (word ρ y) (word ρ x)) (sym (r .last c e)))) h;
+                (λ c e. a .parted .common ∙ ap (λ (y : Bytes). shared y x) (sym (r .last c e)))
+                (λ c e. a .alike ∙ ap (λ (y : Bytes). shared (word ρ y) (word ρ x)) (sym (r .last c e)))) h;
             lens-kept = length-set lens n len ∙ lens-kept;
             counts-kept = length-set counts n i ∙ counts-kept;
             shares-kept = length-set shares n j ∙ shares-kept;

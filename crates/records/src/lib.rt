@@ -8,6 +8,7 @@ ghost use Prim.Native.Nat.{_+_, _≤_};
 ghost use lib.ListN.{length};
 ghost use Rattle.symbols.specs.Rules.{ruleBy};
 ghost use Rattle.records.specs.Lists.{Judged};
+ghost use Rattle.records.specs.Above.{AboveAsk, part, sharedAbove};
 ghost use Rattle.records.specs.Putting.{RecordPut};
 use symbols::Rule;
 
@@ -17,6 +18,35 @@ pub enum Verdict {
     Good(usize),
     // Refusal 5, 6 or 7, and the record's number.
     Bad(usize, usize),
+}
+
+// How many symbols the name of `len` bytes from `start` on shares with the one of `before` bytes from `prev` on, of which it has i bytes and
+// no more, where it is above it; else its length, which no name that is above another shares.
+fn shared_above(
+    rule: Rule,
+    list: &[u8],
+    prev: usize,
+    before: usize,
+    start: usize,
+    len: usize,
+    i: usize,
+) -> usize
+    requires { ⌜ AboveAsk (now list) prev before start len i ⌝ }
+    ensures { λ r. ⌜ r ≡ sharedAbove (ruleBy rule) (part (now (list .entry)) prev before) (part (now (list .entry)) start len) ⌝ }
+{
+    let most = numbers::lesser(len, before);
+    let from = prev + i;
+    let to = prev + most;
+    let own = start + i;
+    let end = start + most;
+    let j = i + symbols::shared_on(rule, &list[from..to], &list[own..end]);
+    if j == most {
+        return j;
+    }
+    if symbols::is_higher(rule, list[prev + j], list[start + j]) {
+        return j;
+    }
+    len
 }
 
 // Reads a list that may have `limit` names. The name before stands at `prev` and has `before` bytes: at first there is none.
@@ -61,18 +91,9 @@ pub fn judge(
             }
             i += 1;
         }
-        let from = prev + i;
-        let to = prev + most;
-        let own = start + i;
-        let end = start + most;
-        let j = i + symbols::shared_on(rule, &list[from..to], &list[own..end]);
+        let j = shared_above(rule, list, prev, before, start, len, i);
         if j == len {
             break 'records Verdict::Bad(6, n);
-        }
-        if j < before {
-            if !symbols::is_higher(rule, list[prev + j], list[start + j]) {
-                break 'records Verdict::Bad(6, n);
-            }
         }
         if limit <= n {
             break 'records Verdict::Bad(7, n);

@@ -1,6 +1,6 @@
 -- `records::judge` meets its contract. The loop over the records keeps `ReadUpTo`, and the loop over two names' bytes `Comparing`; each way
 -- that the code goes is a law of proofs/Reading.antt. The measures are what is left of the list and of the shorter name. Assumes nothing.
-use Prim.Native.Nat.{_+_, _-_}
+use Prim.Native.Nat.{_-_}
 use native.Mathlib.Omega.{arith}
 use mathlib.Core.Logic.{⊎-elim}
 use borrow.Author.Count.{falls}
@@ -32,27 +32,21 @@ parted c = ⊎-elim
     (λ w. search law.bytes-differ)
     (c .bytes-test .came)
 
--- behind it so many symbols more are the same
-alike : (c : tie.After-shared-on Inv-bytes μ-bytes Inv-records μ-records)
-    → let k = c .before .before .before .before .bytes in law.Alike (k .inv) (k .i + c .shared-on .result)
-alike c = law.symbols-alike (parted (c .before .before .before)) (c .before .before .before .before .before .lesser .ensures) (c .shared-on .ensures)
-
--- the name before has a symbol there, or none
-above : (c : tie.Joined7 Inv-bytes μ-bytes Inv-records μ-records)
-    → let s = c .before .before in let k = s .before .before .before .before .bytes in law.NewAbove (k .inv) (k .i + s .shared-on .result)
-above c = ⊎-elim
-    (λ w. law.symbol-above (alike (c .before .before)) (c .before .if6 .left) (w .0 .taken) _ (w .3 .ensures) (w .4 .left))
-    (λ w. law.old-ends (alike (c .before .before)) (c .before .if6 .left) (w .left))
-    (c .if7 .came)
+-- the name is above the last
+above : (c : tie.Else6 Inv-bytes μ-bytes Inv-records μ-records)
+    → let s = c .before in law.NewAbove (s .before .before .bytes .inv) (s .shared-above .result)
+above c =
+    let s = c .before in
+    law.new-above (s .before .before .bytes .inv) (s .shared-above .ensures) (parted (s .before)) (c .if6 .left)
 
 -- the name is noted, or there is no place for it
 again : tie.Need-records-again Inv-bytes μ-bytes Inv-records μ-records
 again c =
-    let kept = c .before .before .before .before .before .before .before .before .before .before .before .before .before .before .before .before .records .inv in
+    let kept = c .before .before .before .before .before .before .before .before .before .before .before .before .before .records .inv in
     ⊎-elim
-    (λ w. law.reads-noted (above (c .before .before)) (kept .lens-kept) (kept .counts-kept) (kept .shares-kept) (c .before .if9 .left) (w .0 .taken) (w .1) (w .2) (w .3))
-    (λ w. law.reads-passed (above (c .before .before)) (kept .lens-kept) (kept .counts-kept) (kept .shares-kept) (c .before .if9 .left) (w .0 .left) (w .1) (w .2) (w .3))
-    (c .if10 .came)
+    (λ w. law.reads-noted (above (c .before .before)) (kept .lens-kept) (kept .counts-kept) (kept .shares-kept) (c .before .if7 .left) (w .0 .taken) (w .1) (w .2) (w .3))
+    (λ w. law.reads-passed (above (c .before .before)) (kept .lens-kept) (kept .counts-kept) (kept .shares-kept) (c .before .if7 .left) (w .0 .left) (w .1) (w .2) (w .3))
+    (c .if8 .came)
 
 pub judge-spec : {M : Type 1} → statement M
 judge-spec =
@@ -76,28 +70,12 @@ judge-spec =
     (λ c. omega arith)
     (λ c. falls _ _ (omega arith))
     (λ c. search law.byte-same)
+    (λ c κs. parted c)
     (λ c. omega arith)
     (λ c. omega arith)
+    (λ c. omega (arith, above (c .before .before)))
     (λ c. omega arith)
-    (λ c. omega arith)
-    (λ c. omega arith)
-    (λ c. omega arith)
-    (λ c. omega arith)
-    (λ c. omega arith)
-    (λ c. omega arith)
-    (λ c. omega arith)
-    (λ c κs. law.rests-part (parted (c .before .before)) (c .before .before .before .before .lesser .ensures))
-    (λ c. omega (arith, alike c))
-    (λ c. omega (arith, alike (c .before .before)))
-    (λ c. omega (arith, alike (c .before .before .before)))
-    (λ c. omega (arith, alike (c .before .before .before)))
-    (λ c. law.new-there (alike (c .before .before .before .before)) (c .before .before .before .if6 .left))
-    (λ c κs. search needs)
-    (λ c. omega arith)
-    (λ c. omega arith)
-    (λ c. omega (arith, alike (c .before .before .before .before)))
-    (λ c. omega arith)
-    (λ c. omega (arith, alike (c .before .before .before .before)))
+    (λ c. omega (arith, above (c .before .before)))
     (λ c. omega arith)
     (λ c. omega arith)
     (λ c. omega arith)
@@ -119,17 +97,11 @@ judge-spec =
     (λ c. omega arith)
     (λ c. omega arith)
     (λ c. search law.cut-name)
-    (λ c. c .before .before .before .before .before .before .before .before .before .before .before .before .before .records .inv .lens-kept)
-    (λ c. c .before .before .before .before .before .before .before .before .before .before .before .before .before .records .inv .counts-kept)
-    (λ c. c .before .before .before .before .before .before .before .before .before .before .before .before .before .records .inv .shares-kept)
-    (λ c. law.new-ends (alike (c .before)) (c .if6 .taken))
-    (λ c. c .before .before .before .before .before .before .before .before .before .before .before .before .before .before .before .before .before .before .records .inv .lens-kept)
-    (λ c. c .before .before .before .before .before .before .before .before .before .before .before .before .before .before .before .before .before .before .records .inv .counts-kept)
-    (λ c. c .before .before .before .before .before .before .before .before .before .before .before .before .before .before .before .before .before .before .records .inv .shares-kept)
-    (λ c.
-    let s = c .before .before .before .before .before in
-    law.symbol-not-above (alike (s .before)) (s .if6 .left) (c .before .before .before .before .if7 .taken) _ (c .before .is-higher .ensures) (c .if8 .taken))
-    (λ c. c .before .before .before .before .before .before .before .before .before .before .before .before .before .before .before .records .inv .lens-kept)
-    (λ c. c .before .before .before .before .before .before .before .before .before .before .before .before .before .before .before .records .inv .counts-kept)
-    (λ c. c .before .before .before .before .before .before .before .before .before .before .before .before .before .before .before .records .inv .shares-kept)
-    (λ c. law.too-many (above (c .before)) (c .if9 .taken)))
+    (λ c. omega arith)
+    (λ c. omega arith)
+    (λ c. omega arith)
+    (λ c. law.not-above (c .before .before .before .bytes .inv) (c .before .shared-above .ensures) (c .if6 .taken))
+    (λ c. omega arith)
+    (λ c. omega arith)
+    (λ c. omega arith)
+    (λ c. law.too-many (above (c .before)) (c .if7 .taken)))
