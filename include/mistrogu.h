@@ -62,7 +62,7 @@
  *   a book or not, with what the call itself pushes and without what your own
  *   memcpy and memset take. On real names every call but those that build takes
  *   less than 2,048 bytes; names that are each the beginning of the next, and bytes
- *   that are made to look so, take the most, 144 bytes for each level.
+ *   that are made to look so, take the most, 128 bytes for each level.
  *   docs/BENCHMARKS.md says which guest can call what. The numbers are read out of
  *   the compiled code, by `host/bound`, for all inputs.
  *
@@ -100,7 +100,7 @@ extern "C" {
 /* Bytes of stack that are enough for a call that builds, whatever it is given. */
 #define MISTROGU_BUILD_STACK 7936
 /* Bytes of stack that are enough for every other call, whatever it is given. */
-#define MISTROGU_STACK 29696
+#define MISTROGU_STACK 26624
 
 /* The numbers given back when a call says no. */
 enum mistrogu_refusal {

@@ -1,34 +1,52 @@
 -- The symbol that the entry at hand tells.
+--     has-by, has-low, has-high     ways out of `has_symbol`: by the book's rule, or the same by both rules
 --     lead-in, lead-past       ways out of `leads`: a byte of the entry has the symbol; the name has ended
 -- Assumes nothing.
 use Prim.Native.Nat.{ℕ, _+_, _-_, _≤_, _<_}
 use native.Mathlib.Omega.{arith}
-use mathlib.Core.Path.{_≡_, sym, ap, _∙_}
-use mathlib.Core.Bool.{Bool}
-use lib.Dec.{eqb}
+use mathlib.Core.Path.{_≡_, refl, sym, ap, _∙_}
+use mathlib.Core.Bool.{Bool, false}
+use lib.Dec.{eqb, leb}
+use borrow.Author.Tests.{le-leb, lt-leb}
 use lib.ListN.{getD, length, drop, length-drop, length-map, length-take}
 use lib.Seq.{getD-drop, getD-take}
-use Rattle.words.specs.Words.{Bytes, Rule, at, word}
+use Rattle.words.specs.Words.{Bytes, Rule, at, both, word}
 use Rattle.words.proofs.Words.{at-past, word-at}
-use Rattle.format.specs.Marks.{kindOf, ruleIn}
+use Rattle.format.specs.Marks.{BookKind, FoldedBook, PlainBook, kindOf, ruleIn, ruleOf}
 use Rattle.symbols.specs.Rules.{byKind, ruleBy}
 use Rattle.symbols.specs.declared.Rule.{Rule as ByRule}
 use Rattle.symbols.proofs.Symbols.{rule-by}
 use Rattle.streams.specs.Streams.{restAt}
 use Rattle.inspect.specs.Check.{LeadAsk}
 
+-- a byte x and a symbol s
+module _ (b : Bytes) (x s : ℕ) where
+  -- t is the book's rule, and v says whether the byte has the symbol by it
+  pub has-by : (t : ByRule) → t ≡ byKind (kindOf b) → (v : Bool) → v ≡ eqb s (ruleBy t x) → v ≡ eqb s (ruleIn b x)
+  has-by t te v ve = ve ∙ ap (eqb s) (ap (λ (ρ : Rule). ρ x) (ap ruleBy te ∙ rule-by (kindOf b)))
+
+  -- y is the byte, which is no capital letter
+  module _ (y : ℕ) (ye : y ≡ x) where
+    own : (κ : BookKind) → both (leb 65 x) (leb x 90) ≡ false → y + 1 ≡ ruleOf κ x
+    own PlainBook e = omega arith
+    own FoldedBook e = rw e (omega arith)
+
+    pub has-low : x ≤ 64 → eqb s (y + 1) ≡ eqb s (ruleIn b x)
+    has-low h = ap (eqb s) (own (kindOf b) (rw (lt-leb 65 x (omega arith)) refl))
+
+    pub has-high : 64 < x → 91 ≤ x → eqb s (y + 1) ≡ eqb s (ruleIn b x)
+    has-high g h = ap (eqb s) (own (kindOf b) (rw (le-leb 65 x (omega arith), lt-leb x 90 (omega arith)) refl))
+
 -- c and l are what the code read at a and after it
 module _ (b : Bytes) (a d s c l : ℕ) (ask : LeadAsk b a d) (ce : c ≡ getD b a 0) (le : l ≡ getD b (a + 1) 0) where
   size : length (restAt b a) ≡ l
   size = omega (arith, ask .fits, length-take (getD b (a + 1) 0) (drop (a + 2) b), length-drop (a + 2) b)
 
-  -- t is the book's rule, and v says whether the byte there has the symbol
-  pub lead-in : d - c < l → (t : ByRule) → t ≡ byKind (kindOf b) → (v : Bool) → v ≡ eqb s (ruleBy t (getD b (a + 2 + (d - c)) 0))
-      → v ≡ eqb s (at (word (ruleIn b) (restAt b a)) (d - getD b a 0))
-  lead-in h t te v ve =
+  -- v says whether the byte there has the symbol
+  pub lead-in : d - c < l → (v : Bool) → v ≡ eqb s (ruleIn b (getD b (a + 2 + (d - c)) 0)) → v ≡ eqb s (at (word (ruleIn b) (restAt b a)) (d - getD b a 0))
+  lead-in h v ve =
       ve
-      ∙ ap (eqb s) (ap (λ (ρ : Rule). ρ (getD b (a + 2 + (d - c)) 0)) (ap ruleBy te ∙ rule-by (kindOf b))
-      ∙ sym (word-at (ruleIn b) (restAt b a) (d - c) (omega (arith, size)) ∙ ap (ruleIn b) (getD-take (getD b (a + 1) 0) (drop (a + 2) b) (d - c) 0 (omega arith) ∙ getD-drop (a + 2) b (d - c) 0))
+      ∙ ap (eqb s) (sym (word-at (ruleIn b) (restAt b a) (d - c) (omega (arith, size)) ∙ ap (ruleIn b) (getD-take (getD b (a + 1) 0) (drop (a + 2) b) (d - c) 0 (omega arith) ∙ getD-drop (a + 2) b (d - c) 0))
       ∙ ap (λ (n : ℕ). at (word (ruleIn b) (restAt b a)) (d - n)) ce)
 
   pub lead-past : l ≤ d - c → eqb s 0 ≡ eqb s (at (word (ruleIn b) (restAt b a)) (d - getD b a 0))

@@ -1,5 +1,6 @@
 -- A record, by its fields.
 --     led-symbol, led-first                ways out of `is_led_to`
+--     other-no, other-is                   ways out of `is_other`
 --     leaf-depth, leaf-width, leaf-nodes   ways out of `is_leaf`
 --     fork-ends                            the last way out of `may_be_fork`
 -- Assumes nothing.
@@ -17,7 +18,7 @@ use Rattle.format.specs.Marks.{ruleIn}
 use Rattle.format.specs.Spans.{nodeSize}
 use Rattle.streams.specs.Streams.{restAt}
 use Rattle.standing.specs.Maps.{inRows, recordAt}
-use Rattle.inspect.specs.Check.{ForkSays, LeafSays, LedSays}
+use Rattle.inspect.specs.Check.{ForkSays, LeafSays, LedSays, OtherSays}
 
 -- x is the symbol that the record tells, v says whether the entry tells it too, z is the first name
 module _ (b : Bytes) (o i d a x : ℕ) (v : Bool) (xe : x ≡ recordAt inRows b o .symbol) (ve : v ≡ eqb x (at (word (ruleIn b) (restAt b a)) (d - getD b a 0))) where
@@ -30,6 +31,17 @@ module _ (b : Bytes) (o i d a x : ℕ) (v : Bool) (xe : x ≡ recordAt inRows b 
       go : (t : Bool) → eqb z i ≡ t → LedSays b o i d a t
       go true q = (sym xe ∙ eqb-true x _ (sym ve ∙ not-false v h), sym ze ∙ eqb-true z i q)
       go false q = λ k. eqb-false z i q (ze ∙ k .1)
+
+-- x is the symbol that the record tells
+pub other-no : (b : Bytes) (o e s : ℕ) → e ≤ o → OtherSays b o e s false
+other-no b o e s h k = lt-irrefl o (omega (arith, k .0))
+
+pub other-is : (b : Bytes) (o e s x : ℕ) → o < e → x ≡ recordAt inRows b o .symbol → OtherSays b o e s (not (eqb x s))
+other-is b o e s x h xe = go (eqb x s) refl
+  where
+    go : (t : Bool) → eqb x s ≡ t → OtherSays b o e s (not t)
+    go true q = λ k. k .1 (sym xe ∙ eqb-true x s q)
+    go false q = (h, λ z. eqb-false x s q (xe ∙ z))
 
 -- x is the depth, y the width, w the number of nodes, l the name's length
 module _ (b : Bytes) (o len x l : ℕ) (xe : x ≡ recordAt inRows b o .depth) (le : l ≡ len) where

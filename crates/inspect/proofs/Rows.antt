@@ -15,7 +15,8 @@ use lib.ListN.{length, getD}
 use borrow.Author.Tests.{eqb-false, eqb-true, not-false, not-true}
 use Rattle.words.specs.Words.{Bytes, at, shared, word}
 use Rattle.words.specs.Rising.{nth, span}
-use Rattle.words.proofs.Words.{apart, false≠true, shared-at}
+use Rattle.words.proofs.Words.{apart, false≠true, less-parts, part-at, shared-at}
+use Rattle.words.proofs.Rising.{nth-less, nth-positive}
 use Rattle.format.specs.Marks.{ruleIn}
 use Rattle.format.specs.Book.{namesOf, trailerSize, told}
 use Rattle.format.specs.Spans.{deep, wordsOf, nodeSize}
@@ -27,9 +28,8 @@ use Rattle.streams.proofs.Here.{here-fits, here-next, here-rises, here-symbol, 
 use Rattle.standing.specs.Maps.{Roomy, inRows, recordAt}
 use Rattle.standing.specs.Stands.{Child, GroupAt, NodeAt}
 use Rattle.standing.proofs.Walk.{Expected, Walk, deep-short, group-end, node-head, walk-done, walk-more, walk-next, walk-start}
-use Rattle.neighbours.specs.Neighbours.{MeetAsk}
-use Rattle.neighbours.proofs.Meeting.{meet-low}
-use Rattle.inspect.specs.Check.{Ask, ForkSays, LeafSays, LedSays, LedTo, MayBeFork, NodeAsk, NodeSays, RowAsk, RowSays}
+use Rattle.neighbours.specs.Neighbours.{MeetAsk, MeetSays, sharedBefore}
+use Rattle.inspect.specs.Check.{Ask, ForkSays, LeafSays, LedSays, LedTo, MayBeFork, NodeAsk, NodeSays, OtherSays, RowAsk, RowSays}
 use Rattle.inspect.proofs.Nodes.{leaf-not, leaf-stands, says-no, says-yes}
 
 pub record Rows (b : Bytes) (lo₀ n d o₀ e o lo a g : ℕ) : Type 0 where
@@ -45,6 +45,26 @@ pub record Rows (b : Bytes) (lo₀ n d o₀ e o lo a g : ℕ) : Type 0 where
   pub some : lo < length (namesOf b)
   pub fits : entryEnd b a ≤ length b
   pub wide : g ≡ widest (span (wordsOf (ruleIn b) b) lo₀ lo)
+
+-- the name before lo and lo share just d symbols, but where lo is the row's first
+abbrev Parted : Bytes → ℕ → ℕ → ℕ → Type 0
+Parted b lo₀ d lo = lo₀ < lo → sharedBefore b lo ≡ d
+
+-- before the record at o is looked at: they share d at least, and its symbol is not what the name before has there; so they part at d where
+-- it is the symbol of lo, and where the row stands
+pub record Pending (b : Bytes) (lo₀ n d o₀ e o lo a g : ℕ) : Type 0 where
+  pub rows : Parted b lo₀ d lo → Rows b lo₀ n d o₀ e o lo a g
+  pub known : Known (ruleIn b) b
+  pub long : e + trailerSize ≤ length b
+  pub upto : lo < lo₀ + n
+  pub within : lo₀ + n ≤ length (namesOf b)
+  pub here : Here b lo a
+  pub low : getD b a 0 ≤ d
+  pub fits : entryEnd b a ≤ length b
+  pub room : o < e
+  pub shares : lo₀ < lo → d ≤ sharedBefore b lo
+  pub other : lo₀ < lo → recordAt inRows b o .symbol ≡ at (nth (wordsOf (ruleIn b) b) (pred lo)) d → ⊥
+  pub edge : GroupAt inRows b (wordsOf (ruleIn b) b) lo₀ (lo₀ + n) d o₀ e → Parted b lo₀ d lo
 
 pub record Turn (b : Bytes) (lo₀ n d o₀ e o lo a g x m c : ℕ) : Type 0 where
   pub rows : Rows b lo₀ n d o₀ e o lo a g
@@ -82,6 +102,24 @@ module _ (b : Bytes) (lo₀ n d o₀ e : ℕ) where
     wide = sym (widest-none (wordsOf (ruleIn b) b) lo₀);
   }
 
+  pub pending-start : (a : ℕ) → RowAsk b e lo₀ n d a → o₀ < e → Pending b lo₀ n d o₀ e o₀ lo₀ a 0
+  pending-start a q h =
+      let r : Rows b lo₀ n d o₀ e o₀ lo₀ a 0 = rows-start a q in
+      record {
+        rows = λ p. r;
+        known = r .known;
+        long = r .long;
+        upto = r .upto;
+        within = r .within;
+        here = r .here;
+        low = r .low;
+        fits = r .fits;
+        room = h;
+        shares = λ l. absurd (lt-irrefl lo₀ l);
+        other = λ l. absurd (lt-irrefl lo₀ l);
+        edge = λ k l. absurd (lt-irrefl lo₀ l);
+      }
+
   -- the row doesn't stand, of whatever width
   abbrev Refused : ℕ → Type 0
   Refused w = RowSays b o₀ e lo₀ n d w 0
@@ -98,19 +136,25 @@ module _ (b : Bytes) (lo₀ n d o₀ e : ℕ) where
 
     -- ---- up to the child
 
-    module _ (r : Rows b lo₀ n d o₀ e o lo a g) where
-      pub rows-end : {w : ℕ} → e ≤ o → Refused w
-      rows-end h = says-no (λ s. lt-irrefl o (omega (arith, (ahead r (s .group)) .past)))
+    module _ (p : Pending b lo₀ n d o₀ e o lo a g) where
+      symbol-at : (s : ℕ) → s ≡ at (word (ruleIn b) (restAt b a)) (d - getD b a 0) → s ≡ at (nth (wordsOf (ruleIn b) b) lo) d
+      symbol-at s se = here-symbol (ruleIn b) b lo a (p .known) (p .here) (omega (arith, p .upto, p .within)) d s (p .low) se
 
+      pub pending-other : {w : ℕ} → (v : Bool) → LedSays b o lo d a v → not v ≡ true → Refused w
+      pending-other true k h = absurd (false≠true h)
+      pending-other false never h = says-no (λ s. let k = ahead (p .rows (p .edge (s .group))) (s .group) in never (k .symbol ∙ sym (symbol-at _ refl), k .first))
+
+      -- the symbol of lo led to the record
+      pub pending-led : LedTo b o lo d a → Rows b lo₀ n d o₀ e o lo a g
+      pending-led led = p .rows (λ l.
+          part-at (nth (wordsOf (ruleIn b) b) (pred lo)) (nth (wordsOf (ruleIn b) b) lo) d (p .shares l) (λ q. p .other l (symbol-at _ (led .0) ∙ sym q)))
+
+    module _ (r : Rows b lo₀ n d o₀ e o lo a g) where
       pub rows-room : o < e → Roomy inRows b o
       rows-room h = omega (arith, r .long)
 
       symbol-is : (s : ℕ) → s ≡ at (word (ruleIn b) (restAt b a)) (d - getD b a 0) → s ≡ at (nth (wordsOf (ruleIn b) b) lo) d
       symbol-is s se = here-symbol (ruleIn b) b lo a (r .known) (r .here) (r .some) d s (r .low) se
-
-      pub rows-other : {w : ℕ} → (v : Bool) → LedSays b o lo d a v → not v ≡ true → Refused w
-      rows-other true k h = absurd (false≠true h)
-      rows-other false never h = says-no (λ s. let k = ahead r (s .group) in never (k .symbol ∙ sym (symbol-is _ refl), k .first))
 
       -- the entry's symbol led to the record, and x is the number of names that it tells
       module _ (led : LedTo b o lo d a) (x : ℕ) (xe : x ≡ recordAt inRows b o .names) where
@@ -272,44 +316,79 @@ module _ (b : Bytes) (lo₀ n d o₀ e : ℕ) where
         inside : lo + x < length (namesOf b)
         inside = omega (arith, fewer, r .within)
 
+        further : lo₀ < lo + x
+        further = omega (arith, r .walk .from, p .some)
+
         back : suc (pred (lo + x)) ≡ lo + x
         back = omega (arith, p .some)
+
+        -- where the row stands, the child's last name and the next share just d
+        edge : GroupAt inRows b (wordsOf (ruleIn b) b) lo₀ (lo₀ + n) d o₀ e → sharedBefore b (lo + x) ≡ d
+        edge k = subst (λ (y : ℕ). sharedBefore b (lo + y) ≡ d) (sym (p .told)) ((ahead r k) .edge (omega (arith, p .told, fewer)))
+
+        at-edge : GroupAt inRows b (wordsOf (ruleIn b) b) lo₀ (lo₀ + n) d o₀ e → at (nth (wordsOf (ruleIn b) b) (pred (lo + x))) d ≡ at (nth (wordsOf (ruleIn b) b) (lo + x)) d → ⊥
+        at-edge k q =
+            less-parts (nth (wordsOf (ruleIn b) b) (pred (lo + x))) (nth (wordsOf (ruleIn b) b) (lo + x)) (nth-positive (wordsOf (ruleIn b) b) (pred (lo + x)) (r .known .rises))
+            (nth-positive (wordsOf (ruleIn b) b) (lo + x) (r .known .rises))
+            (nth-less (wordsOf (ruleIn b) b) (pred (lo + x)) (lo + x) (r .known .rises) (omega (arith, p .some)) (omega (arith, inside, words-count (ruleIn b) b)))
+            (subst (λ (j : ℕ). at (nth (wordsOf (ruleIn b) b) (lo + x)) j ≡ at (nth (wordsOf (ruleIn b) b) (pred (lo + x))) j) (sym (edge k)) (sym q))
+
+        next : GroupAt inRows b (wordsOf (ruleIn b) b) lo₀ (lo₀ + n) d o₀ e → Expected inRows b (wordsOf (ruleIn b) b) lo₀ (lo₀ + n) d (lo + x) m e
+        next k = walk-next inRows b (wordsOf (ruleIn b) b) (r .known .rises) lo₀ (lo₀ + n) d o₀ (two r) (fit r) (lo + x) m
+            (walk-more inRows b (wordsOf (ruleIn b) b) (r .known .rises) lo₀ (lo₀ + n) d o₀ (two r) (fit r) lo o (r .walk) (lo + x) m (p .child) fewer (edge k)) e k
+
+        -- the next record is of the same symbol, or there is none
+        pub rows-same : {w : ℕ} → (s : ℕ) → s ≡ recordAt inRows b o .symbol → (v : Bool) → OtherSays b m e s v → not v ≡ true → Refused w
+        rows-same s se true k h = absurd (false≠true h)
+        rows-same s se false never h = says-no (λ g. let k = next (g .group) in never (omega (arith, k .past), λ q. at-edge (g .group) (sym last-led ∙ sym se ∙ sym q ∙ k .symbol)))
 
         -- l is where the entry after the last name's stands
         module _ (l : ℕ) (le : l ≡ entryEnd b c) where
           moved : Here b (lo + x) l
           moved = subst (λ (i : ℕ). Here b i l) back (le ∙ here-next b (pred (lo + x)) c (p .here))
 
-          -- s is the symbol that led to the child: its last name has it there, too
-          module _ (s : ℕ) (se : s ≡ recordAt inRows b o .symbol) where
-            pub rows-meets : MeetAsk b l (lo + x) d s
-            rows-meets = record { known = r .known; long = omega (arith, r .long); blocks = r .blocks; some = omega (arith, p .some); within = inside; here = moved; led = se ∙ last-led }
+          pub rows-meets : MeetAsk b c l (lo + x)
+          rows-meets = record { known = r .known; long = omega (arith, r .long); blocks = r .blocks; some = omega (arith, p .some); within = inside; before = p .here; here = moved }
 
-            -- u says whether the next name and the one before share just d symbols
-            module _ (u : Bool) (ue : u ≡ eqb (shared (nth (wordsOf (ruleIn b) b) (pred (lo + x))) (nth (wordsOf (ruleIn b) b) (lo + x))) d) where
-              pub rows-parted : {w : ℕ} → not u ≡ true → Refused w
-              rows-parted h = says-no (λ s.
-                  eqb-false _ d (sym ue ∙ not-true u h)
-                  (subst (λ (y : ℕ). shared (nth (wordsOf (ruleIn b) b) (pred (lo + y))) (nth (wordsOf (ruleIn b) b) (lo + y)) ≡ d) (sym (p .told)) ((ahead r (s .group)) .edge (omega (arith, p .told, fewer)))))
+          -- u says whether the next name can part at d from the one before
+          pub rows-parted : {w : ℕ} → (u : Bool) → MeetSays b l (lo + x) d u → not u ≡ true → Refused w
+          rows-parted true k h = absurd (false≠true h)
+          rows-parted false never h = says-no (λ s. never (edge (s .group)))
 
-              pub rows-more : not u ≡ false → (v y : ℕ) → v ≡ recordAt inRows b o .width → y ≡ max g v → Rows b lo₀ n d o₀ e m (lo + x) l y
-              rows-more h v y ve ye = record {
+          pub rows-more : (s : ℕ) → s ≡ recordAt inRows b o .symbol → (t : Bool) → OtherSays b m e s t → not t ≡ false → (u : Bool) → MeetSays b l (lo + x) d u → not u ≡ false
+              → (v y : ℕ) → v ≡ recordAt inRows b o .width → y ≡ max g v → Pending b lo₀ n d o₀ e m (lo + x) l y
+          rows-more s se false t ft u us fu v y ve ye = absurd (false≠true (sym ft))
+          rows-more s se true t ft false us fu v y ve ye = absurd (false≠true (sym fu))
+          rows-more s se true t ft true us fu v y ve ye =
+              let ends : entryEnd b l ≤ length b = here-fits (ruleIn b) b (lo + x) l (r .known) moved inside in
+              record {
+                rows = λ meets. record {
+                  known = r .known;
+                  blocks = r .blocks;
+                  long = r .long;
+                  several = r .several;
+                  within = r .within;
+                  upto = fewer;
+                  walk = walk-more inRows b (wordsOf (ruleIn b) b) (r .known .rises) lo₀ (lo₀ + n) d o₀ (two r) (fit r) lo o (r .walk) (lo + x) m (p .child) fewer (meets further);
+                  here = moved;
+                  low = us .0;
+                  some = inside;
+                  fits = ends;
+                  wide = wider v y ve ye;
+                };
                 known = r .known;
-                blocks = r .blocks;
                 long = r .long;
-                several = r .several;
-                within = r .within;
                 upto = fewer;
-                walk = walk-more inRows b (wordsOf (ruleIn b) b) (r .known .rises) lo₀ (lo₀ + n) d o₀ (two r) (fit r) lo o (r .walk) (lo + x) m (p .child) fewer meets;
+                within = r .within;
                 here = moved;
-                low = low;
-                some = inside;
-                fits = here-fits (ruleIn b) b (lo + x) l (r .known) moved inside;
-                wide = wider v y ve ye;
+                low = us .0;
+                fits = ends;
+                room = t .0;
+                shares = λ q. us .1;
+                other = λ q z. t .1 (z ∙ sym last-led ∙ sym se);
+                edge = λ k q. edge k;
               }
-                where
-                  meets : shared (nth (wordsOf (ruleIn b) b) (pred (lo + x))) (nth (wordsOf (ruleIn b) b) (lo + x)) ≡ d
-                  meets = eqb-true _ d (sym ue ∙ not-false u h)
 
-                  low : getD b l 0 ≤ d
-                  low = omega (arith, meet-low b l (lo + x) d s rows-meets, meets)
+  -- a row without a record
+  pub rows-none : (a : ℕ) → RowAsk b e lo₀ n d a → {w : ℕ} → e ≤ o₀ → Refused w
+  rows-none a q h = says-no (λ s. lt-irrefl o₀ (omega (arith, (ahead o₀ lo₀ a 0 (rows-start a q) (s .group)) .past)))

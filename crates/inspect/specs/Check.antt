@@ -1,6 +1,7 @@
 -- What the check of a node table asks and says. It goes by the entries, and holds no name.
 --     LeadAsk                      an entry whose symbol is asked for
 --     LedTo, LedSays               a symbol led to a record, which tells its first name; whether it is so
+--     OtherThan, OtherSays         a record starts, with another symbol than one; whether it does
 --     LeafAt, LeafSays             a record of one name has a leaf's depth, number of nodes and width; whether it has
 --     MayBeFork, ForkSays          what is asked of a record of several names before its row is looked at; whether it holds
 --     Ask                          what is asked of the n names from number lo on
@@ -42,6 +43,14 @@ LedTo b o i d a = (recordAt inRows b o .symbol ≡ at (word (ruleIn b) (restAt b
 abbrev pub LedSays : Bytes → ℕ → ℕ → ℕ → ℕ → Bool → Type 0
 LedSays b o i d a true = LedTo b o i d a
 LedSays b o i d a false = LedTo b o i d a → ⊥
+
+-- a record starts at o before e, and has another symbol than s
+abbrev pub OtherThan : Bytes → ℕ → ℕ → ℕ → Type 0
+OtherThan b o e s = (o < e) × (recordAt inRows b o .symbol ≡ s → ⊥)
+
+abbrev pub OtherSays : Bytes → ℕ → ℕ → ℕ → Bool → Type 0
+OtherSays b o e s true = OtherThan b o e s
+OtherSays b o e s false = OtherThan b o e s → ⊥
 
 -- a leaf's depth, of a name of len bytes, its number of nodes and its width
 abbrev pub LeafAt : Bytes → ℕ → ℕ → Type 0

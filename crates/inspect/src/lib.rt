@@ -5,10 +5,24 @@ ghost use Prim.Native.Nat.{_+_, _-_, _≤_};
 ghost use lib.Dec.{eqb};
 ghost use lib.ListN.{length, getD};
 ghost use Rattle.words.specs.Words.{at, word};
+ghost use Rattle.format.specs.Book.{trailerSize};
 ghost use Rattle.format.specs.Marks.{ruleIn};
 ghost use Rattle.streams.specs.Streams.{lengthAt, restAt};
 ghost use Rattle.standing.specs.Maps.{Roomy, inRows};
-ghost use Rattle.inspect.specs.Check.{ForkSays, LeadAsk, LeafSays, LedSays, NodeAsk, NodeSays, RowAsk, RowSays, TableAsk, isTable};
+ghost use Rattle.inspect.specs.Check.{ForkSays, LeadAsk, LeafSays, LedSays, NodeAsk, NodeSays, OtherSays, RowAsk, RowSays, TableAsk, isTable};
+
+// Whether a byte has that symbol. Only of a capital letter the rule is asked for: all others have the same symbol by both.
+fn has_symbol(book: &[u8], x: u8, s: usize) -> bool
+    requires { ⌜ trailerSize ≤ length (now book) ⌝ }
+    ensures { λ r. ⌜ r ≡ eqb s (ruleIn (now (book .entry)) x) ⌝ }
+{
+    if 64 < x {
+        if x < 91 {
+            return symbols::has_symbol(trailer::rule(book), x, s);
+        }
+    }
+    s == numbers::wide(x) + 1
+}
 
 // Whether symbol number d of the name of the entry at a, which shares no more than d bytes, is s.
 fn leads(book: &[u8], a: usize, d: usize, s: usize) -> bool
@@ -17,7 +31,7 @@ fn leads(book: &[u8], a: usize, d: usize, s: usize) -> bool
 {
     let skip = d - numbers::wide(book[a]);
     if skip < numbers::wide(book[a + 1]) {
-        return symbols::has_symbol(trailer::rule(book), book[a + 2 + skip], s);
+        return has_symbol(book, book[a + 2 + skip], s);
     }
     s == 0
 }
@@ -83,6 +97,17 @@ fn may_be_fork(book: &[u8], o: usize, end: usize, n: usize, d: usize, left: usiz
     o + fields::nodes(book, o) * fields::SIZE <= end
 }
 
+// Whether a record starts at an offset before `end`, and has another symbol than s.
+fn is_other(book: &[u8], o: usize, end: usize, s: usize) -> bool
+    requires { ⌜ end + trailerSize ≤ length (now book) ⌝ }
+    ensures { λ r. ⌜ OtherSays (now (book .entry)) o end s r ⌝ }
+{
+    if end <= o {
+        return false;
+    }
+    fields::symbol(book, o) != s
+}
+
 // The node at an offset, of several names, the first one's entry at a: where the entry of its last name stands, or 0, where no node of
 // several names ends. What led to it, its first name and where it ends is its row's to ask.
 fn check_node(book: &[u8], o: usize, a: usize) -> usize
@@ -108,6 +133,7 @@ fn check_node(book: &[u8], o: usize, a: usize) -> usize
 
 // The row from an offset to `end` of the n names from number lo on, whose node has depth d and that width; the first one's entry stands
 // at a. What a child's record says of its width is held to its names where the child is looked at, so the greatest of them is the row's.
+// Two neighbours in the row part at d where they share d symbols at least and the records that lead to them have different symbols.
 fn check_row(
     book: &[u8],
     o: usize,
@@ -125,10 +151,10 @@ fn check_row(
     let mut first = lo;
     let mut entry = a;
     let mut greatest = 0;
+    if end <= o {
+        return 0;
+    }
     loop {
-        if end <= child {
-            return 0;
-        }
         if !is_led_to(book, child, first, d, entry) {
             return 0;
         }
@@ -160,8 +186,12 @@ fn check_row(
             }
             return entry;
         }
-        entry = neighbours::next_entry(book, entry);
-        if !neighbours::parts_at(book, entry, first, d, led) {
+        if !is_other(book, child, end, led) {
+            return 0;
+        }
+        let before = entry;
+        entry = neighbours::next_entry(book, before);
+        if !neighbours::can_part(book, before, entry, first, d) {
             return 0;
         }
     }

@@ -1,38 +1,36 @@
 -- What a name shares with the one before it: by its count, or along the block of the one before.
 --     rule-is, folded-other                       the rule that the code took is the book's; the two are two
 --     start-..                                    where a block starts
---     meet-reads, meet-next                       the entry's bytes
+--     meet-reads, meet-before                     the entries' bytes
 --     meet-low                                    the count is never more than what they share
---     meet-stored                                 by the plain rule a count says it
---     meet-level, meet-less                       by any rule, where it is d or more
---     meet-asks, meet-counted                     along the block
+--     meet-level, meet-less                       a count that is d, or more, says it
+--     meet-stored                                 by the plain rule each count does, but for 0
+--     meet-just, meet-least                       what they share is counted
+--     meet-starts, meet-asks, meet-counted        along the block, from a name that is stored whole
+--     whole-own, whole-first                      which name that is
 -- Assumes nothing.
 use Prim.Native.Nat.{ℕ, zero, suc, pred, _+_, _-_, _*_, _/_, _%_, _≤_, _<_}
 use native.Mathlib.Nat.{div-add-mod', div-le-self, lt-irrefl, mod-lt}
 use native.Mathlib.Omega.{arith}
 use mathlib.Core.Path.{_≡_, refl, sym, ap, ap₂, _∙_, subst}
-use mathlib.Core.Bool.{Bool, true, false, not}
+use mathlib.Core.Bool.{Bool, true, false}
 use mathlib.Core.List.{List, []}
-use lib.Dec.{eqb}
-use lib.ListN.{length, getD, drop, length-drop, length-take}
-use lib.Seq.{getD-drop, getD-take}
-use borrow.Author.Tests.{eq-eqb, eqb-false, eqb-true, ne-eqb}
+use lib.Dec.{eqb, leb}
+use lib.ListN.{length, getD}
+use borrow.Author.Tests.{eq-eqb, eqb-false, eqb-true, leb-false, leb-true, ne-eqb}
 use mir.Val.{Fits}
 use mir.Syntax.{w64}
-use Rattle.words.specs.Words.{Bytes, Rule, at, less, plain, shared, word}
-use Rattle.words.specs.Rising.{nth}
-use Rattle.words.proofs.Rising.{nth-less, nth-positive}
-use Rattle.words.proofs.Words.{less-parts, less-short, part-at, plain-injective, shared-front, shared-word, shared-word-le, word-at}
+use Rattle.words.specs.Words.{Bytes, Rule, pick, plain, shared, word}
+use Rattle.words.proofs.Words.{plain-injective, shared-front, shared-word, shared-word-le}
 use Rattle.format.specs.Marks.{BookKind, kindOf, ruleIn, ruleOf}
-use Rattle.format.specs.Spans.{wordsOf}
 use Rattle.format.specs.Book.{number, namesOf, told}
 use Rattle.symbols.specs.Rules.{byKind, ruleBy}
 use Rattle.symbols.specs.declared.Rule.{Rule as ByRule}
 use Rattle.symbols.specs.declared.Rule.the-variants.{Folded, Plain}
 use Rattle.symbols.proofs.Symbols.{rule-by}
-use Rattle.streams.specs.Streams.{Known, offsetAt, restAt}
-use Rattle.streams.proofs.Here.{Comes, comes, here-length, here-symbol, words-count, words-nth}
-use Rattle.neighbours.specs.Neighbours.{AlongAsk, AlongSays, MeetAsk, StartAsk, startOf}
+use Rattle.streams.specs.Streams.{Here, Known, offsetAt, restAt}
+use Rattle.streams.proofs.Here.{Comes, comes, here-fits, words-nth}
+use Rattle.neighbours.specs.Neighbours.{AlongAsk, AlongSays, MeetAsk, MeetSays, StartAsk, sharedBefore, startOf, wholeBefore}
 use Rattle.neighbours.proofs.Along.{before-is}
 
 -- t is what the book told, and r the way that was taken
@@ -68,25 +66,21 @@ module _ (b : Bytes) (i : ℕ) (ask : StartAsk b i) (k s : ℕ) (ke : k ≡ told
 
 -- ---- the two names
 
-module _ (b : Bytes) (a i d s : ℕ) (m : MeetAsk b a i d s) where
+module _ (b : Bytes) (p a i : ℕ) (m : MeetAsk b p a i) where
   abbrev prev : Bytes
   prev = getD (namesOf b) (pred i) []
 
   abbrev name : Bytes
   name = getD (namesOf b) i []
 
-  -- how many symbols they share
-  abbrev meet : ℕ
-  meet = shared (nth (wordsOf (ruleIn b) b) (pred i)) (nth (wordsOf (ruleIn b) b) i)
-
-  meet-is : meet ≡ shared (word (ruleIn b) prev) (word (ruleIn b) name)
+  meet-is : sharedBefore b i ≡ shared (word (ruleIn b) prev) (word (ruleIn b) name)
   meet-is = ap₂ (λ (x y : List ℕ). shared x y) (words-nth (ruleIn b) b (pred i)) (words-nth (ruleIn b) b i)
 
   come : Comes b a prev name
   come = subst (λ (y : Bytes). Comes b a y name) (before-is b 0 i (m .some)) (comes (ruleIn b) b i a (m .known) (m .here) (m .within))
 
   -- a stored count is never more
-  pub meet-low : getD b a 0 ≤ meet
+  pub meet-low : getD b a 0 ≤ sharedBefore b i
   meet-low =
       omega (
         arith,
@@ -95,19 +89,11 @@ module _ (b : Bytes) (a i d s : ℕ) (m : MeetAsk b a i d s) where
         shared-word-le (ruleIn b) prev name,
       )
 
-  -- the name is above the one before, so it goes on where they part
-  above : less (nth (wordsOf (ruleIn b) b) (pred i)) (nth (wordsOf (ruleIn b) b) i) ≡ true
-  above = nth-less (wordsOf (ruleIn b) b) (pred i) i (m .known .rises) (omega (arith, m .some)) (omega (arith, words-count (ruleIn b) b, m .within))
-
-  meet-short : meet < getD b a 0 + getD b (a + 1) 0
-  meet-short =
-      omega (arith, less-short (nth (wordsOf (ruleIn b) b) (pred i)) (nth (wordsOf (ruleIn b) b) i) above, here-length (ruleIn b) b i a (m .known) (m .here) (m .within))
-
   pub meet-reads : a < length b
   meet-reads = omega (arith, come .stands .fits)
 
-  pub meet-next : a + 2 < length b
-  meet-next = omega (arith, come .stands .fits, meet-low, meet-short)
+  pub meet-before : p < length b
+  meet-before = omega (arith, here-fits (ruleIn b) b (pred i) p (m .known) (m .before) (omega (arith, m .within)))
 
   module _ (c : ℕ) (ce : c ≡ getD b a 0) where
     -- ---- the count says it
@@ -136,64 +122,77 @@ module _ (b : Bytes) (a i d s : ℕ) (m : MeetAsk b a i d s) where
     by-bytes zero z h = absurd (lt-irrefl 0 (omega (arith, first z)))
     by-bytes (suc q) z h = inner q z
 
-    pub meet-stored : (t : ByRule) → t ≡ byKind (kindOf b) → t ≡ Plain → 0 < c → eqb c d ≡ eqb meet d
-    meet-stored t te e h =
-        ap (λ (n : ℕ). eqb n d) (by-bytes (i % told b 1) refl h ∙ sym (shared-word plain plain-injective prev name)
-        ∙ ap (λ (ρ : Rule). shared (word ρ prev) (word ρ name)) (sym (rule-is (kindOf b) t Plain te e)) ∙ sym meet-is)
+    stored : (t : ByRule) → t ≡ byKind (kindOf b) → t ≡ Plain → 0 < c → c ≡ sharedBefore b i
+    stored t te e h =
+        by-bytes (i % told b 1) refl h ∙ sym (shared-word plain plain-injective prev name)
+        ∙ ap (λ (ρ : Rule). shared (word ρ prev) (word ρ name)) (sym (rule-is (kindOf b) t Plain te e)) ∙ sym meet-is
 
-    -- ---- or where it is d or more
+    module _ (d : ℕ) where
+      pub meet-level : c ≡ d → MeetSays b a i d true
+      meet-level e = (omega arith, omega (arith, meet-low))
 
-    pub meet-less : d < c → false ≡ eqb meet d
-    meet-less h = sym (ne-eqb meet d (λ e. lt-irrefl d (omega (arith, meet-low))))
+      pub meet-less : d < c → MeetSays b a i d false
+      meet-less h e = lt-irrefl d (omega (arith, meet-low))
 
-    -- v says whether the first byte that the entry adds has the symbol s
-    pub meet-level : (t r : ByRule) → t ≡ byKind (kindOf b) → t ≡ r → c ≡ d → (v : Bool) → v ≡ eqb s (ruleBy r (getD b (a + 2) 0)) → not v ≡ eqb meet d
-    meet-level t r te e h v ve = go v ve
-      where
-        more : 0 < getD b (a + 1) 0
-        more = omega (arith, meet-low, meet-short)
+      pub meet-stored : (t : ByRule) → t ≡ byKind (kindOf b) → t ≡ Plain → (c ≡ 0 → ⊥) → (c ≡ d → ⊥) → MeetSays b a i d false
+      meet-stored t te e some other q = other (stored t te e (omega arith) ∙ q)
 
-        size : 0 < length (restAt b a)
-        size = omega (arith, come .stands .fits, more, length-drop (a + 2) b, length-take (getD b (a + 1) 0) (drop (a + 2) b))
+      -- ---- or it is counted: x is what they share
 
-        -- symbol number d of the name
-        here : ruleBy r (getD b (a + 2) 0) ≡ at (nth (wordsOf (ruleIn b) b) i) d
-        here =
-            let z : a + 2 + 0 ≡ a + 2 = omega arith in
-            let o : 0 ≡ d - getD b a 0 = omega arith in
-            here-symbol (ruleIn b) b i a (m .known) (m .here) (m .within) d (ruleBy r (getD b (a + 2) 0)) (omega arith)
-            (ap (λ (ρ : Rule). ρ (getD b (a + 2) 0)) (sym (rule-is (kindOf b) t r te e))
-            ∙ sym (ap (λ (n : ℕ). at (word (ruleIn b) (restAt b a)) n) (sym o) ∙ word-at (ruleIn b) (restAt b a) 0 size
-            ∙ ap (ruleIn b) (getD-take (getD b (a + 1) 0) (drop (a + 2) b) 0 0 more ∙ getD-drop (a + 2) b 0 0 ∙ ap (λ (n : ℕ). getD b n 0) z)))
+      module _ (x : ℕ) (xe : x ≡ sharedBefore b i) where
+        pub meet-just : c ≡ 0 → MeetSays b a i d (eqb x d)
+        meet-just z = go (eqb x d) refl
+          where
+            go : (v : Bool) → eqb x d ≡ v → MeetSays b a i d v
+            go true q = (omega arith, omega (arith, eqb-true x d q))
+            go false q = λ e. eqb-false x d q (xe ∙ e)
 
-        go : (u : Bool) → u ≡ eqb s (ruleBy r (getD b (a + 2) 0)) → not u ≡ eqb meet d
-        go true ue =
-            sym (ne-eqb meet d (λ q.
-            less-parts (nth (wordsOf (ruleIn b) b) (pred i)) (nth (wordsOf (ruleIn b) b) i) (nth-positive (wordsOf (ruleIn b) b) (pred i) (m .known .rises))
-            (nth-positive (wordsOf (ruleIn b) b) i (m .known .rises)) above
-            (subst (λ (n : ℕ). at (nth (wordsOf (ruleIn b) b) i) n ≡ at (nth (wordsOf (ruleIn b) b) (pred i)) n) (sym q) (sym here ∙ sym (eqb-true _ _ (sym ue)) ∙ m .led))))
-        go false ue =
-            sym (eq-eqb meet d (part-at (nth (wordsOf (ruleIn b) b) (pred i)) (nth (wordsOf (ruleIn b) b) i) d (omega (arith, meet-low)) (λ q. eqb-false _ _ (sym ue) (m .led ∙ q ∙ sym here))))
+        pub meet-least : c ≤ d → MeetSays b a i d (leb d x)
+        meet-least l = go (leb d x) refl
+          where
+            go : (v : Bool) → leb d x ≡ v → MeetSays b a i d v
+            go true q = (omega arith, omega (arith, leb-true d x q))
+            go false q = λ e. lt-irrefl x (omega (arith, leb-false d x q))
 
-    -- ---- or the names of a block
+  -- ---- the names of a block
 
-    pub meet-asks : (t r : ByRule) → t ≡ byKind (kindOf b) → t ≡ r → (r ≡ Plain → c ≡ 0) → (start : ℕ) → start ≡ startOf b (i - 1) → AlongAsk r b start a c
-    meet-asks t r te e w start st =
-        let l : (i - 1) / told b 1 * told b 1 + (i - 1) % told b 1 ≡ i - 1 = div-add-mod' (i - 1) (told b 1) in
-        record {
-          known = subst (λ (ρ : Rule). Known ρ b) (rule-is (kindOf b) t r te e) (m .known);
-          p = (i - 1) / told b 1 * told b 1;
-          i = i;
-          order = omega (arith, l, m .some);
-          within = m .within;
-          first = st;
-          there = m .here;
-          fresh = ap (λ (o : ℕ). getD b o 0) st ∙ m .blocks .first ((i - 1) / told b 1) (omega (arith, l, m .within));
-          count = ce;
-          whole = w;
-        }
+  pub meet-starts : StartAsk b (i - 1)
+  meet-starts = record { long = m .long; blocks = m .blocks; within = omega (arith, m .within); few = m .known .few }
 
-  pub meet-counted : (t r : ByRule) → t ≡ byKind (kindOf b) → t ≡ r → (x : ℕ) → AlongSays (ruleBy r) b a x → eqb x d ≡ eqb meet d
+  -- from a name that is stored whole, t and r as above
+  pub meet-asks : (t r : ByRule) → t ≡ byKind (kindOf b) → t ≡ r → (c : ℕ) → c ≡ getD b a 0 → (r ≡ Plain → c ≡ 0) → (start : ℕ) → start ≡ wholeBefore b p (i - 1) → AlongAsk r b start a c
+  meet-asks t r te e c ce w start st = go (eqb (getD b p 0) 0) refl st
+    where
+      asks : (q : ℕ) → q < i → Here b q start → getD b start 0 ≡ 0 → AlongAsk r b start a c
+      asks q order first fresh = record {
+        known = subst (λ (ρ : Rule). Known ρ b) (rule-is (kindOf b) t r te e) (m .known);
+        p = q;
+        i = i;
+        order = order;
+        within = m .within;
+        first = first;
+        there = m .here;
+        fresh = fresh;
+        count = ce;
+        whole = w;
+      }
+
+      go : (v : Bool) → eqb (getD b p 0) 0 ≡ v → start ≡ pick v p (startOf b (i - 1)) → AlongAsk r b start a c
+      go true q at-p = asks (pred i) (omega (arith, m .some)) (at-p ∙ m .before) (ap (λ (o : ℕ). getD b o 0) at-p ∙ eqb-true (getD b p 0) 0 q)
+      go false q at-first =
+          let l : (i - 1) / told b 1 * told b 1 + (i - 1) % told b 1 ≡ i - 1 = div-add-mod' (i - 1) (told b 1) in
+          asks ((i - 1) / told b 1 * told b 1) (omega (arith, l, m .some)) at-first
+          (ap (λ (o : ℕ). getD b o 0) at-first ∙ m .blocks .first ((i - 1) / told b 1) (omega (arith, l, m .within)))
+
+  pub meet-counted : (t r : ByRule) → t ≡ byKind (kindOf b) → t ≡ r → (x : ℕ) → AlongSays (ruleBy r) b a x → x ≡ sharedBefore b i
   meet-counted t r te e x says =
-      ap (λ (n : ℕ). eqb n d) (says i (m .some) (m .within) (m .here)
-      ∙ ap (λ (ρ : Rule). shared (word ρ prev) (word ρ name)) (sym (rule-is (kindOf b) t r te e)) ∙ sym meet-is)
+      says i (m .some) (m .within) (m .here) ∙ ap (λ (ρ : Rule). shared (word ρ prev) (word ρ name)) (sym (rule-is (kindOf b) t r te e)) ∙ sym meet-is
+
+-- ---- which entry is gone along from
+
+module _ (b : Bytes) (p i : ℕ) where
+  pub whole-own : getD b p 0 ≡ 0 → p ≡ wholeBefore b p i
+  whole-own z = ap (λ (v : Bool). pick v p (startOf b i)) (sym (eq-eqb (getD b p 0) 0 z))
+
+  pub whole-first : (getD b p 0 ≡ 0 → ⊥) → (r : ℕ) → r ≡ startOf b i → r ≡ wholeBefore b p i
+  whole-first n r e = e ∙ ap (λ (v : Bool). pick v p (startOf b i)) (sym (ne-eqb (getD b p 0) 0 n))

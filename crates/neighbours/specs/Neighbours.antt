@@ -4,20 +4,24 @@
 --     NextAsk, sharedNext   one entry further along a block
 --     AlongAsk, AlongSays   entries from a block's start on up to the one at a; what the name there shares with the one before
 --     StartAsk, startOf     where the block of a name starts
---     MeetAsk               name i is not the first, and stands at a; the name before it has the symbol s at d
+--     wholeBefore           an entry that stores a name whole, from which the names up to number i can be gone along
+--     sharedBefore          what a name shares with the one before it
+--     MeetAsk, MeetSays     name i is not the first, its entry stands at a, and that of the name before at p; whether they can part at d
+--     CountAsk              that, where what they share has to be counted
 -- The laws are in proofs/. Assumes nothing: these are definitions.
 use Prim.Native.Nat.{ℕ, max, min, pred, _+_, _-_, _*_, _/_, _≤_, _<_}
 use mathlib.Core.Path.{_≡_}
+use mathlib.Core.Bool.{Bool, true, false}
 use mathlib.Core.List.{[]}
-use lib.Dec.{ltb}
+use lib.Dec.{eqb, ltb}
 use lib.ListN.{drop, getD, length, take}
 use Rattle.words.specs.Rising.{nth}
-use Rattle.words.specs.Words.{Bytes, Rule, at, pick, shared, word}
-use Rattle.format.specs.Marks.{ruleIn}
+use Rattle.words.specs.Words.{Bytes, Rule, pick, shared, word}
+use Rattle.format.specs.Marks.{kindOf, ruleIn}
 use Rattle.format.specs.Spans.{wordsOf}
 use Rattle.format.specs.Book.{trailerSize, longestBook, namesOf, told}
 use Rattle.format.specs.Records.{longest, mostNames}
-use Rattle.symbols.specs.Rules.{ruleBy}
+use Rattle.symbols.specs.Rules.{byKind, ruleBy}
 use Rattle.symbols.specs.declared.Rule.{Rule as ByRule}
 use Rattle.symbols.specs.declared.Rule.the-variants.{Folded, Plain}
 use Rattle.streams.specs.Streams.{Here, InBlocks, Known, entryEnd, lengthAt, offsetAt, restAt}
@@ -87,11 +91,29 @@ pub record StartAsk (b : Bytes) (i : ℕ) : Type 0 where
 abbrev pub startOf : Bytes → ℕ → ℕ
 startOf b i = offsetAt b (i / told b 1 * told b 1)
 
-pub record MeetAsk (b : Bytes) (a i d s : ℕ) : Type 0 where
+-- the name at p is stored whole, or else its block's first name is
+abbrev pub wholeBefore : Bytes → ℕ → ℕ → ℕ
+wholeBefore b p i = pick (eqb (getD b p 0) 0) p (startOf b i)
+
+-- what name i shares with the one before it, in symbols
+abbrev pub sharedBefore : Bytes → ℕ → ℕ
+sharedBefore b i = shared (nth (wordsOf (ruleIn b) b) (pred i)) (nth (wordsOf (ruleIn b) b) i)
+
+pub record MeetAsk (b : Bytes) (p a i : ℕ) : Type 0 where
   pub known : Known (ruleIn b) b
   pub long : trailerSize ≤ length b
   pub blocks : InBlocks b (told b 1) (told b 2)
   pub some : 0 < i
   pub within : i < length (namesOf b)
+  pub before : Here b (pred i) p
   pub here : Here b i a
-  pub led : s ≡ at (nth (wordsOf (ruleIn b) b) (pred i)) d
+
+-- by the plain rule a count says it, but for 0
+pub record CountAsk (b : Bytes) (p a i : ℕ) : Type 0 where
+  pub meet : MeetAsk b p a i
+  pub whole : byKind (kindOf b) ≡ Plain → getD b a 0 ≡ 0
+
+-- yes: they share d symbols at least, and no more than d bytes are stored as shared; no: they don't share just d symbols
+abbrev pub MeetSays : Bytes → ℕ → ℕ → ℕ → Bool → Type 0
+MeetSays b a i d true = (getD b a 0 ≤ d) × (d ≤ sharedBefore b i)
+MeetSays b a i d false = sharedBefore b i ≡ d → ⊥

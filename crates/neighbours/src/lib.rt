@@ -2,17 +2,12 @@
 // it is, but of a block's first name, which is stored whole; names that part in bytes can go on in the same symbols. Where the count does
 // not say it, a name is held to the names before it in their block, entry by entry, and no name is rebuilt.
 ghost use mathlib.Core.Path.{_≡_};
-ghost use Prim.Native.Nat.{pred, _-_, _≤_};
-ghost use lib.Dec.{eqb};
+ghost use Prim.Native.Nat.{_-_, _<_, _≤_};
 ghost use lib.ListN.{length};
-ghost use Rattle.words.specs.Words.{shared};
-ghost use Rattle.words.specs.Rising.{nth};
-ghost use Rattle.format.specs.Marks.{ruleIn};
-ghost use Rattle.format.specs.Spans.{wordsOf};
 ghost use Rattle.symbols.specs.Rules.{ruleBy};
 ghost use Rattle.symbols.specs.declared.Rule.the-variants.{Folded, Plain};
 ghost use Rattle.streams.specs.Streams.{entryEnd};
-ghost use Rattle.neighbours.specs.Neighbours.{AlongAsk, AlongSays, EndAsk, MeetAsk, NextAsk, RestAsk, StartAsk, endBy, sharedNext, sharedParts, startOf};
+ghost use Rattle.neighbours.specs.Neighbours.{AlongAsk, AlongSays, CountAsk, EndAsk, MeetAsk, MeetSays, NextAsk, RestAsk, StartAsk, endBy, sharedBefore, sharedNext, sharedParts, startOf, wholeBefore};
 use symbols::Rule;
 
 // Where the entry after the one at an offset stands.
@@ -76,7 +71,7 @@ fn shared_next(rule: Rule, book: &[u8], at: usize, a: usize, c: usize, x: usize)
 }
 
 // What the name of the entry at a, which is stored whole, shares with the name before it by the plain rule, counted along the entries from
-// `start` on, where a block starts. One loop for each rule: each has one caller, so it costs no call.
+// `start` on, which stores a name whole. One loop for each rule: each has one caller, so it costs no call.
 fn plain_along(book: &[u8], start: usize, a: usize) -> usize
     requires { ⌜ AlongAsk Plain (now book) start a 0 ⌝ }
     ensures { λ r. ⌜ AlongSays (ruleBy Plain) (now (book .entry)) a r ⌝ }
@@ -113,32 +108,50 @@ fn start_of(book: &[u8], i: usize) -> usize
     numbers::number_at(book, trailer::blocks_at(book) + 2 * (i / k))
 }
 
-// Whether name number i, whose entry stands at a, shares just d symbols with the name before it, whose symbol number d is s. By the plain
-// rule a stored count is what they share, but for 0, which a block's first name stores. By the folded rule they share that at least, and no
-// more where they have different symbols there. A count of 0 is handed on as such, which saves the recursion above 16 bytes a level.
-pub fn parts_at(book: &[u8], a: usize, i: usize, d: usize, s: usize) -> bool
-    requires { ⌜ MeetAsk (now book) a i d s ⌝ }
-    ensures { λ r. ⌜ r ≡ eqb (shared (nth (wordsOf (ruleIn (now (book .entry))) (now (book .entry))) (pred i)) (nth (wordsOf (ruleIn (now (book .entry))) (now (book .entry))) i)) d ⌝ }
+// An entry from which the names up to number i can be gone along: its own, at p, where it stores the name whole; else its block's first.
+fn whole_before(book: &[u8], p: usize, i: usize) -> usize
+    requires { ⌜ StartAsk (now book) i × (p < length (now book)) ⌝ }
+    ensures { λ r. ⌜ r ≡ wholeBefore (now (book .entry)) p i ⌝ }
+{
+    if book[p] == 0 {
+        return p;
+    }
+    start_of(book, i)
+}
+
+// What name number i, whose entry stands at a, shares with the name before it, whose entry stands at p. This is called from two places that
+// the compiler can't make one, and is longer than what it copies: so it stays a function, and the node walk above it needs less stack and
+// fewer instructions than with the loops inside (DECISIONS 135).
+fn shared_along(book: &[u8], p: usize, a: usize, i: usize) -> usize
+    requires { ⌜ CountAsk (now book) p a i ⌝ }
+    ensures { λ r. ⌜ r ≡ sharedBefore (now (book .entry)) i ⌝ }
+{
+    let start = whole_before(book, p, i - 1);
+    match trailer::rule(book) {
+        Rule::Plain => plain_along(book, start, a),
+        Rule::Folded => folded_along(book, start, a, numbers::wide(book[a])),
+    }
+}
+
+// Whether name number i, whose entry stands at a, can part at symbol number d from the name before it, whose entry stands at p: no, where they
+// share more or less; and where they share d symbols at least, and the entry no more bytes, yes. A stored count that is d says it under
+// every rule, and by the plain rule each count does, but for 0, which a block's first name stores.
+pub fn can_part(book: &[u8], p: usize, a: usize, i: usize, d: usize) -> bool
+    requires { ⌜ MeetAsk (now book) p a i ⌝ }
+    ensures { λ r. ⌜ MeetSays (now (book .entry)) a i d r ⌝ }
 {
     let c = numbers::wide(book[a]);
+    if c == d {
+        return true;
+    }
+    if d < c {
+        return false;
+    }
+    if c == 0 {
+        return shared_along(book, p, a, i) == d;
+    }
     match trailer::rule(book) {
-        Rule::Plain => {
-            if 0 < c {
-                return c == d;
-            }
-            plain_along(book, start_of(book, i - 1), a) == d
-        }
-        Rule::Folded => {
-            if c == d {
-                return !symbols::has_symbol(Rule::Folded, book[a + 2], s);
-            }
-            if d < c {
-                return false;
-            }
-            if c == 0 {
-                return folded_along(book, start_of(book, i - 1), a, 0) == d;
-            }
-            folded_along(book, start_of(book, i - 1), a, c) == d
-        }
+        Rule::Plain => false,
+        Rule::Folded => d <= shared_along(book, p, a, i),
     }
 }

@@ -118,7 +118,7 @@ pub use salvage::{blocks_of, salvage, Block, Blocks, Names, Salvaged};
 pub const BUILD_STACK: usize = 7936;
 /// The bytes of stack that are enough for every other call, whatever is lent to
 /// it: a book, or bytes that are none.
-pub const STACK: usize = 29_696;
+pub const STACK: usize = 26_624;
 
 /// What a check tells of a book.
 #[derive(Clone, Copy, Debug, PartialEq, Eq, Hash)]

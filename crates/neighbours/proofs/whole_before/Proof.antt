@@ -1,0 +1,9 @@
+-- `neighbours::whole_before` meets its contract.
+-- Assumes nothing.
+use borrow.Author.Needs.{needs}
+use Rattle.neighbours.proofs.Meeting.{whole-first, whole-own}
+use Rattle.neighbours.proofs.whole_before.Statement.{statement}
+use Rattle.neighbours.proofs.whole_before.Tie as tie
+
+pub whole-before-spec : {M : Type 1} → statement M
+whole-before-spec = tie.close (tie.spec (λ c. search needs) (λ c. search whole-own) (λ c κs. search needs) (λ c. whole-first _ _ _ (c .before .if1 .left) _ (c .start-of .ensures)))
