@@ -162,13 +162,9 @@ module _ {ρ : Rule} {b : Bytes} {e o₀ m o : ℕ} {name : Bytes} {len left : �
 -- ---- a block and the name before it
 
 module _ (ρ : Rule) (b : Bytes) (o e m : ℕ) where
-  pub next-none : (prev name : Bytes) (r : Bool) → not r ≡ true → EntrySays ρ b o e [] r → 0 < m → NextSays ρ b o e m prev false name 0
-  next-none prev name true h k some = absurd (false≠true h)
-  next-none prev name false h k some = λ l run up. k (run-first ρ b e o [] m l some run .0)
-
-  pub next-fits : (r : Bool) → not r ≡ false → EntrySays ρ b o e [] r → entryEnd b o ≤ e
-  next-fits true h k = k .fits
-  next-fits false h k = absurd (false≠true (sym h))
+  -- n is the length that the first entry tells
+  pub next-past : (prev name : Bytes) (n : ℕ) → n ≡ getD b (o + 1) 0 → e < o + 2 + n → 0 < m → NextSays ρ b o e m prev false name 0
+  next-past prev name n ne h some = λ l run up. lt-irrefl e (omega (arith, run-first ρ b e o [] m l some run .0 .fits))
 
   -- r is what the code found of `&name[0..before]` and `&book[from..to]`, which is the first name
   module _ (name : Bytes) (before n : ℕ) (r : Bool) (ne : n ≡ getD b (o + 1) 0)

@@ -95,8 +95,9 @@ impl Cursor {
 }
 
 // Whether the entries of a block of m names of a plain book stand from an offset to `end`; then the first bytes of the lent name are its last
-// one. By a constant rule the compiler leaves the other one out, and puts the loop where the check is, with its copies (DECISIONS 126).
-fn plain_block(book: &[u8], start: usize, end: usize, m: usize, name: &mut [u8]) -> Last
+// one. By a constant rule the compiler leaves the other one out, and puts the loop where the check is, with its copies (DECISIONS 126). Who
+// reads only plain books calls it: were `check_block` called from two places, it would stand in neither (DECISIONS 135).
+pub fn plain_block(book: &[u8], start: usize, end: usize, m: usize, name: &mut [u8]) -> Last
     requires { ⌜ (end ≤ length (now book)) × (length (now name) ≡ 200) ⌝ }
     ensures { λ r. ⌜ (r .len ≤ 200) × (length (now (name .exit)) ≡ 200) × BlockSays (ruleBy Rule.Plain) (now (book .entry)) start end m (r .ok) (now (name .exit)) (r .len) ⌝ }
 {
@@ -183,14 +184,14 @@ fn next_block(
     name: &mut [u8],
     before: usize,
 ) -> Last
-    requires { ⌜ (end ≤ length (now book)) × (0 < m) × (length (now name) ≡ 200) × (before ≤ 200) ⌝ }
+    requires { ⌜ (start + 2 ≤ length (now book)) × (end ≤ length (now book)) × (0 < m) × (length (now name) ≡ 200) × (before ≤ 200) ⌝ }
     ensures { λ r. ⌜ (r .len ≤ 200) × (length (now (name .exit)) ≡ 200) × NextSays (ruleBy rule) (now (book .entry)) start end m (take before (now (name .entry))) (r .ok) (now (name .exit)) (r .len) ⌝ }
 {
-    if !is_entry(rule, book, start, end, &name[0..0]) {
-        return Last { ok: false, len: 0 };
-    }
     let from = start + 2;
     let to = from + numbers::wide(book[start + 1]);
+    if end < to {
+        return Last { ok: false, len: 0 };
+    }
     if !symbols::is_less(rule, &name[0..before], &book[from..to]) {
         return Last { ok: false, len: 0 };
     }

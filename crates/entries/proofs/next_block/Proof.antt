@@ -1,25 +1,28 @@
 -- `entries::next_block` meets its contract.
 -- Assumes nothing.
-use Prim.Native.Nat.{_≤_}
-use mathlib.Core.Path.{_≡_}
-use mathlib.Core.Bool.{false, not}
 use native.Mathlib.Omega.{arith}
-use Rattle.streams.specs.Streams.{entryEnd}
-use Rattle.entries.proofs.Reading.{next-fits, next-judged, next-low, next-none}
+use lib.ListN.{take}
+use Rattle.entries.proofs.Reading.{next-judged, next-low, next-past}
 use borrow.Author.Needs.{needs}
 use Rattle.entries.proofs.next_block.Statement.{statement}
 use Rattle.entries.proofs.next_block.Tie as tie
 
--- where the first entry stands, it is within the block
-fits : (c : tie.After-is-entry) → not (c .is-entry .result) ≡ false
-    → let a = c .before .before .before .before .before .args in entryEnd (a .book .now) (a .start) ≤ a .end
-fits c h = search next-fits
+-- the first entry goes on behind the block
+returns : tie.Need-returns
+returns c =
+    let rest = c .before in
+    let s = rest .before .before .before .before in
+    let a = s .args in (
+      omega arith,
+      omega arith,
+      next-past _ (a .book .now) (a .start) (a .end) (a .m) (take (a .before) (a .name .now)) (a .name .now) _ (rest .wide .ensures .0) (c .if1 .taken) (s .pre .2),
+    )
 
 -- the first name is not above the name before
 returns-2 : tie.Need-returns-2
 returns-2 c =
-    let rest = c .before .before .before .before .before in
-    let a = rest .before .before .before .before .before .before .before .before .args in (
+    let rest = c .before .before .before .before .before .before in
+    let a = rest .before .before .before .before .args in (
       omega arith,
       omega arith,
       next-low _ (a .book .now) (a .start) (a .end) (a .m) (a .name .now) (a .before) _ _ (rest .wide .ensures .0) (c .before .is-less .ensures) (a .name .now)
@@ -30,8 +33,8 @@ returns-2 c =
 returns-3 : tie.Need-returns-3
 returns-3 c =
     let above = c .before .before .before .before .before in
-    let rest = above .before .before .before .before in
-    let a = rest .before .before .before .before .before .before .before .before .args in
+    let rest = above .before .before .before .before .before in
+    let a = rest .before .before .before .before .args in
     let block = c .before .before .check-block in (
       omega arith,
       omega arith,
@@ -48,18 +51,13 @@ next-block-spec =
     (λ c. search needs)
     (λ c κs. search needs)
     (λ c. search needs)
-    (λ c. (omega arith, omega arith, search next-none))
-    (λ c. omega (arith, fits))
-    (λ c. omega (arith, fits))
-    (λ c. omega (arith, fits))
-    (λ c κs. search needs)
-    (λ c. omega (arith, fits))
+    returns
     (λ c. search needs)
     (λ c. search needs)
     (λ c. search needs)
     (λ c. search needs)
     (λ c. search needs)
-    (λ c. omega (arith, fits))
+    (λ c. search needs)
     (λ c κs. search needs)
     (λ c. search needs)
     returns-2

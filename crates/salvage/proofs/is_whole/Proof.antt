@@ -8,7 +8,7 @@ use Rattle.salvage.proofs.is_whole.Tie as tie
 returns : tie.Need-returns
 returns c =
     let asked = c .before .before .before .before in
-    let said = c .before .check-block in
+    let said = c .before .plain-block in
     whole-says _ _ _ _ (asked .pre .order) (asked .pre .inside) (said .result .ok) _ _ (said .ensures .2)
 
 pub is-whole-spec : {M : Type 1} → statement M
