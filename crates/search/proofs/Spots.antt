@@ -1,6 +1,7 @@
 -- The node that is found, and the answers there.
 --     Upwards, climb-..   the loop of `highest`, from the end of the path
---     end-.., met-..       the last node of the path; the name that is reached, and how it stands to the question
+--     met, near            how the name at a position stands to the question; the same of the name that is reached
+--     end-..               the last node of the path; the name that is reached
 --     starts               the node table, where the trailer tells
 --     spot                 the highest node that is deep enough is the one with the names that share most
 --     seat-..              the place there: before or after the edge, a child, the end of the row
@@ -14,13 +15,14 @@ use mathlib.Core.Path.{_≡_, _∙_, ap, ap₂, subst, sym}
 use mathlib.Core.Logic.{_⊎_, inl, inr}
 use mathlib.Core.List.{List, []}
 use lib.ListN.{getD, length, length-map, take}
+use lib.Seq.{length-take-le}
 use Rattle.words.specs.Rising.{Positive, nth}
-use Rattle.words.specs.Words.{Bytes, Words, at, begins, shared, word}
+use Rattle.words.specs.Words.{Bytes, Rule, Words, at, begins, shared, word}
 use Rattle.words.proofs.Rising.{nth-positive, nth-word}
 use Rattle.words.proofs.Words.{apart, at-past, shared-le, shared-parts, shared-self, word-positive}
 use Rattle.format.proofs.Marks.{kind-lawful}
-use Rattle.format.specs.Marks.{BookKind, kindOf, ruleIn, ruleOf}
-use Rattle.symbols.specs.Rules.{kindBy, ruleBy}
+use Rattle.format.specs.Marks.{kindOf, ruleIn}
+use Rattle.symbols.specs.Rules.{byKind, ruleBy}
 use Rattle.symbols.specs.declared.Rule.{Rule as ByRule}
 use Rattle.format.specs.Nodes.{table}
 use Rattle.answers.specs.Questions.{Pair as Numbers, ask, count, exact, nearest, place, range, reached}
@@ -36,8 +38,8 @@ use Rattle.format.specs.Spans.{wordsOf}
 use Rattle.format.specs.Book.{namesOf}
 use Rattle.trailer.specs.declared.Trailer.{Trailer}
 use Rattle.names.specs.Names.{Named, PositionAsk}
-use Rattle.search.specs.Asks.{Askable, AtFork, AtSpot, MetSays, NodeNumber, OnPath, SpotSays}
-use Rattle.search.proofs.Ways.{asked-at, asked-length}
+use Rattle.search.specs.Asks.{Askable, AtFork, AtSpot, MetSays, NearSays, NodeNumber, OnPath, SpotSays}
+use Rattle.search.proofs.Ways.{asked-at, asked-length, own-rule}
 
 -- ---- `highest`
 
@@ -90,23 +92,29 @@ module _ {b : Bytes} {start : ℕ} {p : List ℕ} {n m j : ℕ} (k : Upwards b s
               let g : j - 1 ≡ i = omega arith in
               subst (λ (a : ℕ). node (wordsOf (ruleIn b) b) (getD p a 0) .depth < m) g (omega (arith, depth-is))
 
--- ---- `compare`
+-- ---- `compare` and `meet`
 
--- the front of the array is the name at the position
-module _ (b : Bytes) (position : ℕ) (rule : ByRule) (own : kindBy rule ≡ kindOf b) {len : ℕ} (q name : Bytes) (n : Named (getD (namesOf b) position []) len name) where
+-- the front of the array is the name at the position; m symbols of it are the question's
+module _ (b : Bytes) (position : ℕ) (rule : ByRule) (own : rule ≡ byKind (kindOf b)) {len : ℕ} (q name : Bytes) (n : Named (getD (namesOf b) position []) len name) where
   name-is : word (ruleBy rule) (take (len - 0) name) ≡ nth (wordsOf (ruleIn b) b) position
   unfolding wordsOf
   name-is =
       let z : len - 0 ≡ len = omega arith in
-      ap₂ (λ (κ : BookKind) (i : ℕ). word (ruleOf κ) (take i name)) own z ∙ ap (word (ruleIn b)) (n .name-is) ∙ sym (nth-word (ruleIn b) (namesOf b) position)
+      ap₂ (λ (ρ : Rule) (i : ℕ). word ρ (take i name)) (own-rule b rule own) z ∙ ap (word (ruleIn b)) (n .name-is) ∙ sym (nth-word (ruleIn b) (namesOf b) position)
 
-  pub met : {m s : ℕ} → m ≡ shared (word (ruleBy rule) q) (word (ruleBy rule) (take (len - 0) name)) → s ≡ at (word (ruleBy rule) (take (len - 0) name)) (m - 0)
-      → MetSays (wordsOf (ruleIn b) b) (asked (ruleIn b) q) position m s
-  unfolding asked
-  met {m} {s} e f = record {
-    shares = e ∙ ap₂ shared (ap (λ (κ : BookKind). word (ruleOf κ) q) own) name-is;
-    next = let z : m - 0 ≡ m = omega arith in f ∙ ap₂ at name-is z;
-  }
+  name-size : len ≡ length (nth (wordsOf (ruleIn b) b) position)
+  name-size = omega (arith, ap length name-is, length-map (take (len - 0) name) (ruleBy rule), length-take-le (len - 0) name (omega (arith, n .room, n .size)))
+
+  module _ {m : ℕ} (e : m ≡ shared (word (ruleBy rule) q) (word (ruleBy rule) (take (len - 0) name))) where
+    both-share : m ≡ shared (asked (ruleIn b) q) (nth (wordsOf (ruleIn b) b) position)
+    unfolding asked
+    both-share = e ∙ ap₂ shared (ap (λ (ρ : Rule). word ρ q) (own-rule b rule own)) name-is
+
+    pub met : {s : ℕ} → s ≡ at (word (ruleBy rule) (take (len - 0) name)) (m - 0) → MetSays (wordsOf (ruleIn b) b) (asked (ruleIn b) q) position m s
+    met f = record { shares = both-share; next = let z : m - 0 ≡ m = omega arith in f ∙ ap₂ at name-is z }
+
+    pub near : Reached (wordsOf (ruleIn b) b) (asked (ruleIn b) q) position → NearSays (wordsOf (ruleIn b) b) (asked (ruleIn b) q) position m len
+    near t = record { there = t; shares = both-share; size = name-size }
 
 -- ---- `reach` and `locate`
 
@@ -169,7 +177,7 @@ seat-fork {b} a de h = record {
 }
 
 -- d is the node's depth, f its first name, n how many it has, y its number of nodes, t the question's symbol, c the child that was sought
-module _ {b q : Bytes} {start v m s : ℕ} (rule : ByRule) (own : kindBy rule ≡ kindOf b) (a : AtSpot b start q v m s) {d : ℕ} (de : d ≡ node (wordsOf (ruleIn b) b) v .depth) where
+module _ {b q : Bytes} {start v m s : ℕ} (rule : ByRule) (own : rule ≡ byKind (kindOf b)) (a : AtSpot b start q v m s) {d : ℕ} (de : d ≡ node (wordsOf (ruleIn b) b) v .depth) where
   pub seat-before : {f n t : ℕ} → f ≡ node (wordsOf (ruleIn b) b) v .first → n ≡ node (wordsOf (ruleIn b) b) v .names → m < d → t ≡ at (word (ruleBy rule) q) (m - 0) → s < t
       → f + n ≡ place (asked (ruleIn b) q) (wordsOf (ruleIn b) b)
   seat-before fe ne h e l =
@@ -237,35 +245,32 @@ module _ {b : Bytes} {start : ℕ} (q : Bytes) (o : Searchable (ruleIn b) b (row
         omega (arith, whole-range (wordsOf (ruleIn b) b) (asked (ruleIn b) q) (o .rises) m (from (wordsOf (ruleIn b) b) v) (upto (wordsOf (ruleIn b) b) v) (a .located .found .group) (all-shared h)) in
         ap₂ pair e k
 
-  module _ {r m s : ℕ} (t : Reached (wordsOf (ruleIn b) b) (asked (ruleIn b) q) r) (e : MetSays (wordsOf (ruleIn b) b) (asked (ruleIn b) q) r m s) where
+  module _ {r m l : ℕ} (e : NearSays (wordsOf (ruleIn b) b) (asked (ruleIn b) q) r m l) where
     pub nearest-is : (r, m) ≡ nearest (asked (ruleIn b) q) (wordsOf (ruleIn b) b)
     unfolding nearest
-    nearest-is = ap₂ pair (t .is) (e .shares ∙ ap (λ (i : ℕ). shared (asked (ruleIn b) q) (nth (wordsOf (ruleIn b) b) i)) (t .is))
+    nearest-is = ap₂ pair (e .there .is) (e .shares ∙ ap (λ (i : ℕ). shared (asked (ruleIn b) q) (nth (wordsOf (ruleIn b) b) i)) (e .there .is))
 
     positive : Positive (asked (ruleIn b) q)
     unfolding asked
     positive = word-positive (ruleIn b) (kind-lawful (kindOf b)) q
 
-    past : length q ≤ m → at (asked (ruleIn b) q) m ≡ 0
-    past h = at-past (asked (ruleIn b) q) m (omega (arith, asked-length b q))
-
     -- a name that is q is the one that is reached
     not-there : (nth (wordsOf (ruleIn b) b) r ≡ asked (ruleIn b) q → ⊥) → (0, 0) ≡ exact (asked (ruleIn b) q) (wordsOf (ruleIn b) b)
-    not-there n = sym (exact-nowhere (wordsOf (ruleIn b) b) (asked (ruleIn b) q) (o .rises) positive (λ i h f. n (ap (nth (wordsOf (ruleIn b) b)) (sym (t .only i h f)) ∙ f)))
+    not-there n = sym (exact-nowhere (wordsOf (ruleIn b) b) (asked (ruleIn b) q) (o .rises) positive (λ i h f. n (ap (nth (wordsOf (ruleIn b) b)) (sym (e .there .only i h f)) ∙ f)))
 
     pub exact-short : m < length q → (0, 0) ≡ exact (asked (ruleIn b) q) (wordsOf (ruleIn b) b)
     exact-short h = not-there (λ f. lt-irrefl m (omega (arith, e .shares, ap (shared (asked (ruleIn b) q)) f ∙ shared-self (asked (ruleIn b) q), asked-length b q)))
 
-    pub exact-longer : length q ≤ m → (s ≡ 0 → ⊥) → (0, 0) ≡ exact (asked (ruleIn b) q) (wordsOf (ruleIn b) b)
-    exact-longer h n = not-there (λ f. n (e .next ∙ ap (λ (w : List ℕ). at w m) f ∙ past h))
+    pub exact-longer : length q ≤ m → m < l → (0, 0) ≡ exact (asked (ruleIn b) q) (wordsOf (ruleIn b) b)
+    exact-longer h g = not-there (λ f. lt-irrefl m (omega (arith, e .size, ap length f, asked-length b q)))
 
-    pub exact-found : length q ≤ m → s ≡ 0 → (r, 1) ≡ exact (asked (ruleIn b) q) (wordsOf (ruleIn b) b)
-    exact-found h z =
+    pub exact-found : length q ≤ m → l ≤ m → (r, 1) ≡ exact (asked (ruleIn b) q) (wordsOf (ruleIn b) b)
+    exact-found h g =
         let x : List ℕ = nth (wordsOf (ruleIn b) b) r in
-        let ends : at (asked (ruleIn b) q) m ≡ at x m = past h ∙ sym z ∙ e .next in
+        let ends : at (asked (ruleIn b) q) m ≡ at x m = at-past (asked (ruleIn b) q) m (omega (arith, asked-length b q)) ∙ sym (at-past x m (omega (arith, e .size))) in
         let same : asked (ruleIn b) q ≡ x = shared-parts (asked (ruleIn b) q) x positive (nth-positive (wordsOf (ruleIn b) b) r (o .rises))
         (subst (λ (i : ℕ). at (asked (ruleIn b) q) i ≡ at x i) (e .shares) ends) in
-        sym (exact-here (wordsOf (ruleIn b) b) (asked (ruleIn b) q) (o .rises) positive r (t .within) (sym same))
+        sym (exact-here (wordsOf (ruleIn b) b) (asked (ruleIn b) q) (o .rises) positive r (e .there .within) (sym same))
 
 -- ---- by the number of the kind
 

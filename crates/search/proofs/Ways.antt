@@ -1,29 +1,35 @@
 -- The way down: what the functions of the descent keep, and how each of their ways ends.
 --     field-..                  a field of a node, where the map says
+--     own-rule                  the rule that the trailer tells is the bytes' own
 --     asked-length, asked-at    a question has as many symbols as bytes; its symbol at a depth
 --     seek-next, seek-less      the loop of `seek`
+--     fork-long                 bytes with a node of several names have room for a trailer
 --     stay-.., go-down          the ways out of `child`
 --     Going, way-.., go-..      the loop of `descend`
 -- Assumes nothing.
-use Prim.Native.Nat.{ℕ, _+_, _-_, _*_, _≤_, _<_}
+use Prim.Native.Nat.{ℕ, suc, _+_, _-_, _*_, _≤_, _<_}
+use native.Mathlib.Nat.{lt-irrefl}
 use native.Mathlib.Omega.{arith}
 use mathlib.Core.Path.{_≡_, _∙_, ap, ap₂, subst, sym}
+use mathlib.Core.Logic.{_⊎_, inl, inr}
 use mathlib.Core.List.{List}
 use lib.ListN.{getD, length, length-map, set}
 use mir.Val.{Fits}
 use mir.Syntax.{w16, w64}
 use Rattle.words.specs.Rising.{Rises}
-use Rattle.words.specs.Words.{Bytes, Words, at, word}
-use Rattle.format.specs.Marks.{BookKind, kindOf, ruleIn, ruleOf}
-use Rattle.symbols.specs.Rules.{kindBy, ruleBy}
+use Rattle.words.specs.Words.{Bytes, Rule, Words, at, word}
+use Rattle.words.proofs.Words.{apart}
+use Rattle.format.specs.Marks.{kindOf, ruleIn}
+use Rattle.symbols.specs.Rules.{byKind, ruleBy}
 use Rattle.symbols.specs.declared.Rule.{Rule as ByRule}
+use Rattle.symbols.proofs.Symbols.{rule-by}
 use Rattle.format.specs.Spans.{wordsOf, nodeSize}
-use Rattle.format.specs.Book.{fields}
+use Rattle.format.specs.Book.{fields, trailerSize}
 use Rattle.format.specs.Nodes.{Node}
-use Rattle.descent.specs.Vocabulary.{Descended, Halts, Passed, Searchable, Seeking, Sits, Sought, Taken, asked, node}
+use Rattle.descent.specs.Vocabulary.{Descended, Halts, Passed, Searchable, Seeking, Sits, Sought, Taken, asked, from, node, upto}
 use Rattle.standing.specs.Maps.{Roomy, inRows, recordAt, rowsAt}
 use Rattle.descent.proofs.Paths.{halt-end, halt-leaf, halt-other, halt-short, passed-few, passed-on, passed-room, passed-sits, passed-start, taken}
-use Rattle.descent.proofs.Rows.{seek-some, seek-stop}
+use Rattle.descent.proofs.Rows.{kids, row-end, seek-some, seek-stop, several}
 use Rattle.search.specs.Asks.{AtNode, FieldAsk, WayOf}
 use Rattle.search.specs.declared.Way.{Way}
 use Rattle.search.specs.declared.Way.the-variants.{Down, Stay}
@@ -39,16 +45,19 @@ module _ {b : Bytes} {start v j : ℕ} (a : FieldAsk b start v j) where
 
 -- ---- symbols by the bytes' own rule
 
+pub own-rule : (b : Bytes) (rule : ByRule) → rule ≡ byKind (kindOf b) → ruleBy rule ≡ ruleIn b
+own-rule b rule own = ap ruleBy own ∙ rule-by (kindOf b)
+
 pub asked-length : (b s : Bytes) → length (asked (ruleIn b) s) ≡ length s
 unfolding asked
 asked-length b s = length-map s (ruleIn b)
 
 -- t is the symbol of a question, none of whose bytes is skipped
-pub asked-at : (b s : Bytes) (d : ℕ) {t : ℕ} (rule : ByRule) → kindBy rule ≡ kindOf b → t ≡ at (word (ruleBy rule) s) (d - 0) → t ≡ at (asked (ruleIn b) s) d
+pub asked-at : (b s : Bytes) (d : ℕ) {t : ℕ} (rule : ByRule) → rule ≡ byKind (kindOf b) → t ≡ at (word (ruleBy rule) s) (d - 0) → t ≡ at (asked (ruleIn b) s) d
 unfolding asked
 asked-at b s d rule own e =
     let z : d - 0 ≡ d = omega arith in
-    e ∙ ap₂ (λ (κ : BookKind) (i : ℕ). at (word (ruleOf κ) s) i) own z
+    e ∙ ap₂ (λ (ρ : Rule) (i : ℕ). at (word ρ s) i) (own-rule b rule own) z
 
 -- ---- `seek`
 
@@ -63,6 +72,20 @@ module _ {b : Bytes} {start v s c : ℕ} (o : Searchable (ruleIn b) b (rowsAt st
 
 -- ---- `child`
 
+-- behind a node of several names stands a child, and two records are longer than a trailer
+pub fork-long : {b : Bytes} {start v x : ℕ} → AtNode b start v → x ≡ node (wordsOf (ruleIn b) b) v .names → (x ≡ 1 → ⊥) → trailerSize ≤ length b
+fork-long {b} {start} {v} a xe n = go (apart (v + 1) (v + node ws v .nodes))
+  where
+    ws : Words
+    ws = wordsOf (ruleIn b) b
+
+    wide : suc (from ws v) < upto ws v
+    wide = several ws (a .searchable .rises) (a .sits) (λ i. n (xe ∙ i))
+
+    go : (v + 1 < v + node ws v .nodes) ⊎ (v + node ws v .nodes ≤ v + 1) → trailerSize ≤ length b
+    go (inl h) = omega (arith, a .searchable .table .room (v + 1) (omega (arith, a .sits .ends)))
+    go (inr h) = absurd (lt-irrefl (from ws v) (omega (arith, wide, row-end ws (a .searchable .rises) (kids ws (a .searchable .rises) (a .sits) wide) h)))
+
 -- x is the node's number of names, d its depth, y its number of nodes, t the question's symbol there, c the child that was sought, u that one's symbol
 module _ (b q : Bytes) {v : ℕ} (r : Rises (wordsOf (ruleIn b) b)) (z : Sits (wordsOf (ruleIn b) b) v) {x : ℕ} (xe : x ≡ node (wordsOf (ruleIn b) b) v .names) where
   pub stay-leaf : x ≡ 1 → Halts (wordsOf (ruleIn b) b) (asked (ruleIn b) q) v
@@ -72,7 +95,7 @@ module _ (b q : Bytes) {v : ℕ} (r : Rises (wordsOf (ruleIn b) b)) (z : Sits (w
     pub stay-short : length q < d → Halts (wordsOf (ruleIn b) b) (asked (ruleIn b) q) v
     stay-short h = halt-short (wordsOf (ruleIn b) b) r (asked (ruleIn b) q) z (λ i. n (xe ∙ i)) (omega (arith, asked-length b q))
 
-    module _ (h : d ≤ length q) {t c y : ℕ} (rule : ByRule) (own : kindBy rule ≡ kindOf b) (e : t ≡ at (word (ruleBy rule) q) (d - 0)) (k : Sought (wordsOf (ruleIn b) b) v t c) (ye : y ≡ node (wordsOf (ruleIn b) b) v .nodes) where
+    module _ (h : d ≤ length q) {t c y : ℕ} (rule : ByRule) (own : rule ≡ byKind (kindOf b)) (e : t ≡ at (word (ruleBy rule) q) (d - 0)) (k : Sought (wordsOf (ruleIn b) b) v t c) (ye : y ≡ node (wordsOf (ruleIn b) b) v .nodes) where
       symbol : t ≡ at (asked (ruleIn b) q) (node (wordsOf (ruleIn b) b) v .depth)
       symbol = asked-at b q d rule own e ∙ ap (at (asked (ruleIn b) q)) de
 
@@ -90,7 +113,7 @@ module _ (b q : Bytes) {v : ℕ} (r : Rises (wordsOf (ruleIn b) b)) (z : Sits (w
         stay-other o = halt-other (wordsOf (ruleIn b) b) r (asked (ruleIn b) q) z (λ i. n (xe ∙ i)) long sought (omega arith) (λ j. o (ue ∙ j ∙ sym symbol))
 
 -- its premises stand in the order in which a search finds them, not in the section's
-pub go-down : (b q : Bytes) {v x d t c y u : ℕ} (rule : ByRule) → Sought (wordsOf (ruleIn b) b) v t c → u ≡ t → (x ≡ 1 → ⊥) → d ≤ length q → c < v + y → kindBy rule ≡ kindOf b → t ≡ at (word (ruleBy rule) q) (d - 0)
+pub go-down : (b q : Bytes) {v x d t c y u : ℕ} (rule : ByRule) → Sought (wordsOf (ruleIn b) b) v t c → u ≡ t → (x ≡ 1 → ⊥) → d ≤ length q → c < v + y → rule ≡ byKind (kindOf b) → t ≡ at (word (ruleBy rule) q) (d - 0)
     → u ≡ node (wordsOf (ruleIn b) b) c .symbol → d ≡ node (wordsOf (ruleIn b) b) v .depth → x ≡ node (wordsOf (ruleIn b) b) v .names → y ≡ node (wordsOf (ruleIn b) b) v .nodes
     → Rises (wordsOf (ruleIn b) b) → Sits (wordsOf (ruleIn b) b) v → Taken (wordsOf (ruleIn b) b) (asked (ruleIn b) q) v c
 go-down b q rule k j n h g own e ue de xe ye r z =

@@ -4,6 +4,7 @@
 --     WayOf                 where a question goes from a node
 --     OnPath                the front of an array holds nodes, each deeper than the one before
 --     MetSays               how a name stands to a question
+--     NearSays              the name that a question reaches, what they share, and its length
 --     SpotSays, AtSpot      the node whose names share most with a question
 --     Askable, KindAsk      what an accepted book with names is to a search; the kind has a number from 1 to 5
 --     pairOf                an answer's two numbers
@@ -18,9 +19,9 @@ use Rattle.format.specs.Marks.{kindOf, ruleIn}
 use Rattle.format.specs.Nodes.{table}
 use Rattle.answers.specs.Widths.{lastKind}
 use Rattle.answers.specs.Questions.{Pair as Numbers, reached}
-use Rattle.descent.specs.Vocabulary.{Halts, Located, Searchable, Sits, Taken, asked, node}
+use Rattle.descent.specs.Vocabulary.{Halts, Located, Reached, Searchable, Sits, Taken, asked, node}
 use Rattle.format.specs.Spans.{wordsOf, fieldCount}
-use Rattle.format.specs.Book.{told}
+use Rattle.format.specs.Book.{told, trailerSize}
 use Rattle.standing.specs.Maps.{rowsAt}
 use Rattle.symbols.specs.Rules.{kindBy}
 use Rattle.trailer.specs.declared.Trailer.{Trailer}
@@ -70,12 +71,20 @@ pub record MetSays (ws : Words) (q : List ℕ) (position m s : ℕ) : Type 0 whe
   pub shares : m ≡ shared q (nth ws position)
   pub next : s ≡ at (nth ws position) m
 
+-- the name at a position is the one that q reaches; they share m symbols, and it has len of them
+pub record NearSays (ws : Words) (q : List ℕ) (position m len : ℕ) : Type 0 where
+  pub there : Reached ws q position
+  pub shares : m ≡ shared q (nth ws position)
+  pub size : len ≡ length (nth ws position)
+
 -- node v has the names that share most with q, m symbols; in the one that is reached then comes s
 pub record SpotSays (ws : Words) (q : List ℕ) (v m s : ℕ) : Type 0 where
   pub located : Located ws q m v
   pub next : s ≡ at (nth ws (reached q ws)) m
 
+-- that the bytes have room for a trailer does not follow where they hold one name: its node's record is shorter
 pub record AtSpot (b : Bytes) (start : ℕ) (q : Bytes) (v m s : ℕ) : Type 0 where
+  pub long : trailerSize ≤ length b
   pub searchable : Searchable (ruleIn b) b (rowsAt start)
   pub spot : SpotSays (wordsOf (ruleIn b) b) (asked (ruleIn b) q) v m s
 

@@ -1,19 +1,16 @@
 // The five questions, asked of a book that the check has accepted. One descent over the node table, by the numbers of nodes, serves all
 // of them; the name that it reaches is rebuilt and compared, since the descent passes over bytes that it never looks at.
 ghost use mathlib.Core.Path.{_≡_};
-ghost use Prim.Native.Nat.{_≤_};
 ghost use lib.ListN.{getD};
-ghost use Rattle.format.specs.Marks.{kindOf, ruleIn};
+ghost use Rattle.format.specs.Marks.{ruleIn};
 ghost use Rattle.format.specs.Spans.{wordsOf};
 ghost use Rattle.format.specs.Book.{fields};
 ghost use Rattle.standing.specs.Maps.{rowsAt};
 ghost use Rattle.answers.specs.Questions.{ask, exact, nearest, place, range};
 ghost use Rattle.answers.specs.Widths.{width};
-ghost use Rattle.descent.specs.Vocabulary.{Descended, Highest, Located, Reached, Searchable, Sought, asked, node};
-ghost use Rattle.symbols.specs.Rules.{kindBy};
+ghost use Rattle.descent.specs.Vocabulary.{Descended, Highest, Reached, Searchable, Sought, asked, node};
 ghost use Rattle.names.specs.Names.{PositionAsk};
-ghost use Rattle.search.specs.Asks.{AtFork, AtNode, AtSpot, Askable, FieldAsk, KindAsk, MetSays, NodeNumber, OnPath, SpotSays, WayOf, pairOf};
-use symbols::Rule;
+ghost use Rattle.search.specs.Asks.{AtFork, AtNode, AtSpot, Askable, FieldAsk, KindAsk, MetSays, NearSays, NodeNumber, OnPath, SpotSays, WayOf, pairOf};
 
 // An answer's two numbers.
 pub struct Pair {
@@ -45,6 +42,13 @@ pub struct Spot {
     pub node: usize,
     pub shared: usize,
     pub symbol: usize,
+}
+
+// The name that a question reaches: its position, how many symbols the two share, and its length.
+pub struct Near {
+    pub position: usize,
+    pub shared: usize,
+    pub len: usize,
 }
 
 // Field number j of node v, in the table from `start` on.
@@ -115,8 +119,8 @@ fn seek(book: &[u8], start: usize, v: usize, s: usize) -> usize
 
 // Where the question goes from v: to the child with its symbol at v's depth. It stays at a leaf, where the depth exceeds its length, and
 // where no child fits.
-fn child(rule: Rule, book: &[u8], start: usize, question: &[u8], v: usize) -> Way
-    requires { ⌜ AtNode (now book) start v × (kindBy rule ≡ kindOf (now book)) ⌝ }
+fn child(book: &[u8], start: usize, question: &[u8], v: usize) -> Way
+    requires { ⌜ AtNode (now book) start v ⌝ }
     ensures { λ r. ⌜ WayOf (wordsOf (ruleIn (now (book .entry))) (now (book .entry))) (asked (ruleIn (now (book .entry))) (now (question .entry))) v r ⌝ }
 {
     if names_of(book, start, v) == 1 {
@@ -126,7 +130,7 @@ fn child(rule: Rule, book: &[u8], start: usize, question: &[u8], v: usize) -> Wa
     if question.len() < d {
         return Way::Stay;
     }
-    let s = symbols::symbol_at(rule, question, 0, d);
+    let s = symbols::symbol_at(trailer::rule(book), question, 0, d);
     let c = seek(book, start, v, s);
     if v + nodes_of(book, start, v) <= c {
         return Way::Stay;
@@ -138,15 +142,15 @@ fn child(rule: Rule, book: &[u8], start: usize, question: &[u8], v: usize) -> Wa
 }
 
 // The way down from the root.
-fn descend(rule: Rule, book: &[u8], start: usize, question: &[u8]) -> Descent
-    requires { ⌜ Searchable (ruleIn (now book)) (now book) (rowsAt start) × (kindBy rule ≡ kindOf (now book)) ⌝ }
+fn descend(book: &[u8], start: usize, question: &[u8]) -> Descent
+    requires { ⌜ Searchable (ruleIn (now book)) (now book) (rowsAt start) ⌝ }
     ensures { λ r. ⌜ Descended (wordsOf (ruleIn (now (book .entry))) (now (book .entry))) (asked (ruleIn (now (book .entry))) (now (question .entry))) (r .path) (r .len) (r .last) ⌝ }
 {
     let mut path = [0u16; 202];
     let mut n: usize = 1;
     let mut v: usize = 0;
     loop {
-        match child(rule, book, start, question, v) {
+        match child(book, start, question, v) {
             Way::Down(c) => {
                 path[n] = c as u16;
                 n += 1;
@@ -186,25 +190,44 @@ fn highest(book: &[u8], start: usize, way: Descent, shared: usize) -> usize
 
 // The name at a position, rebuilt, and how it stands to the question.
 fn compare(book: &[u8], t: trailer::Trailer, position: usize, question: &[u8]) -> Met
-    requires { ⌜ PositionAsk (now book) t position × (kindBy (t .rule) ≡ kindOf (now book)) ⌝ }
+    requires { ⌜ PositionAsk (now book) t position ⌝ }
     ensures { λ r. ⌜ MetSays (wordsOf (ruleIn (now (book .entry))) (now (book .entry))) (asked (ruleIn (now (book .entry))) (now (question .entry))) position (r .shared) (r .symbol) ⌝ }
 {
     let entry = names::read_name(book, t, position);
     let name = entry.name;
     let len = entry.len;
-    let rule = t.rule;
+    let rule = trailer::rule(book);
     let shared = symbols::shared_symbols(rule, question, &name[0..len]);
     let symbol = symbols::symbol_at(rule, &name[0..len], 0, shared);
     Met { shared, symbol }
 }
 
 // The position that the question reaches.
-fn reach(rule: Rule, book: &[u8], start: usize, question: &[u8]) -> usize
-    requires { ⌜ Searchable (ruleIn (now book)) (now book) (rowsAt start) × (kindBy rule ≡ kindOf (now book)) ⌝ }
+fn reach(book: &[u8], start: usize, question: &[u8]) -> usize
+    requires { ⌜ Searchable (ruleIn (now book)) (now book) (rowsAt start) ⌝ }
     ensures { λ r. ⌜ Reached (wordsOf (ruleIn (now (book .entry))) (now (book .entry))) (asked (ruleIn (now (book .entry))) (now (question .entry))) r ⌝ }
 {
-    let way = descend(rule, book, start, question);
+    let way = descend(book, start, question);
     first_of(book, start, way.last)
+}
+
+// The name that a question reaches, rebuilt and compared. Exact and nearest ask for no more: the node whose names share most, and the
+// path to it, are what place, range and width want (`locate`).
+fn meet(book: &[u8], t: trailer::Trailer, question: &[u8]) -> Near
+    requires { ⌜ Askable (now book) t ⌝ }
+    ensures { λ r. ⌜ NearSays (wordsOf (ruleIn (now (book .entry))) (now (book .entry))) (asked (ruleIn (now (book .entry))) (now (question .entry))) (r .position) (r .shared) (r .len) ⌝ }
+{
+    let start = numbers::wide16(t.nodes);
+    let position = reach(book, start, question);
+    let entry = names::read_name(book, t, position);
+    let name = entry.name;
+    let len = entry.len;
+    let shared = symbols::shared_symbols(trailer::rule(book), question, &name[0..len]);
+    Near {
+        position,
+        shared,
+        len,
+    }
 }
 
 // The node with the names that share most with the question.
@@ -212,9 +235,8 @@ fn locate(book: &[u8], t: trailer::Trailer, question: &[u8]) -> Spot
     requires { ⌜ Askable (now book) t ⌝ }
     ensures { λ r. ⌜ SpotSays (wordsOf (ruleIn (now (book .entry))) (now (book .entry))) (asked (ruleIn (now (book .entry))) (now (question .entry))) (r .node) (r .shared) (r .symbol) ⌝ }
 {
-    let rule = t.rule;
     let start = numbers::wide16(t.nodes);
-    let way = descend(rule, book, start, question);
+    let way = descend(book, start, question);
     let position = first_of(book, start, way.last);
     let met = compare(book, t, position, question);
     let node = highest(book, start, way, met.shared);
@@ -227,13 +249,13 @@ fn locate(book: &[u8], t: trailer::Trailer, question: &[u8]) -> Spot
 
 // How many names are less than the question, once that node is known. Inside its edge the whole group lies to one side; at its fork the
 // question stands before the first child whose symbol is not below its own, or behind the group.
-fn seat(rule: Rule, book: &[u8], start: usize, question: &[u8], spot: Spot) -> usize
-    requires { ⌜ AtSpot (now book) start (now question) (spot .node) (spot .shared) (spot .symbol) × (kindBy rule ≡ kindOf (now book)) ⌝ }
+fn seat(book: &[u8], start: usize, question: &[u8], spot: Spot) -> usize
+    requires { ⌜ AtSpot (now book) start (now question) (spot .node) (spot .shared) (spot .symbol) ⌝ }
     ensures { λ r. ⌜ r ≡ place (asked (ruleIn (now (book .entry))) (now (question .entry))) (wordsOf (ruleIn (now (book .entry))) (now (book .entry))) ⌝ }
 {
     let v = spot.node;
     let shared = spot.shared;
-    let s = symbols::symbol_at(rule, question, 0, shared);
+    let s = symbols::symbol_at(trailer::rule(book), question, 0, shared);
     let first = first_of(book, start, v);
     let past = first + names_of(book, start, v);
     if shared < depth_of(book, start, v) {
@@ -254,24 +276,21 @@ fn ask_exact(book: &[u8], t: trailer::Trailer, question: &[u8]) -> Pair
     requires { ⌜ Askable (now book) t ⌝ }
     ensures { λ r. ⌜ pairOf r ≡ exact (asked (ruleIn (now (book .entry))) (now (question .entry))) (wordsOf (ruleIn (now (book .entry))) (now (book .entry))) ⌝ }
 {
-    let rule = t.rule;
-    let start = numbers::wide16(t.nodes);
-    let position = reach(rule, book, start, question);
-    let met = compare(book, t, position, question);
+    let met = meet(book, t, question);
     if met.shared < question.len() {
         return Pair {
             first: 0,
             second: 0,
         };
     }
-    if met.symbol != 0 {
+    if met.shared < met.len {
         return Pair {
             first: 0,
             second: 0,
         };
     }
     Pair {
-        first: position,
+        first: met.position,
         second: 1,
     }
 }
@@ -281,11 +300,10 @@ fn ask_place(book: &[u8], t: trailer::Trailer, question: &[u8]) -> Pair
     requires { ⌜ Askable (now book) t ⌝ }
     ensures { λ r. ⌜ pairOf r ≡ (place (asked (ruleIn (now (book .entry))) (now (question .entry))) (wordsOf (ruleIn (now (book .entry))) (now (book .entry))), 0) ⌝ }
 {
-    let rule = t.rule;
     let start = numbers::wide16(t.nodes);
     let spot = locate(book, t, question);
     Pair {
-        first: seat(rule, book, start, question, spot),
+        first: seat(book, start, question, spot),
         second: 0,
     }
 }
@@ -295,10 +313,9 @@ fn ask_range(book: &[u8], t: trailer::Trailer, question: &[u8]) -> Pair
     requires { ⌜ Askable (now book) t ⌝ }
     ensures { λ r. ⌜ pairOf r ≡ range (asked (ruleIn (now (book .entry))) (now (question .entry))) (wordsOf (ruleIn (now (book .entry))) (now (book .entry))) ⌝ }
 {
-    let rule = t.rule;
     let start = numbers::wide16(t.nodes);
     let spot = locate(book, t, question);
-    let first = seat(rule, book, start, question, spot);
+    let first = seat(book, start, question, spot);
     if spot.shared < question.len() {
         return Pair { first, second: 0 };
     }
@@ -311,12 +328,9 @@ fn ask_nearest(book: &[u8], t: trailer::Trailer, question: &[u8]) -> Pair
     requires { ⌜ Askable (now book) t ⌝ }
     ensures { λ r. ⌜ pairOf r ≡ nearest (asked (ruleIn (now (book .entry))) (now (question .entry))) (wordsOf (ruleIn (now (book .entry))) (now (book .entry))) ⌝ }
 {
-    let rule = t.rule;
-    let start = numbers::wide16(t.nodes);
-    let position = reach(rule, book, start, question);
-    let met = compare(book, t, position, question);
+    let met = meet(book, t, question);
     Pair {
-        first: position,
+        first: met.position,
         second: met.shared,
     }
 }
@@ -326,7 +340,6 @@ fn ask_width(book: &[u8], t: trailer::Trailer, question: &[u8]) -> Pair
     requires { ⌜ Askable (now book) t ⌝ }
     ensures { λ r. ⌜ pairOf r ≡ (width (asked (ruleIn (now (book .entry))) (now (question .entry))) (wordsOf (ruleIn (now (book .entry))) (now (book .entry))), 0) ⌝ }
 {
-    let rule = t.rule;
     let start = numbers::wide16(t.nodes);
     let spot = locate(book, t, question);
     if spot.shared != question.len() {

@@ -2,14 +2,24 @@
 -- Assumes nothing.
 use native.Mathlib.Omega.{arith}
 use borrow.Author.Needs.{needs}
-use Rattle.search.proofs.Spots.{exact-found, exact-longer, exact-short, name-ask, starts}
+use Rattle.search.proofs.Spots.{exact-found, exact-longer, exact-short}
 use Rattle.search.proofs.ask_exact.Statement.{statement}
 use Rattle.search.proofs.ask_exact.Tie as tie
+
+returns : tie.Need-returns
+returns c =
+    let met = c .before .before in
+    exact-short _ (met .before .before .before .pre .searchable) (met .meet .ensures) (omega arith)
+
+returns-2 : tie.Need-returns-2
+returns-2 c =
+    let met = c .before .before .before .before in
+    exact-longer _ (met .before .before .before .pre .searchable) (met .meet .ensures) (omega arith) (omega arith)
 
 returns-3 : tie.Need-returns-3
 returns-3 c =
     let met = c .before .before .before .before in
-    exact-found _ (met .before .before .before .before .before .pre .searchable) (met .before .reach .ensures) (met .compare .ensures) (omega arith) (omega arith)
+    exact-found _ (met .before .before .before .pre .searchable) (met .meet .ensures) (omega arith) (omega arith)
 
 pub ask-exact-spec : {M : Type 1} → statement M
-ask-exact-spec = tie.close (tie.spec (λ c κs. search needs) (λ c κs. search starts) (λ c κs. search name-ask) (λ c. search exact-short) (λ c. search exact-longer) returns-3)
+ask-exact-spec = tie.close (tie.spec (λ c κs. search needs) returns returns-2 returns-3)

@@ -3,7 +3,7 @@
 use native.Mathlib.Omega.{arith}
 use mathlib.Core.Path.{_≡_}
 use borrow.Author.Needs.{needs}
-use Rattle.search.proofs.Ways.{go-down, stay-end, stay-leaf, stay-other, stay-short}
+use Rattle.search.proofs.Ways.{fork-long, go-down, stay-end, stay-leaf, stay-other, stay-short}
 use Rattle.search.proofs.child.Statement.{statement}
 use Rattle.search.proofs.child.Tie as tie
 
@@ -19,6 +19,7 @@ child-spec =
     (λ c. search stay-leaf)
     (λ c κs. search needs)
     (λ c. search stay-short)
+    (λ c κs. fork-long (c .before .before .before .before .before .before .pre) (c .before .before .before .names-of .ensures) (c .before .before .if1 .left))
     (λ c κs. search needs)
     (λ c κs. search needs)
     (λ c κs. search needs)

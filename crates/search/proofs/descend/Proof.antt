@@ -10,10 +10,10 @@ use Rattle.search.proofs.descend.Statement.{statement}
 use Rattle.search.proofs.descend.Tie as tie
 
 abbrev Inv-loop : tie.InvT-loop
-Inv-loop rule book nodes question path₀ n₀ v₀ path n v = Going book nodes question path n v
+Inv-loop book nodes question path₀ n₀ v₀ path n v = Going book nodes question path n v
 
 abbrev μ-loop : tie.MeasureT-loop
-μ-loop rule book nodes question path₀ n₀ v₀ path n v = 202 - n
+μ-loop book nodes question path₀ n₀ v₀ path n v = 202 - n
 
 -- where the question went down, the path has room
 room : (c : tie.After-known-told Inv-loop μ-loop) → c .before .before .before .before .loop .n < 202
@@ -26,7 +26,7 @@ descend-spec =
     Inv-loop
     μ-loop
     (λ c. go-start (search needs) refl refl)
-    (λ c κs. (go-at (c .loop .inv), search needs))
+    (λ c κs. go-at (c .loop .inv))
     (λ c. search needs)
     (λ c. search (go-small, way-down))
     (λ c. omega (arith, room c))

@@ -9,7 +9,7 @@ use Rattle.search.proofs.seat.Tie as tie
 
 -- the question is greater
 returns : tie.Need-returns
-returns c = let below : c .before .before .before .before .before .before .before .before .before .args .spot .symbol < c .before .before .before .before .before .before .symbol-at .result = omega arith in search seat-before
+returns c = let below : c .before .before .before .before .before .before .before .before .before .before .args .spot .symbol < c .before .before .before .before .before .before .symbol-at .result = omega arith in search seat-before
 
 pub seat-spec : {M : Type 1} → statement M
 seat-spec =
@@ -18,11 +18,12 @@ seat-spec =
     (λ c κs. search needs)
     (λ c κs. search needs)
     (λ c κs. search needs)
+    (λ c κs. search needs)
     (λ c. search needs)
     (λ c κs. search needs)
     returns
     (λ c. search seat-after)
-    (λ c κs. seat-fork (c .before .before .before .before .before .before .before .pre .0) (c .before .depth-of .ensures) (c .if1 .left))
+    (λ c κs. seat-fork (c .before .before .before .before .before .before .before .before .pre) (c .before .depth-of .ensures) (c .if1 .left))
     (λ c κs. search needs)
     (λ c. omega arith)
     (λ c κs. record { searchable = search needs; inside = omega arith })

@@ -1,0 +1,27 @@
+-- `search::meet` meets its contract: the front of the array is the name that is reached. The question is named, so that a wrong rule shows.
+-- Assumes nothing.
+use borrow.Author.Needs.{needs}
+use Rattle.search.proofs.Spots.{name-ask, near, starts}
+use Rattle.search.proofs.meet.Statement.{statement}
+use Rattle.search.proofs.meet.Tie as tie
+
+returns : tie.Need-returns
+returns c =
+    let ruled = c .before .before .before in
+    let named = ruled .before .before in
+    let start = named .before .before .before .before .before in
+    near _ _ (ruled .rule .result) (ruled .rule .ensures) (start .args .question .now) _ (named .read-name .ensures) (c .shared-symbols .ensures) (named .before .reach .ensures)
+
+pub meet-spec : {M : Type 1} → statement M
+meet-spec =
+    tie.close
+    (tie.spec
+    (λ c κs. search needs)
+    (λ c κs. search starts)
+    (λ c κs. search name-ask)
+    (λ c κs. search needs)
+    (λ c. search needs)
+    (λ c. search needs)
+    (λ c. search needs)
+    (λ c κs. search needs)
+    returns)
