@@ -4,7 +4,7 @@
 use mathlib.Core.Path.{_≡_, refl}
 use mathlib.Core.List.{[], _∷_, map}
 use lib.ListN.{length}
-use Rattle.words.specs.Words.{Bytes, plain, shared}
+use Rattle.words.specs.Words.{Bytes, shared}
 use Rattle.format.specs.Marks.{PlainBook}
 use Rattle.format.specs.Example.{example, exampleBy2, exampleBy4}
 use Rattle.format.specs.Book.{allFields, blockPart, book, entryPart, joined, nodePart, numbers, trailer}

@@ -13,7 +13,7 @@ use mathlib.Core.Logic.{_⊎_, inl, inr}
 use lib.Dec.{eqb}
 use lib.ListN.{length, getD}
 use borrow.Author.Tests.{eqb-false, eqb-true, not-false, not-true}
-use Rattle.words.specs.Words.{Bytes, at, shared, word}
+use Rattle.words.specs.Words.{Bytes, at}
 use Rattle.words.specs.Rising.{nth, span}
 use Rattle.words.proofs.Words.{apart, false≠true, less-parts, part-at, shared-at}
 use Rattle.words.proofs.Rising.{nth-less, nth-positive}
@@ -137,27 +137,27 @@ module _ (b : Bytes) (lo₀ n d o₀ e : ℕ) where
     -- ---- up to the child
 
     module _ (p : Pending b lo₀ n d o₀ e o lo a g) where
-      symbol-at : (s : ℕ) → s ≡ at (word (ruleIn b) (restAt b a)) (d - getD b a 0) → s ≡ at (nth (wordsOf (ruleIn b) b) lo) d
-      symbol-at s se = here-symbol (ruleIn b) b lo a (p .known) (p .here) (omega (arith, p .upto, p .within)) d s (p .low) se
+      there : lo < length (namesOf b)
+      there = omega (arith, p .upto, p .within)
 
       pub pending-other : {w : ℕ} → (v : Bool) → LedSays b o lo d a v → not v ≡ true → Refused w
       pending-other true k h = absurd (false≠true h)
-      pending-other false never h = says-no (λ s. let k = ahead (p .rows (p .edge (s .group))) (s .group) in never (k .symbol ∙ sym (symbol-at _ refl), k .first))
+      pending-other false never h = says-no (λ s. let k = ahead (p .rows (p .edge (s .group))) (s .group) in never (k .symbol ∙ sym (here-symbol (ruleIn b) b lo a (p .known) (p .here) there d _ (p .low) refl), k .first))
 
       -- the symbol of lo led to the record
       pub pending-led : LedTo b o lo d a → Rows b lo₀ n d o₀ e o lo a g
       pending-led led = p .rows (λ l.
-          part-at (nth (wordsOf (ruleIn b) b) (pred lo)) (nth (wordsOf (ruleIn b) b) lo) d (p .shares l) (λ q. p .other l (symbol-at _ (led .0) ∙ sym q)))
+          part-at (nth (wordsOf (ruleIn b) b) (pred lo)) (nth (wordsOf (ruleIn b) b) lo) d (p .shares l) (λ q. p .other l (here-symbol (ruleIn b) b lo a (p .known) (p .here) there d _ (p .low) (led .0) ∙ sym q)))
 
     module _ (r : Rows b lo₀ n d o₀ e o lo a g) where
       pub rows-room : o < e → Roomy inRows b o
       rows-room h = omega (arith, r .long)
 
-      symbol-is : (s : ℕ) → s ≡ at (word (ruleIn b) (restAt b a)) (d - getD b a 0) → s ≡ at (nth (wordsOf (ruleIn b) b) lo) d
-      symbol-is s se = here-symbol (ruleIn b) b lo a (r .known) (r .here) (r .some) d s (r .low) se
-
       -- the entry's symbol led to the record, and x is the number of names that it tells
       module _ (led : LedTo b o lo d a) (x : ℕ) (xe : x ≡ recordAt inRows b o .names) where
+        led-is : recordAt inRows b o .symbol ≡ at (nth (wordsOf (ruleIn b) b) lo) d
+        led-is = here-symbol (ruleIn b) b lo a (r .known) (r .here) (r .some) d _ (r .low) (led .0)
+
         asked : 1 ≤ x → lo + x ≤ lo₀ + n → Ask b lo x a
         asked some upto = record { known = r .known; blocks = r .blocks; some = some; within = omega (arith, r .within); here = r .here }
 
@@ -189,7 +189,7 @@ module _ (b : Bytes) (lo₀ n d o₀ e : ℕ) where
                 child = record {
                   some = omega arith;
                   node = subst (λ (m : ℕ). NodeAt inRows b (wordsOf (ruleIn b) b) lo m (at (nth (wordsOf (ruleIn b) b) lo) d) o (o + nodeSize)) z
-                      (leaf-stands b lo (at (nth (wordsOf (ruleIn b) b) lo) d) o a lone (rows-room room) (symbol-is (recordAt inRows b o .symbol) (led .0)) (led .1) (omega arith) sure);
+                      (leaf-stands b lo (at (nth (wordsOf (ruleIn b) b) lo) d) o a lone (rows-room room) led-is (led .1) (omega arith) sure);
                   below = λ q. absurd (lt-irrefl lo (omega arith));
                 };
                 here = subst (λ (i : ℕ). Here b i a) p (r .here);
@@ -253,7 +253,7 @@ module _ (b : Bytes) (lo₀ n d o₀ e : ℕ) where
                   upto = up;
                   child = record {
                     some = omega (arith, f .several);
-                    node = rw (xe, me) (subst (λ (t : ℕ). NodeAt inRows b (wordsOf (ruleIn b) b) lo (lo + recordAt inRows b o .names) t o (o + recordAt inRows b o .nodes * nodeSize)) (symbol-is (recordAt inRows b o .symbol) (led .0)) node);
+                    node = rw (xe, me) (subst (λ (t : ℕ). NodeAt inRows b (wordsOf (ruleIn b) b) lo (lo + recordAt inRows b o .names) t o (o + recordAt inRows b o .nodes * nodeSize)) led-is node);
                     below = λ q. subst (λ (y : ℕ). d < deep (wordsOf (ruleIn b) b) lo (lo + y)) (sym xe) (omega (arith, hd .depth (omega arith), f .below));
                   };
                   here = last;

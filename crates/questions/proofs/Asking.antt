@@ -27,8 +27,6 @@ use Rattle.descent.specs.Vocabulary.{asked}
 use Rattle.descent.proofs.Bytes.{opened-searchable}
 use Rattle.numbers.proofs.Parts.{Held, held-bytes}
 use Rattle.trailer.specs.declared.Trailer.{Trailer}
-use Rattle.symbols.specs.Rules.{kindBy}
-use Rattle.symbols.proofs.Symbols.{kind-by}
 use Rattle.accept.specs.Parts.{checkOn}
 use Rattle.accept.specs.declared.Checked.{Checked}
 use Rattle.accept.specs.declared.Checked.the-variants.{Unsound}
@@ -105,7 +103,6 @@ module _ (b q : Bytes) (t : Trailer) (kind : ℕ) (held : Held b) (s : Asking b 
               block = ap (λ (x : Trailer). x .block) (f .told);
               table = ap (λ (x : Trailer). x .blocks) (f .told);
               nodes = ap (λ (x : Trailer). x .nodes) (f .told);
-              rule = ap (λ (x : Trailer). kindBy (x .rule)) (f .told) ∙ kind-by (kindOf b);
               searchable = opened-searchable (kindOf b) (kind-lawful (kindOf b)) b k (namesOf b) (f .book) bytes (omega (arith, names));
             };
             low = s .number .low;

@@ -15,7 +15,7 @@ use mathlib.Core.List.{List}
 use lib.ListN.{getD, length}
 use Rattle.words.specs.Words.{Bytes, Words, at, shared}
 use Rattle.words.specs.Rising.{nth}
-use Rattle.format.specs.Marks.{kindOf, ruleIn}
+use Rattle.format.specs.Marks.{ruleIn}
 use Rattle.format.specs.Nodes.{table}
 use Rattle.answers.specs.Widths.{lastKind}
 use Rattle.answers.specs.Questions.{Pair as Numbers, reached}
@@ -23,7 +23,6 @@ use Rattle.descent.specs.Vocabulary.{Halts, Located, Reached, Searchable, Sits,
 use Rattle.format.specs.Spans.{wordsOf, fieldCount}
 use Rattle.format.specs.Book.{told, trailerSize}
 use Rattle.standing.specs.Maps.{rowsAt}
-use Rattle.symbols.specs.Rules.{kindBy}
 use Rattle.trailer.specs.declared.Trailer.{Trailer}
 use Rattle.accept.specs.Parts.{Parts}
 use Rattle.search.specs.declared.Pair.{Pair}
@@ -95,7 +94,6 @@ pub record Askable (b : Bytes) (t : Trailer) : Type 0 where
   pub block : t .block ≡ told b 1
   pub table : t .blocks ≡ told b 2
   pub nodes : t .nodes ≡ told b 3
-  pub rule : kindBy (t .rule) ≡ kindOf b
   pub searchable : Searchable (ruleIn b) b (rowsAt (told b 3))
 
 pub record KindAsk (b : Bytes) (t : Trailer) (kind : ℕ) : Type 0 where

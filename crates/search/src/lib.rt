@@ -323,7 +323,7 @@ fn ask_range(book: &[u8], t: trailer::Trailer, question: &[u8]) -> Pair
     Pair { first, second }
 }
 
-// (the position reached, the bytes that its name and the question share).
+// (the position reached, the symbols that its name and the question share).
 fn ask_nearest(book: &[u8], t: trailer::Trailer, question: &[u8]) -> Pair
     requires { ⌜ Askable (now book) t ⌝ }
     ensures { λ r. ⌜ pairOf r ≡ nearest (asked (ruleIn (now (book .entry))) (now (question .entry))) (wordsOf (ruleIn (now (book .entry))) (now (book .entry))) ⌝ }

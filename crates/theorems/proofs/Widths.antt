@@ -24,7 +24,6 @@ use Rattle.format.specs.Book.{Book, opened}
 use Rattle.format.specs.Records.{longest}
 use Rattle.format.specs.Outcomes.{Answer, given}
 use Rattle.format.specs.Widths.{widest}
-use Rattle.format.proofs.Marks.{kind-lawful}
 use Rattle.answers.specs.Questions.{answer, ask, range}
 use Rattle.answers.specs.Widths.{width}
 use Rattle.answers.specs.Calls.{question}

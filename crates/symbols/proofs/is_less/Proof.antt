@@ -1,7 +1,6 @@
 -- `symbols::is_less` meets its contract.
 -- Assumes nothing.
 use borrow.Author.Needs.{needs}
-use Rattle.symbols.proofs.Symbols.{below-no}
 use Rattle.symbols.proofs.is_less.Statement.{statement}
 use Rattle.symbols.proofs.is_less.Tie as tie
 
