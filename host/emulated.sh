@@ -5,6 +5,8 @@
 #   host/emulated.sh build LISTFILE K [BOOKFILE]         of book_build on that list with that block size; the book goes to that file
 #   host/emulated.sh build_folded LISTFILE K [BOOKFILE]  of book_build_folded, likewise
 #   host/emulated.sh check BOOKFILE                      of book_check on that book
+#   host/emulated.sh salvage CARDFILE                    of book_salvage on that card, into a room that is always long enough
+#   host/emulated.sh merge|judge FIRST SECOND            of list_merge, list_judge on these two lists
 #   host/emulated.sh questions BOOKFILE                  of 100 questions to that book, in each of the five kinds, less those of its check
 #
 # Needs Debian's qemu-user and gcc-x86-64-linux-gnu. The archive is the one that MISTROGU_PRODUCT names, or what `rt staticlib` writes. The
@@ -35,6 +37,6 @@ questions)
             for (i = 0; i < 5; i++) printf "book_%s: 100 questions, %.0f instructions on average\n", kinds[i + 1], sum[i] / 100
         }' "$work/counts" ;;
 *)
-    awk -v call="book_$1" 'NR == 2 { empty = $1 } NR == 3 { print call ": " $1 - empty " instructions" }' "$work/counts"
+    awk -v call="$1" 'NR == 2 { empty = $1 } NR == 4 { print call ": " $1 - empty " instructions" }' "$work/counts"
     cat "$work/answer" ;;
 esac

@@ -1,8 +1,10 @@
-/* Makes the calls that host/emulated.sh counts, for the emulated processor. Each is between two marks, and the first two marks have
+/* Makes the calls that host/emulated.sh counts, for the emulated processor. Each is between two marks, and the first two marks of all have
  * nothing between them. What a call gives is printed.
  *
  *   call build|build_folded LISTFILE K [BOOKFILE]      the book is written to that file
  *   call check BOOKFILE
+ *   call salvage CARDFILE                              into a room and a report that are always long enough
+ *   call merge|judge FIRST SECOND                      two lists, the merge into a room as long as both
  *   call questions BOOKFILE                            the check, then 100 questions, each by all five calls, one call after the other
  */
 #include <stdio.h>
@@ -18,15 +20,16 @@ typedef answer ask(const uint8_t *, size_t, const uint8_t *, size_t);
 
 enum { MOST = 1 << 20, LONGEST = 200, QUESTIONS = 100 };
 
-static uint8_t input[MOST], room[MISTROGU_LONGEST_BOOK];
+static uint8_t input[MOST], other[MOST], room[2 * MOST];
+static struct mistrogu_kept report[MISTROGU_LONGEST_BOOK];
 static uint8_t question[QUESTIONS][LONGEST + 1];
 static size_t length[QUESTIONS];
 
 static void mark(void) { syscall(SYS_getppid); }
 
-static size_t read_file(const char *name) {
+static size_t read_file(const char *name, uint8_t *bytes) {
     FILE *file = fopen(name, "rb");
-    size_t size = file ? fread(input, 1, MOST, file) : 0;
+    size_t size = file ? fread(bytes, 1, MOST, file) : 0;
     if (!file || fclose(file)) {
         perror(name);
         exit(1);
@@ -74,27 +77,51 @@ static answer ask_all(size_t size) {
     return given;
 }
 
+/* What a call gives that is made between two marks. */
+#define COUNTED(call) (mark(), given = (call), mark(), given)
+
+/* A call by its name, and what it takes beside the first file: a number, or the length of the other file. */
+static answer make(const char *call, size_t size, size_t second) {
+    answer given;
+    if (!strcmp(call, "build"))
+        return COUNTED(book_build(input, size, second, room, MISTROGU_LONGEST_BOOK));
+    if (!strcmp(call, "build_folded"))
+        return COUNTED(book_build_folded(input, size, second, room, MISTROGU_LONGEST_BOOK));
+    if (!strcmp(call, "salvage"))
+        return COUNTED(book_salvage(input, size, room, MISTROGU_MOST_SALVAGED, report, second));
+    if (!strcmp(call, "merge"))
+        return COUNTED(list_merge(input, size, other, second, room, sizeof room));
+    if (!strcmp(call, "judge"))
+        return COUNTED(list_judge(input, size, other, second));
+    return COUNTED(book_check(input, size));
+}
+
+/* How many blocks a card's trailer tells of. */
+static size_t blocks_of(size_t size) {
+    const uint8_t *trailer = input + size - 16;
+    size_t names = trailer[0] + 256u * trailer[1], block = trailer[2] + 256u * trailer[3];
+    return block ? (names + block - 1) / block : 0;
+}
+
 int main(int words, char **word) {
-    answer given = {0, 0, 0};
-    size_t size = words > 2 ? read_file(word[2]) : 0;
-    int is_build = words > 3 && !strncmp(word[1], "build", 5);
-    if (!is_build && (words != 3 || (strcmp(word[1], "check") && strcmp(word[1], "questions"))))
+    if (words < 3)
         return 2;
-    size_t block = is_build ? strtoul(word[3], NULL, 10) : 0;
-    int folded = !strcmp(word[1], "build_folded"), asks = !strcmp(word[1], "questions");
+    const char *call = word[1];
+    answer given;
+    size_t size = read_file(word[2], input), second = 0;
+    if (!strncmp(call, "build", 5) && words > 3)
+        second = strtoul(word[3], NULL, 10);
+    else if (words > 3)
+        second = read_file(word[3], other);
+    else if (!strcmp(call, "salvage") && size >= 16)
+        second = blocks_of(size);
     mark();
     mark();
-    if (is_build && folded)
-        given = book_build_folded(input, size, block, room, sizeof room);
-    else if (is_build)
-        given = book_build(input, size, block, room, sizeof room);
-    else if (asks)
+    if (!strcmp(call, "questions"))
         given = ask_all(size);
     else
-        given = book_check(input, size);
-    if (!asks)
-        mark();
-    if (is_build && words > 4 && !given.code)
+        given = make(call, size, second);
+    if (!strncmp(call, "build", 5) && words > 4 && !given.code)
         write_file(word[4], given.first);
     printf("answer %zu, %zu, %zu\n", given.code, given.first, given.second);
     return 0;

@@ -88,7 +88,12 @@ fn folded_shapes(random: &mut Random) -> Vec<Worst> {
     let mut shapes = vec![worst::dearest_folded_check()];
     for block in [1, 2, 4, 8, 16, 32, 64] {
         for length in [2, 4, 8, 16, 32, 64, 200] {
-            shapes.push(worst::turned(&fitting_chains(MOST_NAMES, length, block), 0));
+            for place in [0, 1] {
+                shapes.push(worst::turned(
+                    &fitting_chains(MOST_NAMES, length, block),
+                    place,
+                ));
+            }
         }
         for (letters, length) in [(2, 11), (2, 20), (3, 8), (5, 6), (13, 4), (26, 3), (26, 12)] {
             for place in [0, 1, length - 2] {

@@ -252,10 +252,11 @@ pub fn turned(shape: &Worst, place: usize) -> Worst {
     worst
 }
 
-/// The dearest check of a folded book that is known: names of few letters in blocks
-/// as large as can be, of which neighbours share no byte.
+/// The dearest check of a folded book that is known: chains in blocks as large as can
+/// be, of which neighbours share the first byte alone and all letters, so that each name
+/// is held to those before it in its block, and none of these is stored whole.
 pub fn dearest_folded_check() -> Worst {
-    turned(&spelt(2, 11, 64), 0)
+    turned(&fitting_chains(MOST_NAMES, 200, 64), 1)
 }
 
 /// The dearest check that was found: wide rows of names that share much, each in

@@ -40,7 +40,7 @@ fn the_dearest_are_sound_and_as_large_as_they_say() {
     for (worst, names, bytes) in [
         (&check, 1003, 65_511),
         (&question, 2000, 36_148),
-        (&folded, 1769, 65_513),
+        (&folded, 551, 65_472),
     ] {
         assert_sound(worst);
         assert_eq!((worst.names.len(), worst.book().len()), (names, bytes));
