@@ -21,7 +21,8 @@ stopbook: books of stop names, built, checked, listed and asked by the proved li
 
 A lone - is standard input, or standard output where something is written. After -- no
 word is an option. Names print as text; a backslash, control characters and bytes that
-are no UTF-8 print as \\ and two hex digits for each byte.
+are no UTF-8 print as \\ and two hex digits for each byte. A file that is written takes the
+old one's place once all of it is there; where that fails, the old one is as it was.
 
 Exit status: 0 done; 1 refused, or not found where that is the question; 2 wrong usage,
 or a file that cannot be read or written; 3 salvaged, and some names are lost.
