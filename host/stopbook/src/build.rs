@@ -18,7 +18,7 @@ pub const COMMAND: Command = Command {
     name: "build",
     shape: Shape {
         valued: &["-o", "--output", "--block"],
-        flags: &["--fold"],
+        flags: &["--fold", reading::TRIM, reading::AS_IS],
     },
     help: help::BUILD,
     run,
@@ -36,15 +36,17 @@ fn run(words: &Words, streams: &mut Streams) -> Outcome {
     };
     let block = read_block(words)?;
     let kind = read_kind(words);
+    let taking = reading::read_taking(words)?;
     let output = words.output().map_err(Failure::Usage)?;
     let output = output.map_or_else(|| usual_output(input), OsStr::to_os_string);
     files::spare_terminal(&output)?;
     files::spare_input(input, &output)?;
-    let Text { source, names } = Text::read(kind, input, streams)?;
+    let text = Text::read(kind, taking, input, streams)?;
+    let (source, names) = (&text.source, text.names());
     if names.len() > MOST_NAMES {
         return Err(reading::too_many(&format!("{source} has"), names.len()));
     }
-    let book = build(kind, &names, block, &source)?;
+    let book = build(kind, &names, block, source)?;
     files::write(&output, book.bytes(), streams)?;
     let summary = summary(&names, &book, &files::output_name(&output));
     if files::is_standard(&output) {

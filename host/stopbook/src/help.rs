@@ -30,12 +30,17 @@ or a file that cannot be read or written; 3 salvaged, and some names are lost.
 
 /// The help of `build`.
 pub const BUILD: &str = "\
-stopbook build NAMES.txt [-o BOOK] [--block K] [--fold]
+stopbook build NAMES.txt [-o BOOK] [--block K] [--fold] [--trim | --as-is]
 
-Makes a book from a text in UTF-8 with a name on each line, in any order. Empty lines are
-skipped. Names are sorted by their bytes; doubles are dropped, and told. Bad lines (over
-200 bytes, not UTF-8) are told by number, and then no book is written. A book has at most
-2,000 names and 65,535 bytes; with larger blocks it is shorter.
+Makes a book from a text in UTF-8 with a name on each line, in any order. Lines end with LF
+or CR LF; empty ones are skipped. Names are sorted by their bytes; doubles are dropped, and
+told. Bad lines (over 200 bytes, not UTF-8, with a control character such as a tab) are told
+by number, and then no book is written. A book has at most 2,000 names and 65,535 bytes;
+with larger blocks it is shorter.
+
+Names that are hardly meant so are taken and told, with their lines: those with blanks
+before or behind them, those of blanks alone, and those that look like another one, from
+which they differ only in capitals, in blanks or in how accents are composed (Latin letters).
 
 A folded book takes capitals A to Z as small letters wherever it compares, so that MAR is
 found by mar; letters with accents stay apart. It gives names back as they are spelt. Names
@@ -46,6 +51,10 @@ spellings are told. Every command takes both kinds of book, but for salvage.
                            where the names come from standard input
   --block K                names in a block, 1 to 64; without it 16
   --fold                   make a folded book
+  --trim                   take blanks off before and behind names; what is empty then is
+                           left out. Blanks are the space, U+00A0, U+2007, U+202F, U+3000.
+  --as-is                  take every line as it is, with control characters, too, and tell
+                           of doubles alone; UTF-8 and 200 bytes are still asked for
 
 Examples:
 
@@ -55,15 +64,18 @@ Examples:
 
 /// The help of `merge`.
 pub const MERGE: &str = "\
-stopbook merge A.txt B.txt [-o TEXT]
+stopbook merge A.txt B.txt [-o TEXT] [--trim | --as-is]
 
 Makes one text of names from two, each with a name on each line, in any order: the names
 of both, sorted by their bytes, each once, as they are. `stopbook build` makes a book from
-it. Both texts are read as `build` reads one, with doubles told and dropped; where a line
-is bad, nothing is written. A text may have any number of names, and both together at most
-2,000. How many names each brought, and how many are in both, is said on standard error.
+it. Both texts are read as `build` reads one, with doubles told and dropped, and what looks
+wrong told; where a line is bad, nothing is written. Names of the second text that look like
+one of the first are told, too. A text may have any number of names, and both together at
+most 2,000. How many names each brought, and how many are in both, is said on standard error.
 
   -o TEXT, --output TEXT   where the names go; without it standard output
+  --trim                   take blanks off before and behind names, as `build` does
+  --as-is                  take every line as it is, as `build` does
 
 Examples:
 

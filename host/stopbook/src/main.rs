@@ -19,6 +19,8 @@
 //! | [`layout`] | document 01's layout, read from an accepted book |
 //! | [`book`] | a book that was read and accepted |
 //! | [`names`] | a file with a name on each line |
+//! | [`looks`] | control characters, blanks that cannot be seen, names that look alike |
+//! | [`accents`] | Latin letters with marks, taken apart |
 //! | [`reading`] | such a file read, and what is wrong with its lines told |
 //! | [`size`] | how long the book of some names will be |
 //! | [`progress`] | how far a long reading is |
@@ -27,6 +29,7 @@
 #![forbid(unsafe_code)]
 #![warn(missing_docs)]
 
+mod accents;
 mod args;
 mod ask;
 mod book;
@@ -38,6 +41,7 @@ mod layout;
 mod light;
 mod lines;
 mod list;
+mod looks;
 mod loss;
 mod merge;
 mod names;

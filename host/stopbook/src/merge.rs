@@ -2,7 +2,7 @@
 
 use crate::args::{Shape, Words};
 use crate::files;
-use crate::names;
+use crate::names::{self, Taking};
 use crate::outcome::{Failure, Outcome, Status, Streams};
 use crate::reading::{self, Text};
 use crate::text::{counted, shown_os};
@@ -15,7 +15,7 @@ pub const COMMAND: Command = Command {
     name: "merge",
     shape: Shape {
         valued: &["-o", "--output"],
-        flags: &[],
+        flags: &[reading::TRIM, reading::AS_IS],
     },
     help: help::MERGE,
     run,
@@ -24,12 +24,13 @@ pub const COMMAND: Command = Command {
 /// Merges two texts.
 fn run(words: &Words, streams: &mut Streams) -> Outcome {
     let inputs = read_inputs(words)?;
+    let taking = reading::read_taking(words)?;
     let output = words.output().map_err(Failure::Usage)?;
     let output = output.unwrap_or(OsStr::new("-"));
     for input in inputs {
         files::spare_input(input, output)?;
     }
-    let texts = read_texts(inputs, streams)?;
+    let texts = read_texts(inputs, taking, streams)?;
     let shared = count_shared(&texts);
     let list = merge(&texts, shared)?;
     let merged = names::in_records(&list);
@@ -55,32 +56,48 @@ fn read_inputs(words: &Words) -> Result<[&OsString; 2], Failure> {
 
 /// Reads both texts. The second is read also where the first is refused, so that
 /// the bad lines of both are told.
-fn read_texts(inputs: [&OsString; 2], streams: &mut Streams) -> Result<[Text; 2], Failure> {
+fn read_texts(
+    inputs: [&OsString; 2],
+    taking: Taking,
+    streams: &mut Streams,
+) -> Result<[Text; 2], Failure> {
     let [first, second] = inputs;
-    let first = match Text::read(BookKind::Plain, first, streams) {
+    let first = match Text::read(BookKind::Plain, taking, first, streams) {
         Err(failure @ Failure::File(_)) => return Err(failure),
         first => first,
     };
-    let second = Text::read(BookKind::Plain, second, streams);
-    Ok([first?, second?])
+    let second = Text::read(BookKind::Plain, taking, second, streams);
+    let texts = [first?, second?];
+    if taking != Taking::AsIs {
+        reading::tell_alike_across(&texts, streams);
+    }
+    Ok(texts)
 }
 
 /// How many names are in both texts.
 fn count_shared([first, second]: &[Text; 2]) -> usize {
-    let in_second = |name: &&Vec<u8>| second.names.binary_search(name).is_ok();
-    first.names.iter().filter(in_second).count()
+    let in_second = |name: &[u8]| {
+        second
+            .lines
+            .binary_search_by(|line| line.name[..].cmp(name))
+    };
+    let shared = first
+        .lines
+        .iter()
+        .filter(|line| in_second(&line.name).is_ok());
+    shared.count()
 }
 
 /// The merged list, of two texts that have so many names in common.
 fn merge(texts: &[Text; 2], shared: usize) -> Result<Vec<u8>, Failure> {
-    let [first, second] = [0, 1].map(|number: usize| names::records(&texts[number].names));
+    let [first, second] = [0, 1].map(|number: usize| names::records(&texts[number].names()));
     let mut room = vec![0; first.len() + second.len()];
     let length = mistrogu::merge(&first, &second, &mut room).map_err(|refused| {
         let [first, second] = texts;
         let both = format!("{} and {}", first.source, second.source);
         match refused.refusal {
             Refusal::TooManyNames => {
-                let names = first.names.len() + second.names.len() - shared;
+                let names = first.lines.len() + second.lines.len() - shared;
                 reading::too_many(&format!("{both} together have"), names)
             }
             _ => Failure::refused(format!("{both}: {refused}")),
@@ -94,8 +111,8 @@ fn merge(texts: &[Text; 2], shared: usize) -> Result<Vec<u8>, Failure> {
 fn summary(texts: &[Text; 2], shared: usize, merged: usize) -> String {
     let [first, second] = texts;
     let parts = [
-        (first.source.as_str(), first.names.len()),
-        (second.source.as_str(), second.names.len()),
+        (first.source.as_str(), first.lines.len()),
+        (second.source.as_str(), second.lines.len()),
         ("in both", shared),
         ("merged", merged),
     ];
@@ -107,12 +124,17 @@ fn summary(texts: &[Text; 2], shared: usize, merged: usize) -> String {
 #[cfg(test)]
 mod tests {
     use super::*;
+    use crate::names::Line;
 
     /// A text with these names.
     fn text(source: &str, names: &[&str]) -> Text {
+        let line = |(index, name): (usize, &&str)| Line {
+            number: index + 1,
+            name: name.as_bytes().to_vec(),
+        };
         Text {
             source: source.to_string(),
-            names: names.iter().map(|name| name.as_bytes().to_vec()).collect(),
+            lines: names.iter().enumerate().map(line).collect(),
         }
     }
 

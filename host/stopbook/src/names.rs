@@ -3,12 +3,26 @@
 //! Lines end with a line feed; a carriage return before it is no part of the
 //! name, and neither is a byte order mark at the start of the file. Empty
 //! lines are skipped. Lines are counted from 1, the empty ones too.
+//!
+//! What else of a line is a name, and what is bad, goes by how it is taken.
 
+use crate::looks;
 use crate::text::counted;
 use mistrogu::{BookKind, LONGEST_NAME};
 
 /// The byte order mark in UTF-8.
 const MARK: &[u8] = b"\xEF\xBB\xBF";
+
+/// How the lines of a file are taken.
+#[derive(Clone, Copy, Debug, PartialEq, Eq)]
+pub enum Taking {
+    /// With their blanks; a control character makes a line bad.
+    Careful,
+    /// The same, but without the blanks at the ends of a line.
+    Trimmed,
+    /// Every line as it is.
+    AsIs,
+}
 
 /// A name and the line where it stands.
 #[derive(Clone, Debug, PartialEq, Eq)]
@@ -40,35 +54,62 @@ pub struct Bad {
 /// What stands in a file of names.
 #[derive(Debug, Default)]
 pub struct Names {
-    /// The names, rising for their kind of book, each once.
-    pub rising: Vec<Vec<u8>>,
+    /// The names, rising for their kind of book, each once, where it stands first.
+    pub rising: Vec<Line>,
     /// The lines that repeat a name, in the order of the file.
     pub doubles: Vec<Double>,
     /// The lines that cannot be a name, in the order of the file.
     pub bad: Vec<Bad>,
+    /// The lines with a control character, in the order of the file.
+    pub control: Vec<Bad>,
 }
 
 /// Reads the bytes of a file, as names for this kind of book.
-pub fn parse(kind: BookKind, bytes: &[u8]) -> Names {
+pub fn parse(kind: BookKind, taking: Taking, bytes: &[u8]) -> Names {
     let bytes = bytes.strip_prefix(MARK).unwrap_or(bytes);
     let mut names = Names::default();
     let mut lines = Vec::new();
-    for (index, line) in bytes.split(|&byte| byte == b'\n').enumerate() {
-        let number = index + 1;
-        let name = line.strip_suffix(b"\r").unwrap_or(line);
-        if name.is_empty() {
-            continue;
-        }
-        match why_bad(name) {
-            Some(why) => names.bad.push(Bad { number, why }),
-            None => lines.push(Line {
-                number,
-                name: name.to_vec(),
-            }),
+    for (index, line) in bytes.split_inclusive(|&byte| byte == b'\n').enumerate() {
+        let name = match taking {
+            Taking::Trimmed => looks::trimmed(without_end(line)),
+            Taking::Careful | Taking::AsIs => without_end(line),
+        };
+        if !name.is_empty() {
+            lines.extend(judge(index + 1, name, taking, &mut names));
         }
     }
     sort(kind, lines, &mut names);
     names
+}
+
+/// A line without its end, where it has one: LF or CR LF.
+fn without_end(line: &[u8]) -> &[u8] {
+    match line.strip_suffix(b"\n") {
+        Some(line) => line.strip_suffix(b"\r").unwrap_or(line),
+        None => line,
+    }
+}
+
+/// The line with this name, unless it is bad, which is noted.
+fn judge(number: usize, name: &[u8], taking: Taking, names: &mut Names) -> Option<Line> {
+    let text = match std::str::from_utf8(name) {
+        Ok(text) => text,
+        Err(error) => {
+            let why = not_utf8(name, error.valid_up_to());
+            names.bad.push(Bad { number, why });
+            return None;
+        }
+    };
+    if let Some(why) = looks::control(text).filter(|_| taking != Taking::AsIs) {
+        names.control.push(Bad { number, why });
+        return None;
+    }
+    if let Some(why) = too_long(name) {
+        names.bad.push(Bad { number, why });
+        return None;
+    }
+    let name = name.to_vec();
+    Some(Line { number, name })
 }
 
 /// Sorts the lines as this kind of book does, and parts the doubles from the first
@@ -78,7 +119,7 @@ fn sort(kind: BookKind, mut lines: Vec<Line>, names: &mut Names) {
     lines.sort_by(|one, other| kind.order(&one.name, &other.name));
     for same in lines.chunk_by(|one, other| kind.order(&one.name, &other.name).is_eq()) {
         let first = &same[0];
-        names.rising.push(first.name.clone());
+        names.rising.push(first.clone());
         names.doubles.extend(same[1..].iter().map(|line| Double {
             line: line.clone(),
             first: first.clone(),
@@ -87,24 +128,22 @@ fn sort(kind: BookKind, mut lines: Vec<Line>, names: &mut Names) {
     names.doubles.sort_by_key(|double| double.line.number);
 }
 
-/// Why these bytes cannot be a name, and what to do.
-fn why_bad(name: &[u8]) -> Option<String> {
-    if let Err(error) = std::str::from_utf8(name) {
-        let at = error.valid_up_to();
-        let byte = name.get(at).copied().unwrap_or_default();
-        return Some(format!(
-            "not UTF-8 at byte {} ({byte:02X}); save the file as UTF-8",
-            at + 1
-        ));
-    }
-    if name.len() > LONGEST_NAME {
-        let over = name.len() - LONGEST_NAME;
-        return Some(format!(
-            "the name has {}, and {LONGEST_NAME} are the most; shorten it by {over}",
-            counted(name.len(), "byte")
-        ));
-    }
-    None
+/// Where a name stops being UTF-8, and what to do.
+fn not_utf8(name: &[u8], at: usize) -> String {
+    let byte = name.get(at).copied().unwrap_or_default();
+    format!(
+        "not UTF-8 at byte {} ({byte:02X}); save the file as UTF-8",
+        at + 1
+    )
+}
+
+/// By how much a name is too long, where it is.
+fn too_long(name: &[u8]) -> Option<String> {
+    let over = name.len().checked_sub(LONGEST_NAME + 1)? + 1;
+    Some(format!(
+        "the name has {}, and {LONGEST_NAME} are the most; shorten it by {over}",
+        counted(name.len(), "byte")
+    ))
 }
 
 /// Whether these bytes look like UTF-16, the other thing that editors save.
@@ -134,9 +173,9 @@ pub fn in_records(mut list: &[u8]) -> Vec<&[u8]> {
     names
 }
 
-/// A text in which [`parse`] finds these names again: a line for each. What it
-/// would take for the end of a line, or for a byte order mark, stands there once
-/// more than in the name.
+/// A text in which [`parse`] finds these names again, where it takes lines as they
+/// are: a line for each. What it would take for the end of a line, or for a byte order
+/// mark, stands there once more than in the name.
 pub fn text(names: &[&[u8]]) -> Vec<u8> {
     let mut text = Vec::new();
     if names.first().is_some_and(|name| name.starts_with(MARK)) {
@@ -156,11 +195,21 @@ pub fn text(names: &[&[u8]]) -> Vec<u8> {
 mod tests {
     use super::*;
 
+    /// What stands in a text for a plain book, with every line as it is.
+    fn plain(text: &[u8]) -> Names {
+        parse(BookKind::Plain, Taking::AsIs, text)
+    }
+
+    /// The names that were found.
+    fn found(names: &Names) -> Vec<&[u8]> {
+        names.rising.iter().map(|line| &line.name[..]).collect()
+    }
+
     /// The names of a text.
     fn rising(text: &[u8]) -> Vec<String> {
-        let names = parse(BookKind::Plain, text);
-        assert_eq!(names.bad, []);
-        let text = |name| String::from_utf8(name).expect("names are UTF-8");
+        let names = plain(text);
+        assert_eq!((&names.bad, &names.control), (&vec![], &vec![]));
+        let text = |line: Line| String::from_utf8(line.name).expect("names are UTF-8");
         names.rising.into_iter().map(text).collect()
     }
 
@@ -180,14 +229,18 @@ mod tests {
         assert!(rising(b"").is_empty());
         assert!(rising(b"\n\r\n\n").is_empty());
         assert!(rising(b"\xEF\xBB\xBF").is_empty());
-        // Only one carriage return belongs to the end of a line.
+        // Only one carriage return belongs to the end of a line, and none without
+        // a line feed.
         assert_eq!(rising(b"a\r\r\n"), ["a\r"]);
+        assert_eq!(rising(b"a\rb\r"), ["a\rb\r"]);
     }
 
     #[test]
     fn doubles_are_told_with_both_lines() {
-        let names = parse(BookKind::Plain, b"b\na\n\nb\na\nb\n");
-        assert_eq!(names.rising, [b"a", b"b"]);
+        let names = plain(b"b\na\n\nb\na\nb\n");
+        assert_eq!(found(&names), [b"a", b"b"]);
+        let numbers: Vec<usize> = names.rising.iter().map(|line| line.number).collect();
+        assert_eq!(numbers, [2, 1]);
         let told: Vec<(usize, usize)> = names
             .doubles
             .iter()
@@ -200,9 +253,9 @@ mod tests {
     #[test]
     fn for_a_folded_book_names_in_another_case_are_doubles_and_the_first_is_kept() {
         let text = b"zoo\nMAR\nabbey\nMar\n[\nmar\nZoo\n\xC3\x89\n\xC3\xA9\n";
-        let names = parse(BookKind::Folded, text);
+        let names = parse(BookKind::Folded, Taking::Careful, text);
         let rising: [&[u8]; 6] = [b"[", b"abbey", b"MAR", b"zoo", b"\xC3\x89", b"\xC3\xA9"];
-        assert_eq!(names.rising, rising);
+        assert_eq!(found(&names), rising);
         let told: Vec<(&[u8], &[u8], usize)> = names
             .doubles
             .iter()
@@ -220,7 +273,7 @@ mod tests {
             (b"Zoo", b"zoo", 1),
         ];
         assert_eq!(told, expected);
-        assert!(parse(BookKind::Plain, text).doubles.is_empty());
+        assert!(plain(text).doubles.is_empty());
     }
 
     #[test]
@@ -229,19 +282,48 @@ mod tests {
         text.extend([b'x'; 200]);
         text.push(b'\n');
         text.extend([b'y'; 201]);
-        let names = parse(BookKind::Plain, &text);
+        let names = plain(&text);
         let numbers: Vec<usize> = names.bad.iter().map(|bad| bad.number).collect();
         assert_eq!(numbers, [3, 5]);
         assert!(names.bad[0].why.contains("byte 3 (E9)"));
         assert!(names.bad[1].why.contains("201 bytes"));
         assert!(names.bad[1].why.contains("by 1"));
-        assert_eq!(names.rising, [b"Mar".to_vec(), vec![b'x'; 200]]);
+        assert_eq!(found(&names), [&b"Mar"[..], &[b'x'; 200]]);
+    }
+
+    #[test]
+    fn a_control_character_makes_a_line_bad_unless_lines_are_taken_as_they_are() {
+        let text = b"Mar\r\na\tb\n\xFF\t\nMarina\nc\r\r\n\xC2\x85\nlast\r";
+        for taking in [Taking::Careful, Taking::Trimmed] {
+            let names = parse(BookKind::Plain, taking, text);
+            let numbers: Vec<usize> = names.control.iter().map(|bad| bad.number).collect();
+            assert_eq!(numbers, [2, 5, 6, 7]);
+            assert!(names.control[1].why.contains("U+000D"));
+            assert_eq!((names.bad.len(), names.bad[0].number), (1, 3));
+            assert_eq!(found(&names), [&b"Mar"[..], b"Marina"]);
+        }
+        let names = plain(text);
+        assert_eq!((names.control.len(), names.bad.len()), (0, 1));
+        assert_eq!(names.rising.len(), 6);
+    }
+
+    #[test]
+    fn blanks_are_taken_off_where_that_is_wanted_before_anything_is_judged() {
+        let mut text = b" Mar \nMar\n  \n\xC2\xA0\r\nOld  Mill\r\n   ".to_vec();
+        text.extend([b'x'; 200]);
+        let names = parse(BookKind::Plain, Taking::Trimmed, &text);
+        assert_eq!(found(&names), [&b"Mar"[..], b"Old  Mill", &[b'x'; 200]]);
+        assert_eq!((names.bad.len(), names.doubles.len()), (0, 1));
+        let names = parse(BookKind::Plain, Taking::Careful, &text);
+        let expected: [&[u8]; 5] = [b"  ", b" Mar ", b"Mar", b"Old  Mill", b"\xC2\xA0"];
+        assert_eq!(found(&names), expected);
+        assert_eq!((names.bad.len(), names.doubles.len()), (1, 0));
     }
 
     #[test]
     fn a_length_is_counted_in_bytes() {
         let mut text = "é".repeat(100).into_bytes();
-        let bad = |text: &[u8]| parse(BookKind::Plain, text).bad.len();
+        let bad = |text: &[u8]| plain(text).bad.len();
         assert_eq!(bad(&text), 0);
         text.push(b'e');
         assert_eq!(bad(&text), 1);
@@ -271,10 +353,9 @@ mod tests {
             &[b"\xEF\xBB\xBF\r", b"\xEF\xBB\xBFMar"],
         ];
         for names in cases {
-            let text = text(names);
-            let found = parse(BookKind::Plain, &text);
-            assert_eq!(found.rising, names);
-            assert_eq!((found.bad, found.doubles), (vec![], vec![]));
+            let read = plain(&text(names));
+            assert_eq!(found(&read), names);
+            assert_eq!((read.bad, read.doubles), (vec![], vec![]));
         }
         assert_eq!(text(&[b"Mar", b"Marina"]), b"Mar\nMarina\n");
     }

@@ -31,6 +31,11 @@ pub fn named(bytes: &[u8]) -> String {
     quoted_if_empty(shown(bytes))
 }
 
+/// A name in quotes, where blanks at its ends must be seen.
+pub fn quoted(bytes: &[u8]) -> String {
+    format!("\"{}\"", shown(bytes))
+}
+
 /// The text, or two quotes where there is none.
 fn quoted_if_empty(text: String) -> String {
     if text.is_empty() {
@@ -121,6 +126,7 @@ mod tests {
         assert_eq!(shown("\u{FFFF}".as_bytes()), "\\EF\\BF\\BF");
         assert_eq!(shown(b""), "");
         assert_eq!(named(b""), "\"\"");
+        assert_eq!(quoted(b" Mar"), "\" Mar\"");
     }
 
     #[test]

@@ -75,7 +75,9 @@ fn names_equal_once_folded_are_doubles_and_both_spellings_are_told() {
 fn capitals_with_accents_are_names_of_their_own() {
     let folder = Folder::with("e.txt", "École\nécole\n".as_bytes());
     let ran = folder.run(&["build", "e.txt", "--fold"]);
-    assert_eq!((ran.status, ran.err.as_str()), (0, ""));
+    let told = "stopbook: e.txt, line 2: \"école\" looks like \"École\" in line 1; \
+                they differ in capitals\n";
+    assert_eq!((ran.status, ran.err.as_str()), (0, told));
     let ran = folder.run(&["ask", "e.book", "exact", "ÉCOLE"]);
     ran.assert(0, "ÉCOLE is stop 0, spelt École\n");
 }

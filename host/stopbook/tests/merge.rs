@@ -141,10 +141,10 @@ fn a_text_has_no_limit_of_its_own_but_the_merged_text_has() {
 fn names_go_out_as_they_came_in() {
     // A tab, a carriage return of its own, a letter of two bytes.
     let folder = with_two("a\tb\nc\r\r\n".as_bytes(), "École\r\n".as_bytes());
-    let ran = folder.run(&["merge", "a.txt", "b.txt", "-o", "both.txt"]);
+    let ran = folder.run(&["merge", "--as-is", "a.txt", "b.txt", "-o", "both.txt"]);
     assert_eq!(ran.status, 0);
     assert_eq!(folder.read("both.txt"), "a\tb\nc\r\r\nÉcole\n".as_bytes());
-    let ran = folder.run(&["merge", "both.txt", "both.txt"]);
+    let ran = folder.run(&["merge", "--as-is", "both.txt", "both.txt"]);
     assert_eq!(ran.bytes, folder.read("both.txt"));
 }
 
