@@ -1,9 +1,10 @@
 //! Words of the command line, taken apart into options and plain words.
 //!
 //! An option begins with `-`; a lone `-` is a plain word and means standard
-//! input or output. After `--` every word is plain.
+//! input or output. After `--` every word is plain. A number may have commas
+//! where the program itself would print them.
 
-use crate::text::shown_os;
+use crate::text::{grouped, shown_os};
 use std::ffi::{OsStr, OsString};
 use std::os::unix::ffi::OsStrExt;
 
@@ -57,10 +58,13 @@ impl Words {
     }
 }
 
-/// A number of decimal digits, without a sign.
+/// A number of decimal digits, without a sign, and with commas where they are
+/// printed, or none.
 fn read_number(text: &str) -> Option<usize> {
-    let digits = text.bytes().all(|byte| byte.is_ascii_digit());
-    digits.then(|| text.parse().ok())?
+    let digits = text.replace(',', "");
+    let is_number = digits.bytes().all(|byte| byte.is_ascii_digit());
+    let number = is_number.then(|| digits.parse().ok())??;
+    (digits == text || grouped(number) == text).then_some(number)
 }
 
 /// Takes the words apart.
@@ -96,13 +100,19 @@ fn add_option<'a>(
             Some(_) => return Err(format!("{option} takes no value")),
         }
     } else {
-        return Err(format!("there is no option {}", shown_os(word)));
+        return Err(no_option(word));
     };
     if found.has(option) {
         return Err(format!("{option} is given twice"));
     }
     found.options.push((option, value));
     Ok(())
+}
+
+/// A word that begins with a dash and is no option, and how to give it as a word.
+fn no_option(word: &OsStr) -> String {
+    let word = shown_os(word);
+    format!("there is no option {word}; for a question or a file of that name put -- before it: -- {word}")
 }
 
 /// An option's name, and its value where one stands behind an equals sign.
@@ -178,11 +188,19 @@ mod tests {
     #[test]
     fn wrong_options_are_named() {
         let wrong: [(&[&str], &str); 5] = [
-            (&["--lmit", "5"], "there is no option --lmit"),
+            (
+                &["--lmit", "5"],
+                "there is no option --lmit; for a question or a file of that name \
+                 put -- before it: -- --lmit",
+            ),
             (&["--limit"], "--limit takes a value"),
             (&["--plain=1"], "--plain takes no value"),
             (&["--plain", "--plain"], "--plain is given twice"),
-            (&["-x"], "there is no option -x"),
+            (
+                &["-x"],
+                "there is no option -x; for a question or a file of that name \
+                 put -- before it: -- -x",
+            ),
         ];
         for (words, text) in wrong {
             assert_eq!(splitted(words).unwrap_err(), text);
@@ -190,12 +208,18 @@ mod tests {
     }
 
     #[test]
-    fn a_number_has_digits_only() {
-        for text in ["", "-1", "+1", "1x", " 1", "99999999999999999999999"] {
+    fn a_number_has_digits_and_commas_only_where_they_are_printed() {
+        let wrong = ["", "-1", "+1", "1x", " 1", "99999999999999999999999"];
+        for text in wrong
+            .iter()
+            .chain(&[",", "12,34", ",123", "1234,567", "0,012", "1,"])
+        {
             let words = splitted(&["--limit", text]).unwrap();
             assert!(words.number("--limit").is_err(), "{text:?}");
         }
-        let words = splitted(&["--limit", "0012"]).unwrap();
-        assert_eq!(words.number("--limit"), Ok(Some(12)));
+        for (text, number) in [("0012", 12), ("2223", 2_223), ("2,223", 2_223)] {
+            let words = splitted(&["--limit", text]).unwrap();
+            assert_eq!(words.number("--limit"), Ok(Some(number)));
+        }
     }
 }

@@ -4,6 +4,7 @@ use crate::files;
 use crate::layout::{self, Node, Trailer};
 use crate::outcome::Failure;
 use crate::progress::Progress;
+use crate::text::grouped;
 use mistrogu::{BookKind, LONGEST_BOOK, LONGEST_NAME};
 use std::ffi::OsStr;
 use std::ops::Range;
@@ -79,10 +80,9 @@ impl Book {
     /// The name at a position.
     pub fn name(&mut self, position: usize) -> Result<&[u8], Failure> {
         let Some(known) = self.known.get_mut(position) else {
-            return Err(Failure::refused(format!(
-                "{} has no position {position}",
-                self.source
-            )));
+            let (source, position) = (&self.source, grouped(position));
+            let text = format!("{source} has no position {position}");
+            return Err(Failure::refused(text));
         };
         match known {
             Some(name) => Ok(name),
@@ -121,10 +121,10 @@ impl Book {
         Failure::refused(format!("{}: its {part} cannot be read", self.source))
     }
 
-    /// The first line of document 01's listing.
+    /// The first line of document 01's listing, for people.
     pub fn headline(&self) -> String {
-        let (names, block) = (self.names, self.block);
-        let (nodes, bytes) = (self.trailer.nodes, self.bytes.len());
+        let numbers = [self.names, self.block, self.trailer.nodes, self.bytes.len()];
+        let [names, block, nodes, bytes] = numbers.map(grouped);
         format!("names {names} block {block} nodes {nodes} bytes {bytes}")
     }
 }

@@ -7,7 +7,7 @@ use crate::names;
 use crate::outcome::{Failure, Outcome, Status, Streams};
 use crate::reading::{self, Text};
 use crate::size::{self, Size};
-use crate::text::grouped;
+use crate::text::{counted, grouped};
 use crate::{help, Command};
 use mistrogu::{BookKind, Refusal, LARGEST_BLOCK, LONGEST_BOOK, MOST_NAMES};
 use std::ffi::{OsStr, OsString};
@@ -135,52 +135,54 @@ fn too_long(size: &Size, fitting: Option<usize>) -> String {
     format!("the book would have {total} bytes, and {most} are the most: {over} too many; {help}")
 }
 
-/// What is said of a book that was built.
+/// What is said of a book that was built: how full it is, its parts, and what the
+/// plain list would take.
 fn summary(names: &[Vec<u8>], book: &Book, output: &str) -> String {
     let plain: usize = names.iter().map(|name| 1 + name.len()).sum();
     let size = size::size(book.kind(), names, book.block());
-    let nodes = book.trailer().nodes;
+    let full = full(names.len(), book.bytes().len());
+    let (parts, saved) = (parts(book, &size), saved(plain, &size));
+    format!("{output}\n  full   {full}\n  parts  {parts}\n  saved  {saved}\n")
+}
+
+/// How much of what a book can have one has.
+fn full(names: usize, bytes: usize) -> String {
+    let [names, bytes] = [names, bytes].map(grouped);
+    let [most_names, most_bytes] = [MOST_NAMES, LONGEST_BOOK].map(grouped);
+    format!("{names} of {most_names} names, {bytes} of {most_bytes} bytes")
+}
+
+/// The parts of a book.
+fn parts(book: &Book, size: &Size) -> String {
     let folded = match book.kind() {
         BookKind::Plain => "",
         BookKind::Folded => ", folded",
     };
-    [
-        format!("{output}\n"),
-        format!(
-            "  names  {} in blocks of {}{folded}\n",
-            names.len(),
-            book.block()
-        ),
-        format!(
-            "  bytes  {}: entries {}, tables {}\n",
-            book.bytes().len(),
-            size.entries,
-            size.tables()
-        ),
-        format!("  nodes  {nodes}\n"),
-        format!("  saved  {}\n", saved(plain, &size)),
-    ]
-    .concat()
+    let block = counted(book.block(), "name");
+    let nodes = counted(book.trailer().nodes, "node");
+    let [entries, tables] = [size.entries, size.tables()].map(|part| counted(part, "byte"));
+    format!("blocks of {block}{folded}; {nodes}; entries {entries}, tables {tables}")
 }
 
 /// How the entries and the whole book compare with the plain list.
 fn saved(plain: usize, size: &Size) -> String {
     let (entries, total) = (size.entries, size.total());
+    let list = counted(plain, "byte");
     let first = match plain.checked_sub(entries) {
-        Some(less) => format!(
-            "{less} of the plain list's {plain} bytes{}",
-            percent(less, plain)
-        ),
-        None => format!(
-            "nothing: entries have {} bytes more than the plain list's {plain}",
-            entries - plain
-        ),
+        Some(less) => {
+            let percent = percent(less, plain);
+            format!("{} of the plain list's {list}{percent}", grouped(less))
+        }
+        None => {
+            let more = counted(entries - plain, "byte");
+            format!("nothing: entries have {more} more than the plain list's {list}")
+        }
     };
     let second = match plain.checked_sub(total) {
-        Some(less) => format!("with its tables the book is {less} shorter"),
-        None => format!("with its tables the book is {} longer", total - plain),
+        Some(less) => format!("{} shorter", counted(less, "byte")),
+        None => format!("{} longer", counted(total - plain, "byte")),
     };
-    format!("{first}; {second}")
+    format!("{first}; with its tables the book is {second}")
 }
 
 /// A part of a whole in percent, in parentheses.
@@ -220,12 +222,27 @@ mod tests {
         let text = saved(100, &size);
         assert_eq!(
             text,
-            "40 of the plain list's 100 bytes (40 %); with its tables the book is 12 shorter"
+            "40 of the plain list's 100 bytes (40 %); with its tables the book is 12 bytes shorter"
         );
         let text = saved(50, &size);
-        assert!(text.starts_with("nothing: entries have 10 bytes more"));
-        assert!(text.ends_with("38 longer"));
+        assert!(text.starts_with("nothing: entries have 10 bytes more than the plain list's 50"));
+        assert!(text.ends_with("38 bytes longer"));
         assert!(!saved(0, &size).contains('%'));
+        let text = saved(59, &size);
+        assert!(text.starts_with("nothing: entries have 1 byte more than"));
+        assert!(saved(87, &size).ends_with("the book is 1 byte longer"));
+        let text = saved(12_060, &size);
+        assert!(text.starts_with("12,000 of the plain list's 12,060 bytes (99 %);"));
+        assert!(text.ends_with("11,972 bytes shorter"));
+    }
+
+    #[test]
+    fn how_full_a_book_is_is_said() {
+        assert_eq!(full(20, 521), "20 of 2,000 names, 521 of 65,535 bytes");
+        assert_eq!(
+            full(1_999, 65_535),
+            "1,999 of 2,000 names, 65,535 of 65,535 bytes"
+        );
     }
 
     #[test]

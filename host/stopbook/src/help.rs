@@ -10,7 +10,7 @@ stopbook: books of stop names, built, checked, listed and asked by the proved li
 
   stopbook build NAMES.txt [-o BOOK] [--fold]      make a book from a list of names
   stopbook merge A.txt B.txt [-o TEXT]             make one list of names from two
-  stopbook list BOOK [--from N] [--count N]        print its names with their numbers
+  stopbook list BOOK [--long]                      print its names, or their numbers, too
   stopbook ask BOOK [KIND QUESTION]                ask it: exact, place, range, nearest, width
   stopbook check BOOK                              say whether it is a book, and of which kind
   stopbook salvage CARD [-o TEXT]                  write the names left of a damaged book
@@ -21,8 +21,9 @@ stopbook: books of stop names, built, checked, listed and asked by the proved li
 
 A lone - is standard input, or standard output where something is written. After -- no
 word is an option. Names print as text; a backslash, control characters and bytes that
-are no UTF-8 print as \\ and two hex digits for each byte. A file that is written takes the
-old one's place once all of it is there; where that fails, the old one is as it was.
+are no UTF-8 print as \\ and two hex digits for each byte. Numbers print with commas, 2,000,
+and may be given with them or without. A file that is written takes the old one's place
+once all of it is there; where that fails, the old one is as it was.
 
 Exit status: 0 done; 1 refused, or not found where that is the question; 2 wrong usage,
 or a file that cannot be read or written; 3 salvaged, and some names are lost.
@@ -85,24 +86,28 @@ Examples:
 
 /// The help of `list`.
 pub const LIST: &str = "\
-stopbook list BOOK [--from N] [--count N] [--plain]
+stopbook list BOOK [--long] [--from N] [--count N]
 
-Prints how many names, names in a block, nodes and bytes a book has, then a line for each
-name: position, block, stored shared count, length in bytes, name. Positions begin at 0.
+Prints the names of a book, a line for each, as `stopbook build` reads them.
 
+  --long      print their numbers, too: first how many names, names in a block, nodes and
+              bytes the book has; then, under a line of heads, for each name its position,
+              its block, how many bytes of the name before it its entry shares, its length
+              in bytes, and the name. Positions and blocks begin at 0.
   --from N    begin with the name at this position
   --count N   print so many names at most
-  --plain     print only the names, as `stopbook build` reads them
+  --plain     print the names alone, as without an option
 
-Example:
+Examples:
 
-  stopbook list stops.book --from 11 --count 3
+  stopbook list stops.book
+  stopbook list stops.book --long --from 11 --count 3
 ";
 
 /// The help of `ask`.
 pub const ASK: &str = "\
-stopbook ask BOOK KIND QUESTION [--limit N]
-stopbook ask BOOK [--limit N]
+stopbook ask BOOK KIND QUESTION [--limit N | --tsv]
+stopbook ask BOOK [--limit N | --tsv]
 
 Asks a book one question of at most 200 bytes:
 
@@ -117,10 +122,25 @@ Asks a book one question of at most 200 bytes:
 A folded book answers without regard to case; of a stop that it spells otherwise than it
 was typed, the spelling is told.
 
+A question that begins with a dash goes behind --, so that it is taken for no option.
+
 Without a question, lines of standard input are asked, a kind, a blank and a question on
-each: 64 at a time, or each at once from a terminal.
+each: 64 at a time, or each at once from a terminal. Answers come in the order of the lines,
+each behind the number of its line, and what is refused is told on standard error.
 
   --limit N   of a range, print so many names at most; without it 20
+  --tsv       for programs: a line for each question, in order, with six fields and a tab
+              between each two:
+
+                line      the line of the question, 1 for one on the command line
+                kind      its kind; - where the line has none
+                answer    yes, no, or refused; why is told on standard error
+                first     exact: the stop's position; place: the place; range: where it
+                          begins; nearest: the stop's position; width: the width
+                second    range: how many names; nearest: how many bytes are lit
+                question  its text, printed as names are; where there is no kind, the line
+
+              Numbers have digits alone. A lone - stands where there is no such number.
 
 The exit status is 1 where exact, range or width find nothing or the question is refused;
 for lines of standard input, where a line is refused.
@@ -128,7 +148,9 @@ for lines of standard input, where a line is refused.
 Examples:
 
   stopbook ask stops.book nearest \"Market Sq\"
+  stopbook ask stops.book exact -- -Mar
   printf 'exact Mar\\nrange Harb\\n' | stopbook ask stops.book
+  printf 'exact Mar\\nrange Harb\\n' | stopbook ask stops.book --tsv
 ";
 
 /// The help of `check`.
@@ -149,7 +171,7 @@ pub const SALVAGE: &str = "\
 stopbook salvage CARD [-o TEXT]
 
 Writes the names that are left of a damaged book, such as one from a worn card, a name on
-each line, as `stopbook list --plain` prints them; `stopbook build` makes a book from them.
+each line, as `stopbook list` prints them; `stopbook build` makes a book from them.
 Each block is judged alone, so damage in one block costs no name of another, and the nodes
 do not count. Standard error has the number of each block that is lost, from 0, how many
 names it had, and between which names they stood; and where a block is not above the one

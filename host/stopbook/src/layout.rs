@@ -6,7 +6,7 @@
 //! too. Given others, a function gives `None` or
 //! numbers without meaning, and never fails.
 
-use crate::text::grouped;
+use crate::text::{counted, grouped};
 use format::{BookKind, NODE, TRAILER};
 use mistrogu::LONGEST_BOOK;
 
@@ -102,7 +102,8 @@ pub fn why_no_book(bytes: &[u8]) -> String {
     let length = bytes.len();
     let told = trailer(bytes).map_or(0, |trailer| trailer.total);
     if length < TRAILER {
-        format!("it has {length} bytes, and a book has {TRAILER} or more")
+        let bytes = counted(length, "byte");
+        format!("it has {bytes}, and a book has {TRAILER} or more")
     } else if length > LONGEST_BOOK {
         let most = grouped(LONGEST_BOOK);
         format!("it has more than {most} bytes, the most of a book")
@@ -113,7 +114,8 @@ pub fn why_no_book(bytes: &[u8]) -> String {
     } else if BookKind::of_marked(bytes).is_none() {
         "it does not end with a book's mark; stopbook build makes a book of names".to_string()
     } else if told != length {
-        format!("its trailer tells of {told} bytes, and it has {length}; copy it again, whole")
+        let (told, length) = (counted(told, "byte"), grouped(length));
+        format!("its trailer tells of {told}, and it has {length}; copy it again, whole")
     } else {
         let mend = match BookKind::of_marked(bytes) {
             Some(BookKind::Folded) => "build it again from its names",
@@ -196,10 +198,13 @@ pub mod tests {
 
     #[test]
     fn what_is_wrong_at_a_glance_is_said() {
-        assert!(why_no_book(b"Mar").contains("3 bytes"));
+        assert!(why_no_book(b"Mar").contains("it has 3 bytes,"));
+        assert!(why_no_book(b"M").contains("it has 1 byte,"));
         assert!(why_no_book(&[0; 65_536]).contains("65,535"));
         assert!(why_no_book(&[0; 20]).contains("mark"));
         assert!(why_no_book(&EXAMPLE[1..]).contains("93 bytes, and it has 92"));
+        let long = [&[0; 1_200], EXAMPLE].concat();
+        assert!(why_no_book(&long).contains("93 bytes, and it has 1,293;"));
         let mut changed = EXAMPLE.to_vec();
         changed[30] = 1;
         assert!(why_no_book(&changed).contains("damaged"));

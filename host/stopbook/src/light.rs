@@ -33,9 +33,13 @@ impl Light {
         }
     }
 
-    /// A name as it is printed, with so many of its first bytes lit.
+    /// A name as it is printed, with so many of its first bytes lit; where none is,
+    /// nothing shows.
     pub fn marked(self, name: &[u8], lit: usize) -> String {
         let (front, rest) = name.split_at(lit.min(name.len()));
+        if front.is_empty() {
+            return shown(rest);
+        }
         let (on, off) = match self {
             Light::Brackets => ("[", "]"),
             Light::Reverse => ("\x1B[7m", "\x1B[27m"),
@@ -52,7 +56,9 @@ mod tests {
     fn so_many_bytes_are_marked_as_are_lit() {
         let marked = |name: &str, lit| Light::Brackets.marked(name.as_bytes(), lit);
         assert_eq!(marked("Marina", 2), "[Ma]rina");
-        assert_eq!(marked("Marina", 0), "[]Marina");
+        assert_eq!(marked("Marina", 0), "Marina");
+        assert_eq!(Light::Reverse.marked(b"Marina", 0), "Marina");
+        assert_eq!(marked("", 3), "");
         assert_eq!(marked("Marina", 6), "[Marina]");
         assert_eq!(marked("Marina", 9), "[Marina]");
         assert_eq!(marked("aÉ", 1), "[a]É");

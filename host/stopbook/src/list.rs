@@ -1,10 +1,10 @@
-//! `stopbook list`: the names of a book with their numbers.
+//! `stopbook list`: the names of a book, alone or with their numbers.
 
 use crate::args::{Shape, Words};
 use crate::book::Book;
 use crate::lines::Lines;
 use crate::outcome::{Failure, Outcome, Status, Streams};
-use crate::text::{counted, shown};
+use crate::text::{counted, grouped, shown};
 use crate::{help, Command};
 use std::ops::Range;
 
@@ -13,7 +13,7 @@ pub const COMMAND: Command = Command {
     name: "list",
     shape: Shape {
         valued: &["--from", "--count"],
-        flags: &["--plain"],
+        flags: &["--long", "--plain"],
     },
     help: help::LIST,
     run,
@@ -26,13 +26,16 @@ fn run(words: &Words, streams: &mut Streams) -> Outcome {
     };
     let from = words.number("--from").map_err(Failure::Usage)?;
     let count = words.number("--count").map_err(Failure::Usage)?;
+    if words.has("--long") && words.has("--plain") {
+        return Err(Failure::usage("give --long or --plain, not both"));
+    }
     let mut book = Book::open(path)?;
     let positions = span(&book, from, count)?;
     book.learn(positions.clone())?;
-    if words.has("--plain") {
-        list_plain(&mut book, positions, streams)
-    } else {
+    if words.has("--long") {
         list_numbers(&mut book, positions, streams)
+    } else {
+        list_plain(&mut book, positions, streams)
     }
 }
 
@@ -44,8 +47,9 @@ fn span(book: &Book, from: Option<usize>, count: Option<usize>) -> Result<Range<
         let source = book.source();
         let has = match names {
             0 => "no names".to_string(),
-            _ => format!("{}, at 0 to {}", counted(names, "name"), names - 1),
+            _ => format!("{}, at 0 to {}", counted(names, "name"), grouped(names - 1)),
         };
+        let start = grouped(start);
         return Err(Failure::refused(format!(
             "{source} has {has}; --from {start} is past them"
         )));
@@ -64,17 +68,21 @@ fn list_plain(book: &mut Book, positions: Range<usize>, streams: &mut Streams) -
     Ok(Status::Done)
 }
 
-/// Document 01's listing, with names as text.
+/// Document 01's listing, with names as text, under a line of heads.
 fn list_numbers(book: &mut Book, positions: Range<usize>, streams: &mut Streams) -> Outcome {
     writeln!(streams.out, "{}", book.headline())?;
+    writeln!(streams.out, "position  block  shared  length  name")?;
     let counts = book.stored_counts()?;
     let block = book.block().max(1);
     for position in positions {
         let shared = counts.get(position).copied().unwrap_or_default();
         let name = book.name(position)?;
         let (length, text) = (name.len(), shown(name));
-        let number = position / block;
-        writeln!(streams.out, "{position} {number} {shared} {length} {text}")?;
+        let [position, number] = [position, position / block].map(grouped);
+        writeln!(
+            streams.out,
+            "{position:>8}  {number:>5}  {shared:>6}  {length:>6}  {text}"
+        )?;
     }
     Ok(Status::Done)
 }

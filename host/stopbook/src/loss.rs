@@ -1,7 +1,7 @@
 //! What is lost of a damaged book, in sentences: which blocks, and where in the
 //! alphabet.
 
-use crate::text::{counted, named};
+use crate::text::{counted, grouped, named};
 
 /// A block of a damaged book. Blocks are counted from 0, as `list` does.
 #[derive(Clone, Debug)]
@@ -58,10 +58,11 @@ fn gaps<'a>(blocks: &[Block<'a>]) -> Vec<Gap<'a>> {
 impl Gap<'_> {
     /// Which blocks are lost, with how many names, and where they stood.
     fn sentence(&self) -> String {
-        let first = self.number;
-        let blocks = match self.counts.len() {
+        let count = self.counts.len();
+        let [first, last] = [self.number, self.number + count.max(1) - 1].map(grouped);
+        let blocks = match count {
             1 => format!("block {first} is lost"),
-            more => format!("blocks {first} to {} are lost", first + more - 1),
+            _ => format!("blocks {first} to {last} are lost"),
         };
         format!("{blocks}: {}, {}", self.names(), self.place())
     }
@@ -101,6 +102,7 @@ fn falls(blocks: &[Block]) -> Vec<String> {
         .filter(|((_, [_, last]), (_, [first, _]))| last >= first)
         .map(|((one, [_, last]), (other, [first, _]))| {
             let (last, first) = (named(last), named(first));
+            let [one, other] = [one, other].map(grouped);
             format!(
                 "{last}, the last name of block {one}, is not below {first}, the first of block \
                  {other}; so one of the two has other names than it had"

@@ -3,6 +3,8 @@
 mod common;
 
 use common::{place, shared, Folder, Numbers, EXAMPLE, NO_NAMES};
+use std::fs;
+use std::process::Command;
 
 #[test]
 fn the_rows_of_the_documents_are_answered_in_words() {
@@ -105,12 +107,12 @@ fn the_same_rows_are_answered_from_standard_input() {
     let folder = Folder::with("mar.book", EXAMPLE);
     let lines =
         "exact Marina\r\nexact Marin\n\nrange\nnearest Maxim\nwidth Mar\nplace Market Square";
-    let expected = "Marina is stop 1\n\
-                    Marin is no stop; it would stand between Mar and Marina\n\
-                    3 names begin with \"\"\n  0 Mar\n  and 2 more\n\
-                    nearest to Maxim is [Ma]rina, stop 1; 2 bytes lit\n\
-                    the longest name that begins with Mar has 13 bytes\n\
-                    Market Square stands at 2, last, after Marina\n";
+    let expected = "line 1: Marina is stop 1\n\
+                    line 2: Marin is no stop; it would stand between Mar and Marina\n\
+                    line 4: 3 names begin with \"\"\n  0 Mar\n  and 2 more\n\
+                    line 5: nearest to Maxim is [Ma]rina, stop 1; 2 bytes lit\n\
+                    line 6: the longest name that begins with Mar has 13 bytes\n\
+                    line 7: Market Square stands at 2, last, after Marina\n";
     let ran = folder.run_with(&["ask", "mar.book", "--limit", "1"], lines.as_bytes());
     ran.assert(0, expected);
 }
@@ -125,12 +127,126 @@ fn a_bad_line_is_named_and_the_others_are_answered() {
     let ran = folder.run_with(&["ask", "mar.book"], lines.as_bytes());
     assert_eq!(
         (ran.status, ran.out()),
-        (1, "Mar is stop 0\nMarina is stop 1\n")
+        (1, "line 1: Mar is stop 0\nline 4: Marina is stop 1\n")
     );
     assert!(ran.err.contains("standard input, line 2: find is no kind"));
     assert!(ran
         .err
         .contains("standard input, line 3: the question has 201 bytes"));
+}
+
+#[test]
+fn answers_and_refusals_come_in_the_order_of_the_lines() {
+    let folder = Folder::with("mar.book", EXAMPLE);
+    // Both outputs in one file, as on a terminal.
+    let file = fs::File::create(folder.path().join("said")).expect("a file can be made");
+    folder.write(
+        "asked",
+        b"exact Mar\nfind Mar\nplace Zoo\n\nMar\nwidth Mari\n",
+    );
+    let asked = fs::File::open(folder.path().join("asked")).expect("it is there");
+    let status = Command::new(env!("CARGO_BIN_EXE_stopbook"))
+        .args(["ask", "mar.book"])
+        .current_dir(folder.path())
+        .stdin(asked)
+        .stderr(file.try_clone().expect("a file has many handles"))
+        .stdout(file)
+        .status()
+        .expect("the program starts");
+    assert_eq!(status.code(), Some(1));
+    let begin = "begin the line with exact, place, range, nearest or width";
+    let expected = format!(
+        "line 1: Mar is stop 0\n\
+         stopbook: standard input, line 2: find is no kind; {begin}\n\
+         line 3: Zoo would stand at 3, last, after Market Square\n\
+         stopbook: standard input, line 5: Mar is no kind; {begin}\n\
+         line 6: the longest name that begins with Mari has 6 bytes\n"
+    );
+    assert_eq!(String::from_utf8(folder.read("said")).unwrap(), expected);
+}
+
+#[test]
+fn programs_get_a_line_of_fields_for_each_question() {
+    let folder = Folder::with("mar.book", EXAMPLE);
+    let long = "x".repeat(201);
+    let lines = format!(
+        "exact Marina\nexact Marin\n\nplace Mark\nrange Mar\nrange Mas\nnearest Mango\n\
+         width Mari\nwidth Mas\nfind Mar\nplace {long}\nexact a\tb\\\nrange\n"
+    );
+    let expected = format!(
+        "1\texact\tyes\t1\t-\tMarina\n\
+         2\texact\tno\t-\t-\tMarin\n\
+         4\tplace\tyes\t2\t-\tMark\n\
+         5\trange\tyes\t0\t3\tMar\n\
+         6\trange\tno\t3\t0\tMas\n\
+         7\tnearest\tyes\t0\t2\tMango\n\
+         8\twidth\tyes\t6\t-\tMari\n\
+         9\twidth\tno\t0\t-\tMas\n\
+         10\t-\trefused\t-\t-\tfind Mar\n\
+         11\tplace\trefused\t-\t-\t{long}\n\
+         12\texact\tno\t-\t-\ta\\09b\\5C\n\
+         13\trange\tyes\t0\t3\t\n"
+    );
+    let ran = folder.run_with(&["ask", "mar.book", "--tsv"], lines.as_bytes());
+    assert_eq!((ran.status, ran.out()), (1, expected.as_str()));
+    assert_eq!(ran.err.lines().count(), 2);
+    assert!(ran.err.contains("standard input, line 10: find is no kind"));
+    assert!(ran
+        .err
+        .contains("standard input, line 11: the question has 201 bytes"));
+    // One question on the command line counts as the first line.
+    for (line, status) in expected.lines().zip([0, 1, 0, 0, 1, 0, 0, 1]) {
+        let fields: Vec<&str> = line.split('\t').collect();
+        let ran = folder.run(&["ask", "mar.book", fields[1], fields[5], "--tsv"]);
+        let (_, rest) = line.split_once('\t').expect("there are fields");
+        ran.assert(status, &format!("1\t{rest}\n"));
+    }
+    let ran = folder.run(&["ask", "mar.book", "exact", &long, "--tsv"]);
+    assert_eq!(ran.out(), format!("1\texact\trefused\t-\t-\t{long}\n"));
+    assert!(ran.status == 1 && ran.err.contains("201 bytes"));
+}
+
+#[test]
+fn numbers_for_people_have_commas_and_those_for_programs_none() {
+    let names: String = (0..2_000).map(|number| format!("{number:04}\n")).collect();
+    let folder = Folder::with("n.txt", names.as_bytes());
+    assert_eq!(folder.run(&["build", "n.txt"]).status, 0);
+    let run = |kind, text| folder.run(&["ask", "n.book", kind, text, "--limit", "1"]);
+    run("exact", "1999").assert(0, "1999 is stop 1,999\n");
+    run("place", "1500").assert(0, "1500 stands at 1,500, between 1499 and 1501\n");
+    let text = "2,000 names begin with \"\"\n  0 0000\n  and 1,999 more\n";
+    run("range", "").assert(0, text);
+    run("range", "1999").assert(0, "1 name begins with 1999\n  1,999 1999\n");
+    let text = "nearest to 1999x is [1999], stop 1,999; 4 bytes lit\n";
+    run("nearest", "1999x").assert(0, text);
+    let lines = "\n".repeat(1_233) + "exact 1999\n";
+    let ran = folder.run_with(&["ask", "n.book"], lines.as_bytes());
+    ran.assert(0, "line 1,234: 1999 is stop 1,999\n");
+    let ran = folder.run_with(&["ask", "n.book", "--tsv"], lines.as_bytes());
+    ran.assert(0, "1234\texact\tyes\t1999\t-\t1999\n");
+}
+
+#[test]
+fn where_nothing_is_lit_no_empty_brackets_are_printed() {
+    let folder = Folder::with("mar.book", EXAMPLE);
+    for question in ["", "Zoo", "mar"] {
+        let ran = folder.run(&["ask", "mar.book", "nearest", question]);
+        assert_eq!(ran.status, 0);
+        assert!(!ran.out().contains('['), "{}", ran.out());
+    }
+}
+
+#[test]
+fn a_question_that_begins_with_a_dash_gets_a_hint() {
+    let folder = Folder::with("mar.book", EXAMPLE);
+    for question in ["-Mar", "--Mar", "-1"] {
+        let ran = folder.run(&["ask", "mar.book", "exact", question]);
+        let hint = format!("there is no option {question}; for a question or a file of that name put -- before it: -- {question}");
+        ran.assert_fails(2, &[&hint, "see: stopbook ask --help"]);
+        // What the hint says does help.
+        let ran = folder.run(&["ask", "mar.book", "exact", "--", question]);
+        assert!(ran.out().starts_with(&format!("{question} is no stop")));
+    }
 }
 
 #[test]
@@ -156,7 +272,7 @@ fn a_book_without_names_is_asked() {
     let ran = folder.run_with(&["ask", "none.book"], b"nearest Mar\nplace Mar\n");
     assert_eq!(
         (ran.status, ran.out()),
-        (1, "Mar would stand at 0, alone\n")
+        (1, "line 2: Mar would stand at 0, alone\n")
     );
     assert!(ran.err.contains("line 1: none.book has no names"));
 }
@@ -165,8 +281,8 @@ fn a_book_without_names_is_asked() {
 fn a_question_need_not_be_text() {
     let folder = Folder::with("mar.book", EXAMPLE);
     let ran = folder.run_with(&["ask", "mar.book"], b"nearest Mar\xFF\nplace Mar\\\n");
-    let expected = "nearest to Mar\\FF is [Mar], stop 0; 3 bytes lit\n\
-                    Mar\\5C would stand at 1, between Mar and Marina\n";
+    let expected = "line 1: nearest to Mar\\FF is [Mar], stop 0; 3 bytes lit\n\
+                    line 2: Mar\\5C would stand at 1, between Mar and Marina\n";
     ran.assert(0, expected);
 }
 
@@ -190,8 +306,8 @@ fn no_half_letter_is_lit() {
     folder.write("e.txt", "Évry\n".as_bytes());
     assert_eq!(folder.run(&["build", "e.txt"]).status, 0);
     let ran = folder.run_with(&["ask", "e.book"], b"nearest \xC3\nnearest \xC3\x88ze\n");
-    let expected = "nearest to \\C3 is [\\C3]\\89vry, stop 0; 1 byte lit\n\
-                    no name shares a beginning with Èze; the search ends at Évry, stop 0\n";
+    let expected = "line 1: nearest to \\C3 is [\\C3]\\89vry, stop 0; 1 byte lit\n\
+                    line 2: no name shares a beginning with Èze; the search ends at Évry, stop 0\n";
     ran.assert(0, expected);
 }
 
@@ -267,6 +383,7 @@ fn random_questions_get_what_the_plain_list_says() {
         };
         let kind = ["exact", "place", "range", "width"][numbers.below(4)];
         lines.push_str(&format!("{kind} {question}\n"));
+        expected.push_str(&format!("line {}: ", number + 1));
         expected.push_str(&told(&names, kind, &question));
     }
     let ran = folder.run_with(&["ask", "n.book", "--limit", "2000"], lines.as_bytes());
@@ -295,7 +412,8 @@ fn the_nearest_name_shares_as_much_as_any_and_its_whole_letters_are_lit() {
     assert_eq!((ran.status, ran.err.as_str()), (0, ""));
     assert_eq!(ran.out().lines().count(), questions.len());
     let mut halves = 0;
-    for (line, question) in ran.out().lines().zip(&questions) {
+    for (index, (line, question)) in ran.out().lines().zip(&questions).enumerate() {
+        assert!(line.starts_with(&format!("line {}: ", index + 1)), "{line}");
         let most = names.iter().map(|name| shared(name, question)).max();
         let most = most.expect("there are names");
         let (_, rest) = line.split_once(", stop ").expect("a position is told");

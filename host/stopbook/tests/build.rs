@@ -11,16 +11,14 @@ fn the_book_of_document_01_is_built_from_unsorted_lines() {
     let ran = folder.run(&["build", "mar.txt", "--block", "2"]);
     assert_eq!((ran.status, ran.err.as_str()), (0, ""));
     assert_eq!(folder.read("mar.book"), EXAMPLE);
-    for part in [
-        "mar.book\n",
-        "names  3 in blocks of 2",
-        "bytes  93",
-        "nodes  4",
-    ] {
-        assert!(ran.out().contains(part), "{}", ran.out());
-    }
     // The plain list has 25 bytes, and so have the entries.
-    assert!(ran.out().contains("saved  0 of the plain list's 25 bytes"));
+    let expected = "\
+mar.book
+  full   3 of 2,000 names, 93 of 65,535 bytes
+  parts  blocks of 2 names; 4 nodes; entries 25 bytes, tables 68 bytes
+  saved  0 of the plain list's 25 bytes (0 %); with its tables the book is 68 bytes longer
+";
+    assert_eq!(ran.out(), expected);
 }
 
 #[test]
@@ -35,6 +33,26 @@ fn with_larger_blocks_the_book_is_shorter() {
 }
 
 #[test]
+fn how_full_the_book_is_is_said() {
+    let sample = include_bytes!("../../../sample/stops.txt");
+    let folder = Folder::with("stops.txt", sample);
+    let ran = folder.run(&["build", "stops.txt"]);
+    let length = folder.read("stops.book").len();
+    let full = format!("  full   20 of 2,000 names, {length} of 65,535 bytes\n");
+    assert!(ran.out().contains(&full), "{}", ran.out());
+    // One of a thing is said so.
+    let ran = folder.run_with(&["build", "-", "--block", "1", "-o", "one.book"], b"A\n");
+    let expected = "\
+one.book
+  full   1 of 2,000 names, 33 of 65,535 bytes
+  parts  blocks of 1 name; 1 node; entries 3 bytes, tables 30 bytes
+  saved  nothing: entries have 1 byte more than the plain list's 2 bytes; \
+with its tables the book is 31 bytes longer
+";
+    ran.assert(0, expected);
+}
+
+#[test]
 fn standard_input_goes_to_standard_output() {
     let folder = Folder::new();
     let ran = folder.run_with(
@@ -43,7 +61,7 @@ fn standard_input_goes_to_standard_output() {
     );
     assert_eq!(ran.status, 0);
     assert_eq!(ran.bytes, EXAMPLE);
-    assert!(ran.err.contains("bytes  93"));
+    assert!(ran.err.contains("93 of 65,535 bytes"));
     let ran = folder.run_with(&["build", "-", "--block", "2", "--output", "none"], b"\n");
     assert_eq!(ran.status, 0);
     assert_eq!(folder.read("none"), NO_NAMES);
@@ -105,7 +123,13 @@ fn digits(count: usize) -> String {
 #[test]
 fn names_2000_are_built_and_2001_refused() {
     let folder = Folder::with("n.txt", digits(2_000).as_bytes());
-    assert_eq!(folder.run(&["build", "n.txt"]).status, 0);
+    let ran = folder.run(&["build", "n.txt"]);
+    assert_eq!(ran.status, 0);
+    assert!(ran.out().contains("full   2,000 of 2,000 names, "));
+    // 2,000 names of five bytes each; no number there is without its commas.
+    assert!(ran.out().contains(" of the plain list's 10,000 bytes ("));
+    let words = ran.out().split(|letter: char| !letter.is_ascii_digit());
+    assert!(words.into_iter().all(|digits| digits.len() <= 3));
     // A double does not count.
     folder.write("n.txt", (digits(2_000) + "0007\n").as_bytes());
     assert_eq!(folder.run(&["build", "n.txt"]).status, 0);

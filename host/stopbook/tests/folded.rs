@@ -21,8 +21,10 @@ fn the_folded_book_has_its_mark_and_counts_of_bytes() {
     let folder = Folder::with("m.txt", b"marina\nMAR\n");
     let ran = folder.run(&["build", "m.txt", "--fold", "--block", "2"]);
     assert_eq!((ran.status, ran.err.as_str()), (0, ""));
-    assert!(ran.out().contains("names  2 in blocks of 2, folded\n"));
-    assert!(ran.out().contains("bytes  67: entries 13, tables 54"));
+    let full = "full   2 of 2,000 names, 67 of 65,535 bytes\n";
+    let parts = "parts  blocks of 2 names, folded; 3 nodes; entries 13 bytes, tables 54 bytes\n";
+    assert!(ran.out().contains(full), "{}", ran.out());
+    assert!(ran.out().contains(parts), "{}", ran.out());
     let book = folder.read("m.book");
     assert!(book.starts_with(b"\x00\x03MAR\x00\x06marina\x00\x00"));
     assert!(book.ends_with(b"\x02\x00\x02\x00\x0D\x00\x0F\x00\x03\x00\x43\x00NBF2"));
@@ -31,14 +33,19 @@ fn the_folded_book_has_its_mark_and_counts_of_bytes() {
 #[test]
 fn names_are_listed_in_the_order_of_letters_as_they_are_spelt() {
     let folder = with_book();
-    let expected = "names 6 block 4 nodes 8 bytes 165\n\
-                    0 0 0 7 [Depot]\n\
-                    1 0 0 5 abbey\n\
-                    2 0 0 3 mar\n\
-                    3 0 0 6 Marina\n\
-                    4 1 0 13 MARKET Square\n\
-                    5 1 0 3 Zoo\n";
-    folder.run(&["list", "f.book"]).assert(0, expected);
+    let expected = "\
+names 6 block 4 nodes 8 bytes 165
+position  block  shared  length  name
+       0      0       0       7  [Depot]
+       1      0       0       5  abbey
+       2      0       0       3  mar
+       3      0       0       6  Marina
+       4      1       0      13  MARKET Square
+       5      1       0       3  Zoo
+";
+    folder
+        .run(&["list", "--long", "f.book"])
+        .assert(0, expected);
 }
 
 #[test]
@@ -131,7 +138,7 @@ fn questions_find_stops_in_any_case() {
     let ran = folder.run_with(&["ask", "f.book"], b"exact MAR\nrange ZO\n");
     ran.assert(
         0,
-        "MAR is stop 2, spelt mar\n1 name begins with ZO\n  5 Zoo\n",
+        "line 1: MAR is stop 2, spelt mar\nline 2: 1 name begins with ZO\n  5 Zoo\n",
     );
 }
 
@@ -234,11 +241,13 @@ fn random_questions_get_what_the_plain_list_in_small_letters_says() {
             .map(|text| format!("exact {text}\n"))
             .collect();
         let ran = folder.run_with(&["ask", "n.book"], lines.as_bytes());
-        for (question, line) in questions.iter().zip(ran.out().lines()) {
+        let lines = questions.iter().zip(ran.out().lines()).enumerate();
+        for (index, (question, line)) in lines {
             let expected = match sorted.binary_search(&small(question)) {
                 Ok(position) => format!("{question} is stop {position}"),
                 Err(_) => format!("{question} is no stop"),
             };
+            let expected = format!("line {}: {expected}", index + 1);
             assert!(line.starts_with(&expected), "{line}\n{expected}");
         }
     }

@@ -7,17 +7,63 @@ use common::{shared, Folder, Numbers, EXAMPLE, NO_NAMES};
 #[test]
 fn the_listing_is_that_of_document_01() {
     let folder = Folder::with("mar.book", EXAMPLE);
-    let expected = "names 3 block 2 nodes 4 bytes 93\n\
-                    0 0 0 3 Mar\n1 0 3 6 Marina\n2 1 0 13 Market Square\n";
+    let expected = "\
+names 3 block 2 nodes 4 bytes 93
+position  block  shared  length  name
+       0      0       0       3  Mar
+       1      0       3       6  Marina
+       2      1       0      13  Market Square
+";
+    folder
+        .run(&["list", "--long", "mar.book"])
+        .assert(0, expected);
+    let ran = folder.run_with(&["list", "-", "--long"], EXAMPLE);
+    ran.assert(0, expected);
+}
+
+#[test]
+fn without_an_option_the_names_are_listed_alone() {
+    let folder = Folder::with("mar.book", EXAMPLE);
+    let expected = "Mar\nMarina\nMarket Square\n";
     folder.run(&["list", "mar.book"]).assert(0, expected);
     folder.run_with(&["list", "-"], EXAMPLE).assert(0, expected);
+    let ran = folder.run(&["list", "mar.book", "--plain"]);
+    ran.assert(0, expected);
+    let ran = folder.run(&["list", "mar.book", "--plain", "--long"]);
+    ran.assert_fails(2, &["give --long or --plain, not both"]);
+}
+
+#[test]
+fn large_numbers_have_commas_and_may_be_given_with_them() {
+    let names: String = (0..2_000).map(|number| format!("{number:04}\n")).collect();
+    let folder = Folder::with("n.txt", names.as_bytes());
+    assert_eq!(folder.run(&["build", "n.txt"]).status, 0);
+    for from in ["1999", "1,999"] {
+        let ran = folder.run(&["list", "n.book", "--long", "--from", from]);
+        let mut lines = ran.out().lines();
+        let head = lines.next().expect("there is a first line");
+        assert!(head.starts_with("names 2,000 block 16 nodes 2,223 bytes "));
+        assert_eq!(lines.last(), Some("   1,999    124       3       4  1999"));
+    }
+    let ran = folder.run(&["list", "n.book", "--from", "2000"]);
+    let past = "n.book has 2,000 names, at 0 to 1,999; --from 2,000 is past them";
+    ran.assert_fails(1, &[past]);
+    let ran = folder.run(&["list", "n.book", "--from", "19,99"]);
+    ran.assert_fails(2, &["--from takes a number, not 19,99"]);
 }
 
 #[test]
 fn a_part_can_be_listed() {
     let folder = Folder::with("mar.book", EXAMPLE);
+    let ran = folder.run(&["list", "mar.book", "--long", "--from", "1", "--count", "1"]);
+    let expected = "\
+names 3 block 2 nodes 4 bytes 93
+position  block  shared  length  name
+       1      0       3       6  Marina
+";
+    ran.assert(0, expected);
     let ran = folder.run(&["list", "mar.book", "--from", "1", "--count", "1"]);
-    ran.assert(0, "names 3 block 2 nodes 4 bytes 93\n1 0 3 6 Marina\n");
+    ran.assert(0, "Marina\n");
     let ran = folder.run(&["list", "--plain", "mar.book", "--from=2", "--count=99"]);
     ran.assert(0, "Market Square\n");
     folder
@@ -38,9 +84,11 @@ fn a_part_can_be_listed() {
 #[test]
 fn a_book_without_names_is_listed() {
     let folder = Folder::with("none.book", NO_NAMES);
+    let expected = "names 0 block 2 nodes 0 bytes 16\nposition  block  shared  length  name\n";
     folder
-        .run(&["list", "none.book"])
-        .assert(0, "names 0 block 2 nodes 0 bytes 16\n");
+        .run(&["list", "--long", "none.book"])
+        .assert(0, expected);
+    folder.run(&["list", "none.book"]).assert(0, "");
     folder.run(&["list", "--plain", "none.book"]).assert(0, "");
     let ran = folder.run(&["list", "none.book", "--from", "0"]);
     ran.assert_fails(1, &["none.book has no names"]);
@@ -53,8 +101,10 @@ fn bytes_that_are_no_text_are_escaped() {
     book[8] = b'\n';
     book[9] = 0xFF;
     let folder = Folder::with("odd.book", &book);
-    let ran = folder.run(&["list", "odd.book", "--from", "1", "--count", "1"]);
-    assert!(ran.out().ends_with("\n1 0 3 6 Mari\\0A\\FF\n"));
+    let ran = folder.run(&["list", "odd.book", "--long", "--from", "1", "--count", "1"]);
+    assert!(ran
+        .out()
+        .ends_with("\n       1      0       3       6  Mari\\0A\\FF\n"));
     let ran = folder.run(&["list", "odd.book", "--plain"]);
     assert_eq!(ran.out(), "Mar\nMari\\0A\\FF\nMarket Square\n");
     assert!(ran
@@ -71,27 +121,29 @@ fn the_numbers_of_random_books_are_those_of_the_plain_list() {
         let folder = Folder::with("n.txt", names.join("\n").as_bytes());
         let ran = folder.run(&["build", "n.txt", "--block", &block.to_string()]);
         assert_eq!(ran.status, 0, "{}", ran.err);
-        let ran = folder.run(&["list", "n.book"]);
+        let ran = folder.run(&["list", "--long", "n.book"]);
         let mut lines = ran.out().lines();
         let head = lines.next().expect("there is a first line");
+        assert_eq!(lines.next(), Some("position  block  shared  length  name"));
         let (count, bytes) = (names.len(), folder.read("n.book").len());
         assert!(
             head.starts_with(&format!("names {count} block {block} nodes ")),
             "{head}"
         );
-        assert!(head.ends_with(&format!(" bytes {bytes}")));
+        let head = head.replace(',', "");
+        assert!(head.ends_with(&format!(" bytes {bytes}")), "{head}");
         for (position, name) in names.iter().enumerate() {
             let stored = match position % block {
                 0 => 0,
                 _ => shared(&names[position - 1], name),
             };
             let (number, length) = (position / block, name.len());
-            let expected = format!("{position} {number} {stored} {length} {name}");
-            assert_eq!(lines.next(), Some(expected.as_str()));
+            let numbers = format!("{position:>8}  {number:>5}  {stored:>6}  {length:>6}");
+            assert_eq!(lines.next(), Some(format!("{numbers}  {name}").as_str()));
         }
         assert_eq!(lines.next(), None);
         // The plain list builds the same book.
-        let plain = folder.run(&["list", "--plain", "n.book"]);
+        let plain = folder.run(&["list", "n.book"]);
         folder.write("again.txt", &plain.bytes);
         folder.run(&["build", "again.txt", "--block", &block.to_string()]);
         assert_eq!(folder.read("again.book"), folder.read("n.book"));
@@ -121,8 +173,9 @@ fn what_is_no_book_is_refused_by_every_command() {
     let mut old = EXAMPLE.to_vec();
     old[92] = b'1';
     let long = vec![0; 100_000];
-    let cases: [(&[u8], &str); 7] = [
+    let cases: [(&[u8], &str); 8] = [
         (b"", "it has 0 bytes"),
+        (b"M", "it has 1 byte, and a book has 16 or more"),
         (b"Mar\nMarina\nMarket Square\n", "mark"),
         (&EXAMPLE[1..], "tells of 93 bytes, and it has 92"),
         (&EXAMPLE[..92], "mark"),
@@ -158,7 +211,12 @@ fn a_changed_byte_never_makes_a_command_fail_badly() {
         let mut book = EXAMPLE.to_vec();
         book[at] = numbers.below(256) as u8;
         folder.write("b", &book);
-        for words in [&["check", "b"][..], &["list", "b"], &["tree", "b"]] {
+        for words in [
+            &["check", "b"][..],
+            &["list", "b"],
+            &["list", "--long", "b"],
+            &["tree", "b"],
+        ] {
             let ran = folder.run(words);
             assert!(ran.status == 0 || ran.status == 1, "{at} {ran:?}");
             assert!(!ran.err.contains("panicked"), "{at} {ran:?}");

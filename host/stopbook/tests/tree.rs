@@ -60,10 +60,15 @@ fn a_large_tree_is_cut_and_that_is_told() {
     // 2,000 leaves, 200 forks of ten, 20 of those, 2 of those, the root.
     assert!(ran
         .err
-        .contains("100 of 2,223 nodes are drawn; --limit 2223 draws them all"));
-    let ran = folder.run(&["tree", "n.book", "--limit", "2223"]);
+        .contains("100 of 2,223 nodes are drawn; --limit 2,223 draws them all"));
+    let ran = folder.run(&["tree", "n.book", "--limit", "2,223"]);
     assert_eq!((ran.status, ran.err.as_str()), (0, ""));
     assert_eq!(ran.out().lines().count(), 2_224);
+    let last = "node 2,222, depth 5, width 4, name 1,999 1999\n";
+    assert!(ran
+        .out()
+        .starts_with("names 2,000 block 16 nodes 2,223 bytes "));
+    assert!(ran.out().ends_with(last));
     let ran = folder.run(&["tree", "n.book", "--svg", "n.svg", "--limit", "2223"]);
     assert_eq!((ran.status, ran.err.as_str()), (0, ""));
     let ran = folder.run(&["tree", "n.book", "--limit", "0"]);

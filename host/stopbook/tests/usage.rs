@@ -23,6 +23,34 @@ fn the_help_names_every_command_and_every_exit_status() {
     }
 }
 
+/// Asserts that the page for users has this output, set in as it is there.
+fn assert_in_readme(output: &str) {
+    let readme = include_str!("../../../README.md");
+    let lines = output.lines().map(|line| format!("    {line}\n"));
+    let block: String = lines.collect();
+    assert!(readme.contains(&format!("\n\n{block}\n")), "{block}");
+}
+
+#[test]
+fn the_outputs_in_the_readme_are_what_the_program_prints() {
+    let folder = Folder::with("stops.txt", include_bytes!("../../../sample/stops.txt"));
+    let ran = folder.run(&["build", "stops.txt", "-o", "stops.book"]);
+    assert_in_readme(ran.out());
+    let words = [
+        "list",
+        "stops.book",
+        "--long",
+        "--from",
+        "11",
+        "--count",
+        "3",
+    ];
+    assert_in_readme(folder.run(&words).out());
+    let lines = b"exact Mar\nrange Harb\n";
+    let ran = folder.run_with(&["ask", "stops.book", "--tsv"], lines);
+    assert_in_readme(ran.out());
+}
+
 #[test]
 fn every_command_has_help_with_an_example() {
     let folder = Folder::new();

@@ -1,26 +1,27 @@
 //! Questions from standard input, a kind and a question on each line, asked as
-//! batches.
+//! batches. Answers and refusals come in the order of the lines, each with its line.
 
 use super::question::{self, Question, KINDS};
-use super::sentence;
+use super::{fields, sentence, Form};
 use crate::book::Book;
 use crate::outcome::{Failure, Outcome, Status, Streams};
-use crate::text::named;
-use mistrogu::{Kind, MOST_ROWS};
+use crate::text::{grouped, named};
+use mistrogu::{Kind, Refusal, Reply, MOST_ROWS};
 use std::io::{self, BufRead, IsTerminal, Read};
 
 /// So much of a line is read; what is longer is refused as a question.
 const LONGEST_LINE: u64 = 65_536;
 
-/// A question and the line where it stands.
+/// A line that waits for its answer.
 struct Asked {
     number: usize,
-    question: Question,
+    line: Vec<u8>,
+    question: Result<Question, String>,
 }
 
 /// Asks every line of standard input. From a terminal each line is answered at
 /// once.
-pub fn ask_lines(book: &mut Book, limit: usize, streams: &mut Streams) -> Outcome {
+pub fn ask_lines(book: &mut Book, form: Form, streams: &mut Streams) -> Outcome {
     let input = io::stdin();
     let most = match input.is_terminal() {
         true => {
@@ -29,7 +30,7 @@ pub fn ask_lines(book: &mut Book, limit: usize, streams: &mut Streams) -> Outcom
         }
         false => MOST_ROWS,
     };
-    ask_reader(book, &mut input.lock(), most, limit, streams)
+    ask_reader(book, &mut input.lock(), most, form, streams)
 }
 
 /// Asks every line, so many at a time. `No` where a line got no answer.
@@ -37,7 +38,7 @@ fn ask_reader(
     book: &mut Book,
     input: &mut dyn BufRead,
     most: usize,
-    limit: usize,
+    form: Form,
     streams: &mut Streams,
 ) -> Outcome {
     let mut status = Status::Done;
@@ -48,19 +49,17 @@ fn ask_reader(
         if line.is_empty() {
             continue;
         }
-        match read_question(&line) {
-            Ok(question) => waiting.push(Asked { number, question }),
-            Err(text) => {
-                status = Status::No;
-                note_line(number, &text, streams);
-            }
-        }
+        waiting.push(Asked {
+            number,
+            question: read_question(&line),
+            line,
+        });
         if waiting.len() >= most {
-            status = worse(status, ask_waiting(book, &waiting, limit, streams)?);
+            status = worse(status, ask_waiting(book, &waiting, form, streams)?);
             waiting.clear();
         }
     }
-    Ok(worse(status, ask_waiting(book, &waiting, limit, streams)?))
+    Ok(worse(status, ask_waiting(book, &waiting, form, streams)?))
 }
 
 /// The first of the two that is not `Done`.
@@ -107,32 +106,73 @@ fn read_question(line: &[u8]) -> Result<Question, String> {
 }
 
 /// Asks the waiting questions in one batch and prints the answers.
-fn ask_waiting(book: &mut Book, waiting: &[Asked], limit: usize, streams: &mut Streams) -> Outcome {
-    let questions: Vec<Question> = waiting.iter().map(|asked| asked.question.clone()).collect();
+fn ask_waiting(book: &mut Book, waiting: &[Asked], form: Form, streams: &mut Streams) -> Outcome {
+    let questions = waiting
+        .iter()
+        .filter_map(|asked| asked.question.as_ref().ok());
+    let questions: Vec<Question> = questions.cloned().collect();
     let replies = question::ask_batch(book.bytes(), &questions)
         .map_err(|refusal| Failure::refused(format!("{}: {refusal}", book.source())))?;
+    let mut replies = replies.into_iter();
     let mut status = Status::Done;
-    for (asked, reply) in waiting.iter().zip(replies) {
-        match reply {
-            Ok(reply) => {
-                let told = sentence::tell(book, &asked.question, &reply, limit, streams.light)?;
-                streams.out.write_all(told.text.as_bytes())?;
-            }
-            Err(refusal) => {
-                status = Status::No;
-                if let Failure::Refused(text) = sentence::refusal(book, &asked.question, refusal) {
-                    note_line(asked.number, &text, streams);
-                }
-            }
-        }
+    for asked in waiting {
+        let answered = match &asked.question {
+            Ok(question) => match replies.next() {
+                Some(reply) => tell(book, asked, question, reply, form, streams)?,
+                None => Status::No,
+            },
+            Err(why) => tell_other(asked, why, form, streams)?,
+        };
+        status = worse(status, answered);
     }
     streams.out.flush()?;
     Ok(status)
 }
 
-/// Says what is wrong with a line.
+/// Tells what the question of a line got: `No` where it was refused.
+fn tell(
+    book: &mut Book,
+    asked: &Asked,
+    question: &Question,
+    reply: Result<Reply, Refusal>,
+    form: Form,
+    streams: &mut Streams,
+) -> Outcome {
+    let number = asked.number;
+    match (form, &reply) {
+        (Form::Fields, reply) => {
+            let line = fields::of_question(number, question, reply.as_ref().ok());
+            streams.out.write_all(line.as_bytes())?;
+        }
+        (Form::Sentences(limit), Ok(reply)) => {
+            let text = sentence::tell(book, question, reply, limit, streams.light)?;
+            write!(streams.out, "line {}: {text}", grouped(number))?;
+        }
+        (Form::Sentences(_), Err(_)) => {}
+    }
+    let Err(refusal) = reply else {
+        return Ok(Status::Done);
+    };
+    if let Failure::Refused(text) = sentence::refusal(book, question, refusal) {
+        note_line(number, &text, streams);
+    }
+    Ok(Status::No)
+}
+
+/// Tells why a line is no question.
+fn tell_other(asked: &Asked, why: &str, form: Form, streams: &mut Streams) -> Outcome {
+    if form == Form::Fields {
+        let line = fields::of_other(asked.number, &asked.line);
+        streams.out.write_all(line.as_bytes())?;
+    }
+    note_line(asked.number, why, streams);
+    Ok(Status::No)
+}
+
+/// Says what is wrong with a line, behind what was answered before it.
 fn note_line(number: usize, text: &str, streams: &mut Streams) {
     let _ = streams.out.flush();
+    let number = grouped(number);
     streams.note(&format!("standard input, line {number}: {text}"));
 }
 
@@ -185,7 +225,8 @@ mod tests {
             err: &mut err,
             light: Light::Brackets,
         };
-        let status = ask_reader(&mut book, &mut lines.as_bytes(), most, 20, &mut streams);
+        let form = Form::Sentences(20);
+        let status = ask_reader(&mut book, &mut lines.as_bytes(), most, form, &mut streams);
         let text = |bytes| String::from_utf8(bytes).expect("answers are text");
         (status.expect("the lines are read"), text(out), text(err))
     }
@@ -193,9 +234,10 @@ mod tests {
     #[test]
     fn the_size_of_a_batch_does_not_show() {
         let lines = "exact Marina\n".repeat(130) + "place Mark\nexact Zoo\n";
-        let expected = "Marina is stop 1\n".repeat(130)
-            + "Mark would stand at 2, between Marina and Market Square\n"
-            + "Zoo is no stop; it would stand last, after Market Square\n";
+        let marina = |number| format!("line {number}: Marina is stop 1\n");
+        let expected = (1..=130).map(marina).collect::<String>()
+            + "line 131: Mark would stand at 2, between Marina and Market Square\n"
+            + "line 132: Zoo is no stop; it would stand last, after Market Square\n";
         for most in [1, 63, 64] {
             let found = asked(&lines, most);
             assert_eq!(found, (Status::Done, expected.clone(), String::new()));
@@ -207,7 +249,7 @@ mod tests {
         let lines = format!("find Mar\n\nplace {}\nexact Mar\n", "x".repeat(201));
         let (status, out, err) = asked(&lines, 64);
         assert_eq!(status, Status::No);
-        assert_eq!(out, "Mar is stop 0\n");
+        assert_eq!(out, "line 4: Mar is stop 0\n");
         assert!(err.contains("line 1: find is no kind"));
         assert!(err.contains("line 3: the question has 201 bytes"));
     }

@@ -2,6 +2,7 @@
 //! standard input.
 
 mod batch;
+mod fields;
 mod question;
 mod sentence;
 
@@ -20,7 +21,7 @@ pub const COMMAND: Command = Command {
     name: "ask",
     shape: Shape {
         valued: &["--limit"],
-        flags: &[],
+        flags: &["--tsv"],
     },
     help: help::ASK,
     run,
@@ -29,22 +30,30 @@ pub const COMMAND: Command = Command {
 /// So many names of a range are shown where nothing else is said.
 const USUAL_LIMIT: usize = 20;
 
+/// How answers are told.
+#[derive(Clone, Copy, Debug, PartialEq, Eq)]
+enum Form {
+    /// In sentences, with so many names of a range at most.
+    Sentences(usize),
+    /// In lines of fields, for programs.
+    Fields,
+}
+
 /// Asks a book.
 fn run(words: &Words, streams: &mut Streams) -> Outcome {
-    let limit = words.number("--limit").map_err(Failure::Usage)?;
-    let limit = limit.unwrap_or(USUAL_LIMIT);
+    let form = read_form(words)?;
     match words.plain.as_slice() {
         [] => Err(Failure::usage("give a book")),
         [path] if files::is_standard(path) => Err(Failure::usage(
             "the questions come from standard input, so the book must be a file",
         )),
-        [path] => batch::ask_lines(&mut Book::open(path)?, limit, streams),
+        [path] => batch::ask_lines(&mut Book::open(path)?, form, streams),
         [path, kind, text] => {
             let question = Question {
                 kind: read_kind(kind)?,
                 text: text.as_bytes().to_vec(),
             };
-            ask_one(&mut Book::open(path)?, &question, limit, streams)
+            ask_one(&mut Book::open(path)?, &question, form, streams)
         }
         [_, kind] => {
             read_kind(kind)?;
@@ -56,6 +65,15 @@ fn run(words: &Words, streams: &mut Streams) -> Outcome {
     }
 }
 
+/// The form of the answers.
+fn read_form(words: &Words) -> Result<Form, Failure> {
+    let limit = words.number("--limit").map_err(Failure::Usage)?;
+    Ok(match words.has("--tsv") {
+        true => Form::Fields,
+        false => Form::Sentences(limit.unwrap_or(USUAL_LIMIT)),
+    })
+}
+
 /// The kind that a word names.
 fn read_kind(word: &OsStr) -> Result<Kind, Failure> {
     Kind::from_name(word.as_bytes()).ok_or_else(|| {
@@ -64,11 +82,17 @@ fn read_kind(word: &OsStr) -> Result<Kind, Failure> {
     })
 }
 
-/// Asks one question and prints the answer.
-fn ask_one(book: &mut Book, question: &Question, limit: usize, streams: &mut Streams) -> Outcome {
-    let reply = question::ask(book.bytes(), question)
-        .map_err(|refusal| sentence::refusal(book, question, refusal))?;
-    let told = sentence::tell(book, question, &reply, limit, streams.light)?;
-    streams.out.write_all(told.text.as_bytes())?;
-    Ok(told.status)
+/// Asks one question and prints the answer. As the only one it counts as line 1.
+fn ask_one(book: &mut Book, question: &Question, form: Form, streams: &mut Streams) -> Outcome {
+    let reply = question::ask(book.bytes(), question);
+    if form == Form::Fields {
+        let line = fields::of_question(1, question, reply.as_ref().ok());
+        streams.out.write_all(line.as_bytes())?;
+    }
+    let reply = reply.map_err(|refusal| sentence::refusal(book, question, refusal))?;
+    if let Form::Sentences(limit) = form {
+        let text = sentence::tell(book, question, &reply, limit, streams.light)?;
+        streams.out.write_all(text.as_bytes())?;
+    }
+    Ok(question::status(&reply))
 }

@@ -1,5 +1,6 @@
 //! Questions and what they get.
 
+use crate::outcome::Status;
 use mistrogu::{batch, exact, nearest, place, range, reply, row, width};
 use mistrogu::{Answer, Kind, Refusal, Reply};
 
@@ -45,6 +46,20 @@ pub fn ask_batch(
     Ok(both
         .map(|(question, answer)| reply(question.kind, answer))
         .collect())
+}
+
+/// Whether a reply says yes. A place and a nearest name there always are.
+pub fn status(reply: &Reply) -> Status {
+    let is_no = match reply {
+        Reply::Exact(found) => found.is_none(),
+        Reply::Range(range) => range.is_empty(),
+        Reply::Width(width) => *width == 0,
+        Reply::Place(_) | Reply::Nearest(_) => false,
+    };
+    match is_no {
+        true => Status::No,
+        false => Status::Done,
+    }
 }
 
 #[cfg(test)]

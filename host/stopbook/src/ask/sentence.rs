@@ -3,28 +3,20 @@
 use super::question::Question;
 use crate::book::Book;
 use crate::light::Light;
-use crate::outcome::{Failure, Status};
-use crate::text::{counted, named, shown};
+use crate::outcome::Failure;
+use crate::text::{counted, grouped, named, shown};
 use mistrogu::{BookKind, Nearest, Refusal, Reply, LONGEST_NAME};
 use std::ops::Range;
 
-/// An answer as it is printed, and whether it says yes.
-pub struct Told {
-    /// One line or more.
-    pub text: String,
-    /// `No` where nothing was found.
-    pub status: Status,
-}
-
-/// Tells what a question got. Of a range no more names than the limit; of the
-/// nearest name the first letters in this light.
+/// Tells what a question got, in one line or more. Of a range no more names than the
+/// limit; of the nearest name the first letters in this light.
 pub fn tell(
     book: &mut Book,
     question: &Question,
     reply: &Reply,
     limit: usize,
     light: Light,
-) -> Result<Told, Failure> {
+) -> Result<String, Failure> {
     let text = &question.text;
     match reply {
         Reply::Exact(Some(position)) => tell_stop(book, text, *position),
@@ -33,7 +25,7 @@ pub fn tell(
         Reply::Range(range) if range.is_empty() => no_range(book, text, range.start),
         Reply::Range(range) => tell_range(book, text, range.clone(), limit),
         Reply::Nearest(nearest) => tell_nearest(book, text, *nearest, light),
-        Reply::Width(width) => tell_width(text, *width),
+        Reply::Width(width) => Ok(tell_width(text, *width)),
     }
 }
 
@@ -50,20 +42,8 @@ pub fn refusal(book: &Book, question: &Question, refusal: Refusal) -> Failure {
     })
 }
 
-/// A yes.
-fn done(text: String) -> Result<Told, Failure> {
-    let status = Status::Done;
-    Ok(Told { text, status })
-}
-
-/// A no.
-fn no(text: String) -> Result<Told, Failure> {
-    let status = Status::No;
-    Ok(Told { text, status })
-}
-
 /// A question that is a stop. A folded book may spell it otherwise, which is told.
-fn tell_stop(book: &mut Book, text: &[u8], position: usize) -> Result<Told, Failure> {
+fn tell_stop(book: &mut Book, text: &[u8], position: usize) -> Result<String, Failure> {
     let spelt = match book.kind() {
         // No name is read for it: it is the question.
         BookKind::Plain => String::new(),
@@ -72,29 +52,29 @@ fn tell_stop(book: &mut Book, text: &[u8], position: usize) -> Result<Told, Fail
             name => format!(", spelt {}", shown(name)),
         },
     };
-    done(format!("{} is stop {position}{spelt}\n", named(text)))
+    let (text, position) = (named(text), grouped(position));
+    Ok(format!("{text} is stop {position}{spelt}\n"))
 }
 
 /// A question that is no stop, and where it would stand.
-fn no_stop(book: &mut Book, text: &[u8]) -> Result<Told, Failure> {
+fn no_stop(book: &mut Book, text: &[u8]) -> Result<String, Failure> {
     let place = mistrogu::place(book.bytes(), text)
         .map_err(|refusal| Failure::refused(format!("{}: {refusal}", book.source())))?;
     let between = between(book, place, place)?;
-    no(format!(
-        "{} is no stop; it would stand {between}\n",
-        named(text)
-    ))
+    let text = named(text);
+    Ok(format!("{text} is no stop; it would stand {between}\n"))
 }
 
 /// Where a question stands or would stand. A stop has its place as position.
-fn tell_place(book: &mut Book, text: &[u8], place: usize) -> Result<Told, Failure> {
+fn tell_place(book: &mut Book, text: &[u8], place: usize) -> Result<String, Failure> {
     let is_stop = place < book.names() && book.name(place)? == text;
     let (stands, after) = match is_stop {
         true => ("stands", place + 1),
         false => ("would stand", place),
     };
     let between = between(book, place, after)?;
-    done(format!("{} {stands} at {place}, {between}\n", named(text)))
+    let (text, place) = (named(text), grouped(place));
+    Ok(format!("{text} {stands} at {place}, {between}\n"))
 }
 
 /// Between which names something stands that has so many before it, and this
@@ -117,11 +97,11 @@ fn between(book: &mut Book, place: usize, after: usize) -> Result<String, Failur
 }
 
 /// A question that begins no name.
-fn no_range(book: &mut Book, text: &[u8], place: usize) -> Result<Told, Failure> {
+fn no_range(book: &mut Book, text: &[u8], place: usize) -> Result<String, Failure> {
     let between = between(book, place, place)?;
-    no(format!(
-        "no name begins with {}; it would stand {between}\n",
-        named(text)
+    let text = named(text);
+    Ok(format!(
+        "no name begins with {text}; it would stand {between}\n"
     ))
 }
 
@@ -131,7 +111,7 @@ fn tell_range(
     text: &[u8],
     range: Range<usize>,
     limit: usize,
-) -> Result<Told, Failure> {
+) -> Result<String, Failure> {
     let begin = match range.len() {
         1 => "begins",
         _ => "begin",
@@ -140,13 +120,14 @@ fn tell_range(
     let mut lines = format!("{count} {begin} with {}\n", named(text));
     for position in range.clone().take(limit) {
         let name = shown(book.name(position)?);
+        let position = grouped(position);
         lines.push_str(&format!("  {position} {name}\n"));
     }
     if range.len() > limit {
-        let more = range.len() - limit;
+        let more = grouped(range.len() - limit);
         lines.push_str(&format!("  and {more} more\n"));
     }
-    done(lines)
+    Ok(lines)
 }
 
 /// The name that shares most, with as many of its first bytes lit as the library
@@ -156,33 +137,31 @@ fn tell_nearest(
     text: &[u8],
     nearest: Nearest,
     light: Light,
-) -> Result<Told, Failure> {
+) -> Result<String, Failure> {
     let Nearest { position, lit } = nearest;
     let name = book.name(position)?;
-    let text = named(text);
+    let (text, position) = (named(text), grouped(position));
     if lit == 0 {
         let shown = shown(name);
-        return done(format!(
+        return Ok(format!(
             "no name shares a beginning with {text}; the search ends at {shown}, stop {position}\n"
         ));
     }
     let (marked, bytes) = (light.marked(name, lit), counted(lit, "byte"));
-    done(format!(
+    Ok(format!(
         "nearest to {text} is {marked}, stop {position}; {bytes} lit\n"
     ))
 }
 
 /// How long the longest name is that begins with a question. Only an empty range
 /// has no length, since no name is empty.
-fn tell_width(text: &[u8], width: usize) -> Result<Told, Failure> {
+fn tell_width(text: &[u8], width: usize) -> String {
     let text = named(text);
     match width {
-        0 => no(format!("no name begins with {text}, so the width is 0\n")),
+        0 => format!("no name begins with {text}, so the width is 0\n"),
         _ => {
             let bytes = counted(width, "byte");
-            done(format!(
-                "the longest name that begins with {text} has {bytes}\n"
-            ))
+            format!("the longest name that begins with {text} has {bytes}\n")
         }
     }
 }

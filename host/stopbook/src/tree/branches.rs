@@ -3,6 +3,7 @@
 use crate::book::Book;
 use crate::layout::Node;
 use crate::outcome::Failure;
+use crate::text::{counted, grouped};
 use mistrogu::BookKind;
 
 /// A node with what leads to it.
@@ -34,10 +35,11 @@ impl Branch {
 
     /// Its names: `name 1` or `names 0 to 2`.
     pub fn positions(&self) -> String {
-        let first = self.node.first;
-        match self.node.names {
+        let (first, names) = (self.node.first, self.node.names);
+        let [first, last] = [first, (first + names).saturating_sub(1)].map(grouped);
+        match names {
             1 => format!("name {first}"),
-            names => format!("names {first} to {}", (first + names).saturating_sub(1)),
+            _ => format!("names {first} to {last}"),
         }
     }
 }
@@ -113,10 +115,7 @@ impl Tree {
 
 /// What stands for nodes that are not drawn.
 pub fn more_nodes(count: usize) -> String {
-    match count {
-        1 => "1 more node".to_string(),
-        _ => format!("{count} more nodes"),
-    }
+    counted(count, "more node")
 }
 
 #[cfg(test)]

@@ -1,7 +1,7 @@
 //! The tree in the DOT language, for programs that draw graphs.
 
 use super::branches::{more_nodes, Branch, Tree};
-use crate::text::{named, shown};
+use crate::text::{grouped, named, shown};
 
 /// Draws the tree.
 pub fn draw(tree: &Tree) -> String {
@@ -33,7 +33,7 @@ fn label(branch: &Branch, number: usize) -> [String; 3] {
         false => format!("all begin with {}", named(&branch.beginning)),
     };
     let (depth, width) = (branch.node.depth, branch.node.width);
-    let head = format!("node {number}, depth {depth}");
+    let head = format!("node {}, depth {depth}", grouped(number));
     let names = format!("{}, width {width}", branch.positions());
     [head, names, name]
 }

@@ -70,9 +70,8 @@ fn read_output(words: &Words) -> Result<(Option<&OsStr>, Draw), Failure> {
 fn tell_left_out(tree: &Tree, streams: &mut Streams) {
     if tree.left_out() > 0 {
         let (drawn, all) = (grouped(tree.branches.len()), grouped(tree.nodes));
-        let nodes = tree.nodes;
         streams.note(&format!(
-            "{drawn} of {all} nodes are drawn; --limit {nodes} draws them all"
+            "{drawn} of {all} nodes are drawn; --limit {all} draws them all"
         ));
     }
 }

@@ -1,7 +1,7 @@
 //! The tree as indented text.
 
 use super::branches::{more_nodes, Branch, Tree};
-use crate::text::shown;
+use crate::text::{grouped, shown};
 
 /// Draws the tree: a line for each node.
 pub fn draw(tree: &Tree) -> String {
@@ -35,6 +35,7 @@ fn add(tree: &Tree, number: usize, corner: &str, indent: &str, text: &mut String
 fn line(branch: &Branch, number: usize) -> String {
     let letters = letters(branch);
     let (depth, width) = (branch.node.depth, branch.node.width);
+    let number = grouped(number);
     let names = match branch.is_leaf() {
         true => format!("{} {}", branch.positions(), shown(&branch.name)),
         false => branch.positions(),

@@ -7,7 +7,7 @@
 //! right. So no two texts overlap, whatever the names are.
 
 use super::branches::{more_nodes, Branch, Tree};
-use crate::text::{columns, shown};
+use crate::text::{columns, grouped, shown};
 
 /// Width of a letter on edges and of names.
 pub const LETTER: f64 = 8.6;
@@ -130,7 +130,7 @@ pub fn lay_out(tree: &Tree, head: &str, foot: &str) -> Picture {
 fn spot((number, branch): (usize, &Branch)) -> Spot {
     let (depth, width) = (branch.node.depth, branch.node.width);
     let lines = [
-        format!("node {number}, depth {depth}"),
+        format!("node {}, depth {depth}", grouped(number)),
         format!("{}, width {width}", branch.positions()),
     ];
     Spot {
