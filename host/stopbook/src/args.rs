@@ -112,7 +112,10 @@ fn add_option<'a>(
 /// A word that begins with a dash and is no option, and how to give it as a word.
 fn no_option(word: &OsStr) -> String {
     let word = shown_os(word);
-    format!("there is no option {word}; for a question or a file of that name put -- before it: -- {word}")
+    format!(
+        "there is no option {word}; for a question or a file of that name put -- before it: \
+         -- {word}"
+    )
 }
 
 /// An option's name, and its value where one stands behind an equals sign.

@@ -241,7 +241,10 @@ fn a_question_that_begins_with_a_dash_gets_a_hint() {
     let folder = Folder::with("mar.book", EXAMPLE);
     for question in ["-Mar", "--Mar", "-1"] {
         let ran = folder.run(&["ask", "mar.book", "exact", question]);
-        let hint = format!("there is no option {question}; for a question or a file of that name put -- before it: -- {question}");
+        let hint = format!(
+            "there is no option {question}; for a question or a file of that name \
+             put -- before it: -- {question}"
+        );
         ran.assert_fails(2, &[&hint, "see: stopbook ask --help"]);
         // What the hint says does help.
         let ran = folder.run(&["ask", "mar.book", "exact", "--", question]);
@@ -434,8 +437,12 @@ fn the_nearest_name_shares_as_much_as_any_and_its_whole_letters_are_lit() {
 #[test]
 fn wrong_usage_is_told() {
     let folder = Folder::with("mar.book", EXAMPLE);
-    let cases: [(&[&str], &str); 6] = [
+    let cases: [(&[&str], &str); 7] = [
         (&["ask"], "give a book"),
+        (
+            &["ask", "mar.book", "range", "M", "--tsv", "--limit", "1"],
+            "give one of them",
+        ),
         (&["ask", "mar.book", "find", "Mar"], "find is no kind"),
         (&["ask", "mar.book", "exact"], "give a question"),
         (&["ask", "mar.book", "exact", "Market", "Square"], "quotes"),

@@ -68,10 +68,13 @@ fn run(words: &Words, streams: &mut Streams) -> Outcome {
 /// The form of the answers.
 fn read_form(words: &Words) -> Result<Form, Failure> {
     let limit = words.number("--limit").map_err(Failure::Usage)?;
-    Ok(match words.has("--tsv") {
-        true => Form::Fields,
-        false => Form::Sentences(limit.unwrap_or(USUAL_LIMIT)),
-    })
+    match (words.has("--tsv"), limit) {
+        (true, Some(_)) => Err(Failure::usage(
+            "--limit is for names of a range, and --tsv prints none; give one of them",
+        )),
+        (true, None) => Ok(Form::Fields),
+        (false, limit) => Ok(Form::Sentences(limit.unwrap_or(USUAL_LIMIT))),
+    }
 }
 
 /// The kind that a word names.
