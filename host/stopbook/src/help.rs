@@ -114,13 +114,19 @@ Asks a book one question of at most 200 bytes:
   exact     is this a stop, and which?
   place     where does it stand, or where would it?
   range     which names begin with it?
-  nearest   which name shares the longest beginning with it? What it shares is lit, but no
-            half letter: in reverse video on a terminal, unless NO_COLOR is set, and
+  nearest   which name has the longest common beginning with it? What they share is lit, but
+            no half letter: in reverse video on a terminal, unless NO_COLOR is set, and
             elsewhere in brackets.
   width     how many bytes has the longest of the names that begin with it?
 
 A folded book answers without regard to case; of a stop that it spells otherwise than it
 was typed, the spelling is told.
+
+Nearest counts bytes from the first on, up to the first that differs, and nothing behind it;
+capitals count. A folded book counts letters, whatever their case. Of several names that
+share as much it gives one, always the same. It is no search for the name that is most like
+the question: of the sample's stops, Old Marina gets Old Mill and not Marina, and market sq
+gets none, but in a folded book Market Square.
 
 A question that begins with a dash goes behind --, so that it is taken for no option.
 

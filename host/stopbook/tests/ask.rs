@@ -314,6 +314,60 @@ fn no_half_letter_is_lit() {
     ran.assert(0, expected);
 }
 
+/// What questions for the nearest of the sample's stops get, of a plain and of a
+/// folded book; nothing where no name shares a beginning.
+const NEAREST: [(&str, &str, &str); 9] = [
+    // What stands behind the first difference does not count.
+    ("plain", "Marknet Square", "[Mark]et Square, stop 13; 4"),
+    ("plain", "Old Marina", "[Old M]ill, stop 15; 5"),
+    ("folded", "Old Marina", "[Old M]ill, stop 15; 5"),
+    // Capitals count in a plain book and not in a folded one.
+    ("plain", "market sq", ""),
+    ("plain", "MARKET SQ", "[M]ar, stop 11; 1"),
+    ("folded", "market sq", "[Market Sq]uare, stop 13; 9"),
+    ("folded", "MARKET SQ", "[Market Sq]uare, stop 13; 9"),
+    // A letter without its accent is another one, in both.
+    ("plain", "Ecole", ""),
+    ("folded", "Ecole", ""),
+];
+
+#[test]
+fn nearest_is_the_longest_common_beginning_and_no_likeness() {
+    let folder = Folder::with("n.txt", include_bytes!("../../../sample/stops.txt"));
+    for words in [&["-o", "plain"][..], &["--fold", "-o", "folded"]] {
+        let ran = folder.run(&[&["build", "n.txt"], words].concat());
+        assert_eq!((ran.status, ran.err.as_str()), (0, ""));
+    }
+    for (book, question, answer) in NEAREST {
+        let ran = folder.run(&["ask", book, "nearest", question]);
+        match answer {
+            "" => {
+                let none = format!("no name shares a beginning with {question}; ");
+                assert!(ran.out().starts_with(&none), "{}", ran.out());
+            }
+            _ => {
+                let one = if answer.ends_with(" 1") { "" } else { "s" };
+                let expected = format!("nearest to {question} is {answer} byte{one} lit\n");
+                ran.assert(0, &expected);
+            }
+        }
+    }
+}
+
+#[test]
+fn the_help_says_what_nearest_is_and_what_it_is_not() {
+    let help = Folder::new().run(&["ask", "--help"]);
+    for part in [
+        "longest common beginning",
+        "Nearest counts bytes",
+        "capitals count",
+        "A folded book counts letters, whatever their case",
+        "Old Marina gets Old Mill and not Marina",
+    ] {
+        assert!(help.out().contains(part), "{part}");
+    }
+}
+
 /// Where something stands that has so many names before it.
 fn between(names: &[String], before: usize, behind: usize) -> String {
     let left = before.checked_sub(1).map(|position| &names[position]);

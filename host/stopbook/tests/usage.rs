@@ -49,6 +49,17 @@ fn the_outputs_in_the_readme_are_what_the_program_prints() {
     let lines = b"exact Mar\nrange Harb\n";
     let ran = folder.run_with(&["ask", "stops.book", "--tsv"], lines);
     assert_in_readme(ran.out());
+    let ran = folder.run(&["build", "stops.txt", "--fold", "-o", "typed.book"]);
+    assert_eq!(ran.status, 0);
+    let asked = [
+        ("stops.book", "Marknet Square"),
+        ("stops.book", "Old Marina"),
+        ("stops.book", "market sq"),
+        ("typed.book", "market sq"),
+    ];
+    let answer = |(book, text)| folder.run(&["ask", book, "nearest", text]);
+    let answers = asked.map(|question| answer(question).out().to_string());
+    assert_in_readme(&answers.concat());
 }
 
 #[test]
