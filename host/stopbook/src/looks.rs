@@ -8,7 +8,7 @@
 
 use crate::accents;
 use crate::names::Line;
-use std::collections::HashMap;
+use std::collections::{HashMap, HashSet};
 
 /// A control character: it can stand in no name.
 fn is_control(character: char) -> bool {
@@ -171,7 +171,7 @@ pub fn alike(lines: &[Line]) -> Vec<Alike> {
 
 /// Those lines of a second text that look like one of a first and have no name of it.
 pub fn alike_across(first: &[Line], second: &[Line]) -> Vec<Alike> {
-    let names: HashMap<&[u8], ()> = first.iter().map(|line| (&line.name[..], ())).collect();
+    let names: HashSet<&[u8]> = first.iter().map(|line| &line.name[..]).collect();
     let mut firsts: HashMap<String, &Line> = HashMap::new();
     for line in first {
         let known = firsts.entry(key(&line.name)).or_insert(line);
@@ -179,9 +179,7 @@ pub fn alike_across(first: &[Line], second: &[Line]) -> Vec<Alike> {
             *known = line;
         }
     }
-    let others = second
-        .iter()
-        .filter(|line| !names.contains_key(&line.name[..]));
+    let others = second.iter().filter(|line| !names.contains(&line.name[..]));
     let mut found: Vec<Alike> = others
         .filter_map(|line| {
             let first = firsts.get(&key(&line.name))?;
