@@ -19,6 +19,9 @@ const MOST_LINKS: usize = 40;
 /// So many bytes of a file's name go into the name of the one beside it, so that
 /// the longer name is none too long.
 const MOST_OF_NAME: usize = 200;
+/// So many names are tried for the file beside another: one may be left of a program
+/// that was killed.
+const MOST_ATTEMPTS: usize = 100;
 /// Folders whose files are open already, such as standard output by its path.
 const OPEN_FILES: [&str; 2] = ["/proc", "/dev/fd"];
 
@@ -124,29 +127,32 @@ fn replace(target: &Path, bytes: &[u8], old: Option<&Metadata>) -> io::Result<()
 /// A new file beside this one, and its path. Where there is an old file, nobody
 /// else may read the new one until it has the old one's permissions.
 fn make_beside(target: &Path, old: Option<&Metadata>) -> io::Result<(File, PathBuf)> {
-    let beside = folder(target).join(name_beside(target)?);
+    let mut options = OpenOptions::new();
     let mode = if old.is_some() { 0o600 } else { 0o666 };
-    let made = OpenOptions::new()
-        .write(true)
-        .create_new(true)
-        .mode(mode)
-        .open(&beside);
-    match made {
-        Ok(file) => Ok((file, beside)),
-        Err(error) => {
-            let text = format!("no file can be made in its folder: {error}");
-            Err(io::Error::new(error.kind(), text))
+    options.write(true).create_new(true).mode(mode);
+    for attempt in 0..MOST_ATTEMPTS {
+        let beside = folder(target).join(name_beside(target, attempt)?);
+        match options.open(&beside) {
+            Ok(file) => return Ok((file, beside)),
+            Err(error) if error.kind() == io::ErrorKind::AlreadyExists => {}
+            Err(error) => {
+                let text = format!("no file can be made in its folder: {error}");
+                return Err(io::Error::new(error.kind(), text));
+            }
         }
     }
+    Err(io::Error::other(
+        "its folder has too many files of the like",
+    ))
 }
 
-/// The name of the file beside this one: its own, and a suffix that no other
-/// running program has.
-fn name_beside(target: &Path) -> io::Result<OsString> {
-    let name = target.file_name().ok_or(io::ErrorKind::IsADirectory)?;
+/// The name of the file beside this one, at some attempt: its own, and a suffix that
+/// no other running program has.
+fn name_beside(target: &Path, attempt: usize) -> io::Result<OsString> {
+    let name = target.file_name().ok_or(io::ErrorKind::NotFound)?;
     let bytes = name.as_bytes();
     let mut name = OsStr::from_bytes(&bytes[..bytes.len().min(MOST_OF_NAME)]).to_os_string();
-    name.push(format!(".new-{}", process::id()));
+    name.push(format!(".new-{}-{attempt}", process::id()));
     Ok(name)
 }
 
@@ -203,12 +209,13 @@ mod tests {
 
     #[test]
     fn the_file_beside_has_the_name_and_a_suffix_and_is_not_too_long() {
-        let beside = name_beside(Path::new("a/stops.book")).unwrap();
+        let beside = name_beside(Path::new("a/stops.book"), 0).unwrap();
         assert!(beside.as_bytes().starts_with(b"stops.book.new-"));
         let longest = "x".repeat(255);
-        let beside = name_beside(Path::new(&longest)).unwrap();
+        let beside = name_beside(Path::new(&longest), MOST_ATTEMPTS - 1).unwrap();
         assert!(beside.len() <= 255, "{}", beside.len());
-        assert!(name_beside(Path::new("..")).is_err());
+        assert!(name_beside(Path::new(".."), 0).is_err());
+        assert!(name_beside(Path::new(""), 0).is_err());
     }
 
     #[test]

@@ -137,6 +137,22 @@ fn an_old_book_is_replaced_and_keeps_its_permissions() {
 }
 
 #[test]
+fn a_file_that_a_killed_program_left_is_no_hindrance() {
+    let folder = with_old_book();
+    // The shell's number is the program's, which takes its place.
+    let script = "echo left > old.book.new-$$-0; exec \"$0\" build mar.txt --block 2 -o old.book";
+    let mut command = Command::new("sh");
+    command.args(["-c", script, PROGRAM]);
+    let ran = command.current_dir(folder.path()).output().unwrap();
+    assert!(ran.status.success() && ran.stderr.is_empty(), "{ran:?}");
+    assert_eq!(folder.read("old.book"), EXAMPLE);
+    // It is not the program's own, so it stays.
+    let files = files_in(&folder);
+    assert_eq!(files.len(), 3, "{files:?}");
+    assert_eq!(folder.read(&files[2]), b"left\n");
+}
+
+#[test]
 fn a_file_with_the_longest_name_is_written() {
     let folder = with_old_book();
     let name = "x".repeat(255);
