@@ -1,11 +1,12 @@
 #!/usr/bin/env bash
-# Compiles the example in C, links it with the proved library and runs it; then lets a C++ compiler read the header, where there is one.
+# Compiles the example in C, links it with the proved library and runs it; then, where there is a C++ compiler, the one in C++.
 #
 #   examples/run.sh [ARCHIVE]        without ARCHIVE: what `rt staticlib book` writes, made anew
 #
 # Each failure ends it with status 1. The library is for x86-64, and there the system's compilers are used (CC and CXX, else cc and
 # c++). Elsewhere the system's compiler only puts in what the example includes; the kit's compiles it for x86-64, and the kit's emulator
-# runs it with the kit's C library. With MISTROGU_KIT=1 that way is taken on x86-64, too, without the emulator.
+# runs it with the kit's C library. With MISTROGU_KIT=1 that way is taken on x86-64, too, without the emulator. The example in C++ is linked
+# with an archive for the machine at hand, which MISTROGU_ARCHIVE names elsewhere; without one it is compiled alone.
 set -eu
 archive=${1:+$(realpath "$1")}
 cd "$(dirname "$0")/.."
@@ -51,4 +52,11 @@ if [ "$machine" = x86_64 ] && [ "${MISTROGU_KIT:-0}" != 1 ]; then with_the_syste
 
 if command -v "${CXX:-c++}" >/dev/null; then
     "${CXX:-c++}" -pedantic -Wall -Wextra -Werror -fsyntax-only -x c++ include/mistrogu.h || fail "mistrogu.h is not good C++"
+    "${CXX:-c++}" -pedantic -Wall -Wextra -Werror -Iinclude -c examples/empty.cpp -o "$work/empty.o" || fail "empty.cpp could not be compiled"
+    native=${MISTROGU_ARCHIVE:-}
+    [ "$machine" != x86_64 ] || native=$archive
+    if [ -n "$native" ]; then
+        "${CXX:-c++}" "$work/empty.o" "$native" -o "$work/empty" || fail "empty.cpp could not be linked"
+        "$work/empty" || fail "the library does not take empty vectors as it should"
+    fi
 fi

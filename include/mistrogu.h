@@ -47,7 +47,9 @@
  * take it for granted:
  *
  * - Each pointer is to that much live memory for the whole call. It is never
- *   null, not even where the length is 0: any other address will do then.
+ *   null, not even where the length is 0: any other address will do then. In C++
+ *   an empty std::vector may give null, so with a `uint8_t none` of your own lend
+ *   `names.empty() ? &none : names.data(), names.size()`.
  * - Nobody else writes to that memory while the call runs: a call trusts what it
  *   has checked, and whoever can write to a book or a list in the midst of a call
  *   gets the caller's stack. Copy what another guest can write to, or map it so
