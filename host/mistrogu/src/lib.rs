@@ -21,7 +21,7 @@
 //! | have the stops that begin with some letters | [`range`] |
 //! | have a stop as near as any to what was typed, and how much of that to light | [`nearest`] |
 //! | know how much space the stops that begin with some letters take | [`width`] |
-//! | ask many questions of one book | [`batch`] |
+//! | ask many questions of one book | [`Batch`] |
 //! | have what is left of a damaged book | [`salvage`] |
 //!
 //! ```
@@ -69,16 +69,18 @@
 //!
 //! # Refusals
 //!
-//! A call that says no gives a [`Refusal`]; where several would fit, the first
-//! in the order that stands with the call. It has then changed nothing that was
-//! lent to it. A call that is accepted writes its output at the front of the
-//! lent room and leaves the rest as it was.
+//! A call that says no gives a [`Refusal`], why; one that takes lists gives a
+//! [`Refused`], why and at which record of which list, which `?` makes into a
+//! [`Refusal`]. Where several would fit, it is the first in the order that stands
+//! with the call. The call has then changed nothing that was lent to it. A call that
+//! is accepted writes its output at the front of the lent room and leaves the rest as
+//! it was.
 //!
 //! # What a call costs
 //!
 //! Every call that takes a book checks all of it before anything else, and
-//! nearly all of its time goes there. A [`batch`] does so once for all of its
-//! rows. A [`salvage`] takes bytes that need not be a book, and goes over their
+//! nearly all of its time goes there. A [`Batch`] does so once for all of its
+//! questions. A [`salvage`] takes bytes that need not be a book, and goes over their
 //! blocks alone. Every call that takes two lists judges both, and each name of
 //! [`heads`] is such a call. [`STACK`] bytes of stack are enough for a call,
 //! [`BUILD_STACK`] for [`build`] and [`build_folded`].
@@ -88,7 +90,14 @@
 //! Which archive is linked says the variable `MISTROGU_ARCHIVE` while the crate
 //! `proved` is compiled: on x86-64 the whole path of what `rt staticlib book`
 //! writes. `host/archive.sh` makes an archive for the machine at hand and prints
-//! that path.
+//! that path. Without it the build ends with a sentence that says so. To have it
+//! set for every build of a program of one's own, name the archive in that program's
+//! `.cargo/config.toml`, by its path from the folder that `.cargo` is in:
+//!
+//! ```toml
+//! [env]
+//! MISTROGU_ARCHIVE = { value = "../mistrogu/target/staticlib/libbook.a", relative = true }
+//! ```
 
 #![no_std]
 #![forbid(unsafe_code)]
@@ -102,16 +111,17 @@ mod salvage;
 
 use core::ops::Range;
 
-pub use batch::{batch, reply, row, Reply};
+use proved::Answer;
+
+pub use batch::{Batch, Replies, Reply};
 #[doc(inline)]
 pub use format::{
     BookKind, Kind, LARGEST_BLOCK, LONGEST_BOOK, LONGEST_NAME, MOST_NAMES, MOST_ROWS, MOST_SALVAGED,
 };
 pub use list::List;
 pub use merging::{heads, judge, merge, Head, Heads};
-pub use proved::{Answer, Kept, Row};
 pub use refusal::{Refusal, Refused, Which};
-pub use salvage::{blocks_of, salvage, Block, Blocks, Names, Salvaged};
+pub use salvage::{blocks_of, salvage, Block, Blocks, Names, Report, Salvaged};
 
 /// The bytes of stack that are enough for [`build`] and [`build_folded`], whatever is
 /// lent to them.

@@ -3,7 +3,8 @@
 use core::error::Error;
 use core::fmt;
 
-/// Why a call says no. Each has the number that documents 01 and 02 give it.
+/// Why a call says no, and nothing else: one of thirteen reasons, each with the number
+/// that documents 01 and 02 give it. What [`Refused`] tells beside it is where.
 ///
 /// ```
 /// use mistrogu::Refusal;
@@ -122,7 +123,8 @@ pub enum Which {
     Merged,
 }
 
-/// What a build says no with, and what is said of two lists.
+/// Why a call that takes lists says no, and where: a [`Refusal`], and the record of the
+/// list that it is about. So say building, merging, judging and going through heads.
 ///
 /// ```
 /// use mistrogu::{build, Refusal, Refused, Which};

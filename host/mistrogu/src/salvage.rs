@@ -8,12 +8,12 @@ use proved::Kept;
 
 use crate::{accepted, Refusal, LARGEST_BLOCK, MOST_NAMES};
 
-/// How many blocks a damaged book has, by its trailer: as many rows has the report
-/// of its [`salvage`]. They are at most [`MOST_NAMES`].
+/// How many blocks a damaged book has, by its trailer: for so many a [`Report`] of its
+/// [`salvage`] needs places. They are at most [`MOST_NAMES`].
 ///
 /// Nothing where there are fewer than 16 bytes, or a number of names or a block
 /// size that no book has: a salvage is then refused with
-/// [`NoMap`](Refusal::NoMap), whatever rows it gets.
+/// [`NoMap`](Refusal::NoMap), whatever report it gets.
 ///
 /// ```
 /// use mistrogu::{blocks_of, build};
@@ -41,7 +41,36 @@ pub enum Block<'lent> {
     Dropped,
 }
 
-/// What [`salvage`] gives: the records in the lent room, and the lent rows.
+/// What is said of each block: memory for [`salvage`] to write it to, which is read
+/// through [`Salvaged`] alone. It has 16 bytes for each place.
+///
+/// The rows that the library is lent are not to be had:
+///
+/// ```compile_fail,E0432
+/// use mistrogu::Kept;
+/// ```
+#[derive(Clone, Debug)]
+pub struct Report<const PLACES: usize = MOST_NAMES> {
+    rows: [Kept; PLACES],
+}
+
+impl<const PLACES: usize> Report<PLACES> {
+    /// A report of which nothing is written yet.
+    pub const fn new() -> Self {
+        let unwritten = Kept { kept: 0, names: 0 };
+        Report {
+            rows: [unwritten; PLACES],
+        }
+    }
+}
+
+impl<const PLACES: usize> Default for Report<PLACES> {
+    fn default() -> Self {
+        Self::new()
+    }
+}
+
+/// What [`salvage`] gives: the records in the lent room, and the lent report.
 #[derive(Clone, Copy, Debug, PartialEq, Eq)]
 pub struct Salvaged<'lent> {
     records: &'lent [u8],
@@ -80,8 +109,7 @@ impl<'lent> Salvaged<'lent> {
 }
 
 /// Salvages the names of a damaged book, such as one from a worn card, to the front
-/// of the room, as list records, and says in a report row for each block what
-/// became of it.
+/// of the room, as list records, and reports for each block what became of it.
 ///
 /// Where the trailer and the block table make sense, each block is judged alone, by
 /// the bytes of its own span: entries have to fill it exactly, in the proper number,
@@ -91,24 +119,25 @@ impl<'lent> Salvaged<'lent> {
 /// is kept with those. All of that goes for plain books: to the mark of a folded one
 /// the answer is [`NoMap`](Refusal::NoMap).
 ///
-/// There have to be as many rows as blocks: [`blocks_of`] says how many. A room of
-/// [`MOST_SALVAGED`](crate::MOST_SALVAGED) bytes is always long enough.
+/// A report of [`MOST_NAMES`] places is always long enough, and one of as many as
+/// there are blocks, which [`blocks_of`] says, just so; what it has more stays as it
+/// was. A room of [`MOST_SALVAGED`](crate::MOST_SALVAGED) bytes is always long enough.
 ///
 /// Refused, in this order: [`NoMap`](Refusal::NoMap), [`BadBatch`](Refusal::BadBatch)
-/// for other than as many rows as blocks, [`RoomTooShort`](Refusal::RoomTooShort).
-/// The room and the rows are then as they were.
+/// for fewer places than blocks, [`RoomTooShort`](Refusal::RoomTooShort). The room and
+/// the report are then as they were.
 ///
 /// ```
-/// use mistrogu::{blocks_of, build, salvage, Block, Kept};
+/// use mistrogu::{blocks_of, build, salvage, Block, Report};
 ///
 /// let mut card = [0; 93];
 /// build(b"\x03Mar\x06Marina\x0DMarket Square", 2, &mut card)?;
 /// // Marina shares three bytes with Mar; now its entry says four.
 /// card[5] = 4;
 ///
-/// let (mut room, mut rows) = ([0; 100], [Kept::default(); 2]);
+/// let (mut room, mut report) = ([0; 100], Report::<2>::new());
 /// assert_eq!(blocks_of(&card), Some(2));
-/// let salvaged = salvage(&card, &mut room, &mut rows)?;
+/// let salvaged = salvage(&card, &mut room, &mut report)?;
 /// assert_eq!(salvaged.records(), b"\x0DMarket Square");
 ///
 /// let mut blocks = salvaged.blocks();
@@ -120,11 +149,14 @@ impl<'lent> Salvaged<'lent> {
 /// assert_eq!(names.next(), None);
 /// # Ok::<(), mistrogu::Refusal>(())
 /// ```
-pub fn salvage<'lent>(
+pub fn salvage<'lent, const PLACES: usize>(
     data: &[u8],
     room: &'lent mut [u8],
-    report: &'lent mut [Kept],
+    report: &'lent mut Report<PLACES>,
 ) -> Result<Salvaged<'lent>, Refusal> {
+    // As many rows as blocks, or too few of them, or, where there is no map, none.
+    let blocks = blocks_of(data).unwrap_or(0).min(PLACES);
+    let report = &mut report.rows[..blocks];
     let (length, _) = accepted(proved::book_salvage(data, room, report))?;
     Ok(Salvaged {
         records: &room[..length],

@@ -1,8 +1,8 @@
 //! Document 01's book through the typed calls, one by one and in a batch.
 
 use mistrogu::{
-    batch, build, check, exact, nearest, place, range, read, reply, row, width, Answer, BookKind,
-    Checked, Kind, List, Nearest, Refusal, Reply,
+    build, check, exact, nearest, place, range, read, width, Batch, BookKind, Checked, Kind, List,
+    Nearest, Refusal, Reply,
 };
 
 const STOPS: [&str; 3] = ["Mar", "Marina", "Market Square"];
@@ -48,17 +48,6 @@ fn asked() -> [(&'static str, Reply); 16] {
         ("Mari", Reply::Width(6)),
         ("Mas", Reply::Width(0)),
     ]
-}
-
-/// The kind of question that gets such a reply.
-fn kind(reply: &Reply) -> Kind {
-    match reply {
-        Reply::Exact(_) => Kind::Exact,
-        Reply::Place(_) => Kind::Place,
-        Reply::Range(_) => Kind::Range,
-        Reply::Nearest(_) => Kind::Nearest,
-        Reply::Width(_) => Kind::Width,
-    }
 }
 
 /// Asks by the call of this kind.
@@ -108,9 +97,10 @@ fn the_book_without_names_has_16_bytes() {
 #[test]
 fn the_questions_are_answered_alone_and_in_a_batch() {
     let book = book();
-    let (mut questions, mut rows) = (Vec::new(), Vec::new());
+    let mut questions = Vec::new();
+    let mut batch = Batch::<16>::new();
     for (question, expected) in asked() {
-        let kind = kind(&expected);
+        let kind = expected.kind();
         assert_eq!(
             ask(kind, &book, question.as_bytes()),
             Ok(expected),
@@ -118,12 +108,12 @@ fn the_questions_are_answered_alone_and_in_a_batch() {
         );
         let start = questions.len();
         questions.extend_from_slice(question.as_bytes());
-        rows.push(row(kind, start..questions.len()));
+        batch.push(kind, start..questions.len()).unwrap();
     }
-    let mut answers = [Answer::default(); 16];
-    assert_eq!(batch(&book, &questions, &rows, &mut answers), Ok(16));
-    for (answer, (question, expected)) in answers.into_iter().zip(asked()) {
-        assert_eq!(reply(kind(&expected), answer), Ok(expected), "{question}");
+    let replies = batch.ask(&book, &questions).unwrap();
+    assert_eq!(replies.len(), 16);
+    for (reply, (question, expected)) in replies.zip(asked()) {
+        assert_eq!(reply, Ok(expected), "{question}");
     }
 }
 
@@ -160,27 +150,49 @@ fn no_half_letter_of_a_question_is_lit() {
     ] {
         let near = Nearest { position, lit };
         assert_eq!(nearest(book, question), Ok(near), "{question:?}");
-        let rows = [row(Kind::Nearest, 0..question.len())];
-        let mut answers = [Answer::default()];
-        assert_eq!(batch(book, question, &rows, &mut answers), Ok(1));
-        let reply = reply(Kind::Nearest, answers[0]);
-        assert_eq!(reply, Ok(Reply::Nearest(near)), "{question:?}");
+        let mut batch = Batch::<1>::new();
+        batch.push(Kind::Nearest, 0..question.len()).unwrap();
+        let replies: Vec<_> = batch.ask(book, question).unwrap().collect();
+        assert_eq!(replies, [Ok(Reply::Nearest(near))], "{question:?}");
     }
 }
 
 #[test]
 fn a_batch_may_have_no_rows_and_64_rows() {
     let book = book();
-    assert_eq!(batch(&book, &[], &[], &mut []), Ok(0));
-    let rows = [row(Kind::Nearest, 0..1); 64];
-    let mut answers = [Answer::default(); 64];
-    assert_eq!(batch(&book, b"Marina", &rows, &mut answers), Ok(64));
-    for answer in answers {
+    let mut batch: Batch = Batch::new();
+    assert!(batch.is_empty());
+    assert_eq!(batch.ask(&book, &[]).unwrap().next(), None);
+    for _ in 0..64 {
+        batch.push(Kind::Nearest, 0..1).unwrap();
+    }
+    assert_eq!(batch.len(), 64);
+    assert_eq!(batch.push(Kind::Nearest, 0..1), Err(Refusal::BadBatch));
+    let replies = batch.ask(&book, b"Marina").unwrap();
+    assert_eq!(replies.len(), 64);
+    for reply in replies {
         let near = Nearest {
             position: 0,
             lit: 1,
         };
-        assert_eq!(reply(Kind::Nearest, answer), Ok(Reply::Nearest(near)));
+        assert_eq!(reply, Ok(Reply::Nearest(near)));
+    }
+}
+
+#[test]
+fn a_batch_that_is_filled_again_has_the_new_kinds() {
+    let book = book();
+    let mut batch = Batch::<2>::default();
+    for kinds in [[Kind::Range, Kind::Exact], [Kind::Exact, Kind::Width]] {
+        batch.clear();
+        for kind in kinds {
+            batch.push(kind, 0..3).unwrap();
+        }
+        let replies = batch.ask(&book, b"Mar").unwrap();
+        for (reply, kind) in replies.zip(kinds) {
+            assert_eq!(reply, ask(kind, &book, b"Mar"));
+            assert_eq!(reply.unwrap().kind(), kind);
+        }
     }
 }
 
@@ -208,8 +220,6 @@ fn kinds_have_the_numbers_1_to_5() {
     for (kind, number) in kinds.into_iter().zip(1..) {
         assert_eq!(kind.number(), number);
         assert_eq!(Kind::from_number(number), Some(kind));
-        let row = row(kind, 3..7);
-        assert_eq!((row.kind, row.start, row.length), (number, 3, 4));
     }
     assert_eq!(Kind::from_number(0), None);
     assert_eq!(Kind::from_number(6), None);

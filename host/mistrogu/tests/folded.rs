@@ -2,8 +2,8 @@
 //! and spelling comes back unchanged.
 
 use mistrogu::{
-    batch, build, build_folded, check, exact, nearest, place, range, read, reply, row, salvage,
-    width, Answer, BookKind, Checked, Kept, Kind, List, Nearest, Refusal, Reply,
+    build, build_folded, check, exact, nearest, place, range, read, salvage, width, Batch,
+    BookKind, Checked, Kind, List, Nearest, Refusal, Reply, Report,
 };
 
 /// Names in the order of a folded book, in which neighbours share few bytes.
@@ -79,13 +79,13 @@ fn a_batch_folds_as_single_questions_do() {
         ),
         (Kind::Width, 6..10, Reply::Width(13)),
     ];
-    let rows = asked
-        .each_ref()
-        .map(|(kind, span, _)| row(*kind, span.clone()));
-    let mut answers = [Answer::default(); 5];
-    batch(&book, buffer, &rows, &mut answers).unwrap();
-    for ((kind, _, expected), answer) in asked.iter().zip(answers) {
-        assert_eq!(reply(*kind, answer).as_ref(), Ok(expected));
+    let mut batch = Batch::<5>::new();
+    for (kind, span, _) in &asked {
+        batch.push(*kind, span.clone()).unwrap();
+    }
+    let replies = batch.ask(&book, buffer).unwrap();
+    for ((_, _, expected), reply) in asked.into_iter().zip(replies) {
+        assert_eq!(reply, Ok(expected));
     }
 }
 
@@ -155,8 +155,8 @@ fn under_the_other_mark_it_is_no_book_where_it_is_not_that_kind_s() {
 
 #[test]
 fn a_folded_book_can_t_be_salvaged() {
-    let (book, mut room, mut rows) = (book(), [7; 100], [Kept::default()]);
-    let salvaged = salvage(&book, &mut room, &mut rows);
+    let (book, mut room, mut report) = (book(), [7; 100], Report::<1>::new());
+    let salvaged = salvage(&book, &mut room, &mut report);
     assert_eq!(salvaged.err(), Some(Refusal::NoMap));
     assert_eq!(room, [7; 100]);
 }

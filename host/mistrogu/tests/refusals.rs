@@ -2,8 +2,8 @@
 //! changed.
 
 use mistrogu::{
-    batch, build, check, exact, heads, judge, merge, nearest, place, range, read, reply, row,
-    width, Answer, Kind, Refusal, Refused, Row, Which,
+    build, check, exact, heads, judge, merge, nearest, place, range, read, width, Batch, Kind,
+    Refusal, Refused, Which,
 };
 
 const LIST: &[u8] = b"\x03Mar\x06Marina\x0DMarket Square";
@@ -151,61 +151,58 @@ fn a_question_is_refused_with_2_then_1_then_10() {
     assert_eq!(width(&no_names, b"Mar"), Ok(0));
 }
 
+/// Asserts that a batch of so many questions to these bytes is refused so.
+fn batch_refused(book: &[u8], questions: usize, refusal: Refusal) {
+    let mut batch = Batch::<65>::new();
+    for _ in 0..questions {
+        batch.push(Kind::Exact, 0..0).unwrap();
+    }
+    assert_eq!(batch.ask(book, &[]).map(|_| ()), Err(refusal));
+}
+
 #[test]
 fn a_batch_is_refused_with_12_then_2() {
-    let book = book_of(LIST);
-    let unasked = Answer {
-        code: 77,
-        first: 78,
-        second: 79,
-    };
-    let rows = [row(Kind::Exact, 0..0); 65];
-    let mut answers = [unasked; 65];
+    batch_refused(&book_of(LIST), 65, Refusal::BadBatch);
+    batch_refused(&[], 65, Refusal::BadBatch);
+    batch_refused(&[], 64, Refusal::NoBook);
+    batch_refused(&[], 0, Refusal::NoBook);
+}
 
-    let refused = Err(Refusal::BadBatch);
-    assert_eq!(batch(&book, &[], &rows, &mut answers), refused);
-    assert_eq!(batch(&book, &[], &rows[..2], &mut answers[..1]), refused);
-    assert_eq!(batch(&[], &[], &rows[..1], &mut answers[..2]), refused);
-    assert_eq!(
-        batch(&[], &[], &rows[..2], &mut answers[..2]),
-        Err(Refusal::NoBook)
-    );
-    assert_eq!(answers, [unasked; 65]);
+#[test]
+fn a_question_past_the_places_is_refused_with_12_and_the_others_stay() {
+    let mut batch = Batch::<1>::new();
+    assert_eq!(batch.push(Kind::Exact, 0..3), Ok(()));
+    assert_eq!(batch.push(Kind::Exact, 0..3), Err(Refusal::BadBatch));
+    assert_eq!(batch.len(), 1);
+    let mut none = Batch::<0>::new();
+    assert_eq!(none.push(Kind::Exact, 0..3), Err(Refusal::BadBatch));
 }
 
 #[test]
 fn a_row_is_refused_with_11_then_1_then_10_and_the_others_go_on() {
     let no_names = book_of(&[]);
-    let raw = |kind, start, length| Row {
-        kind,
-        start,
-        length,
-    };
     let cases = [
-        (raw(0, 0, 0), Err(11)),
-        (raw(6, 0, 0), Err(11)),
-        (raw(usize::MAX, 0, 0), Err(11)),
-        (raw(4, 0, 202), Err(11)),
-        (raw(1, 202, 0), Err(11)),
-        (raw(1, usize::MAX, 1), Err(11)),
-        (raw(1, 1, usize::MAX), Err(11)),
-        (raw(4, 0, 201), Err(1)),
-        (raw(1, 0, 201), Err(1)),
-        (raw(4, 0, 200), Err(10)),
-        (raw(4, 201, 0), Err(10)),
-        (raw(1, 0, 200), Ok(())),
-        (raw(3, 201, 0), Ok(())),
-        (raw(5, 0, 201), Err(1)),
-        (raw(5, 0, 200), Ok(())),
+        (Kind::Nearest, 0..202, Err(11)),
+        (Kind::Exact, 202..202, Err(11)),
+        (Kind::Exact, usize::MAX - 1..usize::MAX, Err(11)),
+        (Kind::Exact, 1..usize::MAX, Err(11)),
+        (Kind::Nearest, 0..201, Err(1)),
+        (Kind::Exact, 0..201, Err(1)),
+        (Kind::Nearest, 0..200, Err(10)),
+        (Kind::Nearest, 201..201, Err(10)),
+        (Kind::Exact, 0..200, Ok(())),
+        (Kind::Range, 201..201, Ok(())),
+        (Kind::Width, 0..201, Err(1)),
+        (Kind::Width, 0..200, Ok(())),
     ];
-    let rows = cases.map(|(row, _)| row);
-    let mut answers = [Answer::default(); 15];
-    assert_eq!(batch(&no_names, &LONG, &rows, &mut answers), Ok(15));
-    for ((row, expected), answer) in cases.into_iter().zip(answers) {
-        let kind = Kind::from_number(row.kind).unwrap_or(Kind::Exact);
-        let replied = reply(kind, answer).map(|_| ());
-        assert_eq!(replied.map_err(Refusal::number), expected, "{row:?}");
-        assert_eq!((answer.first, answer.second), (0, 0), "{row:?}");
+    let mut batch = Batch::<12>::new();
+    for (kind, span, _) in &cases {
+        batch.push(*kind, span.clone()).unwrap();
+    }
+    let replies = batch.ask(&no_names, &LONG).unwrap();
+    for ((kind, span, expected), reply) in cases.into_iter().zip(replies) {
+        let replied = reply.map(|_| ()).map_err(Refusal::number);
+        assert_eq!(replied, expected, "{kind:?}, {span:?}");
     }
 }
 

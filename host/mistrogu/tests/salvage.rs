@@ -2,16 +2,10 @@
 //! call.
 
 use mistrogu::{
-    blocks_of, build, check, salvage, Block, Kept, List, Refusal, MOST_NAMES, MOST_SALVAGED,
+    blocks_of, build, check, salvage, Block, List, Refusal, Report, MOST_NAMES, MOST_SALVAGED,
 };
 
 const LIST: &[u8] = b"\x03Mar\x06Marina\x0DMarket Square";
-
-/// A row that no call has written.
-const UNTOUCHED: Kept = Kept {
-    kept: 77,
-    names: 78,
-};
 
 /// The book of a list, in blocks of so many.
 fn card_of(list: &[u8], block: usize) -> Vec<u8> {
@@ -34,13 +28,19 @@ fn texts<'a>(names: impl Iterator<Item = &'a [u8]>) -> Vec<&'a str> {
     names.map(text).collect()
 }
 
-/// Asserts which names are left of each block of a card, in a room and rows with
-/// something in them; nothing stands for a block that is dropped.
+/// Asserts which names are left of each block of a card, in a room with something in
+/// it, and a report of another card; nothing stands for a block that is dropped.
 fn assert_left(card: &[u8], expected: &[Option<&[&str]>]) {
     let mut room = [0xAA; 100];
-    let mut rows = vec![UNTOUCHED; expected.len()];
+    let mut report = Report::<5>::new();
+    salvage(
+        &card_of(b"\x01a\x01b\x01c\x01d", 1),
+        &mut [0; 8],
+        &mut report,
+    )
+    .unwrap();
     assert_eq!(blocks_of(card), Some(expected.len()));
-    let salvaged = salvage(card, &mut room, &mut rows).unwrap();
+    let salvaged = salvage(card, &mut room, &mut report).unwrap();
     let blocks: Vec<Option<Vec<&str>>> = salvaged
         .blocks()
         .map(|block| match block {
@@ -136,42 +136,45 @@ fn nodes_are_never_looked_at() {
 #[test]
 fn a_book_is_built_again_from_what_is_left() {
     let card = worn(5, b"\x04");
-    let (mut room, mut rows) = ([0; 100], [UNTOUCHED; 2]);
-    let salvaged = salvage(&card, &mut room, &mut rows).unwrap();
+    let (mut room, mut report) = ([0; 100], Report::<2>::new());
+    let salvaged = salvage(&card, &mut room, &mut report).unwrap();
     let again = card_of(salvaged.records(), 2);
     assert_eq!(again, card_of(b"\x0DMarket Square", 2));
 }
 
 #[test]
-fn the_report_has_the_rows_of_document_02() {
-    let (mut room, mut rows) = ([0; 100], [UNTOUCHED; 2]);
-    salvage(&worn(0, b"\x01"), &mut room, &mut rows).unwrap();
-    let numbers = rows.map(|row| (row.kept, row.names));
-    assert_eq!(numbers, [(0, 0), (1, 1)]);
-    salvage(&worn(10, b"\x01"), &mut room, &mut rows).unwrap();
-    let numbers = rows.map(|row| (row.kept, row.names));
-    assert_eq!(numbers, [(1, 2), (0, 0)]);
+fn the_report_says_what_became_of_each_block() {
+    let (mut room, mut report) = ([0; 100], Report::<2>::new());
+    for (at, expected) in [(0, [None, Some(1)]), (10, [Some(2), None])] {
+        let card = worn(at, b"\x01");
+        let salvaged = salvage(&card, &mut room, &mut report).unwrap();
+        let names = salvaged.blocks().map(|block| match block {
+            Block::Kept(names) => Some(names.len()),
+            Block::Dropped => None,
+        });
+        assert_eq!(names.collect::<Vec<_>>(), expected);
+    }
 }
 
 #[test]
 fn a_card_without_names_has_no_blocks() {
     let card = card_of(&[], 2);
     assert_eq!(blocks_of(&card), Some(0));
-    let salvaged = salvage(&card, &mut [], &mut []).unwrap();
+    let mut report = Report::<0>::new();
+    let salvaged = salvage(&card, &mut [], &mut report).unwrap();
     assert_eq!(salvaged.records(), b"");
     assert_eq!((salvaged.blocks().len(), salvaged.names().len()), (0, 0));
     assert!(salvaged.is_whole());
 }
 
-/// Asserts that a salvage with these rows and this room is refused so, and leaves
-/// both as they were.
-fn assert_refused(card: &[u8], rows: usize, room: usize, refusal: Refusal) {
+/// Asserts that a salvage with so many places and this room is refused so, and leaves
+/// the room as it was.
+fn assert_refused<const PLACES: usize>(card: &[u8], room: usize, refusal: Refusal) {
     let mut room = vec![0xAA; room];
-    let mut rows = vec![UNTOUCHED; rows];
-    let refused = salvage(card, &mut room, &mut rows).map(|_| ());
+    let mut report = Report::<PLACES>::default();
+    let refused = salvage(card, &mut room, &mut report).map(|_| ());
     assert_eq!(refused, Err(refusal), "{card:?}");
     assert!(room.iter().all(|&byte| byte == 0xAA));
-    assert!(rows.iter().all(|&row| row == UNTOUCHED));
 }
 
 #[test]
@@ -196,41 +199,43 @@ fn a_map_without_sense_is_refused_with_13() {
     for (at, bytes, how) in cases {
         eprintln!("{how}");
         let card = worn(at, bytes);
-        for rows in [0, 2, 3] {
-            assert_refused(&card, rows, 100, Refusal::NoMap);
-            assert_refused(&card, rows, 0, Refusal::NoMap);
+        for room in [0, 100] {
+            assert_refused::<0>(&card, room, Refusal::NoMap);
+            assert_refused::<2>(&card, room, Refusal::NoMap);
+            assert_refused::<3>(&card, room, Refusal::NoMap);
         }
     }
     let card = worn(0, &[]);
     for part in [&card[1..], &card[..92], &card[78..], &[]] {
-        assert_refused(part, 2, 100, Refusal::NoMap);
+        assert_refused::<2>(part, 100, Refusal::NoMap);
     }
     let mut entries_without_names = card_of(&[], 2);
     entries_without_names.insert(0, 0);
-    assert_refused(&entries_without_names, 0, 100, Refusal::NoMap);
+    assert_refused::<0>(&entries_without_names, 100, Refusal::NoMap);
 }
 
 #[test]
-fn other_than_as_many_rows_as_blocks_are_refused_with_12() {
+fn fewer_places_than_blocks_are_refused_with_12() {
     let card = worn(0, &[]);
-    for rows in [0, 1, 3, 64, 65] {
-        assert_refused(&card, rows, 100, Refusal::BadBatch);
-        assert_refused(&card, rows, 0, Refusal::BadBatch);
+    for room in [0, 100] {
+        assert_refused::<0>(&card, room, Refusal::BadBatch);
+        assert_refused::<1>(&card, room, Refusal::BadBatch);
     }
-    assert_refused(&card_of(&[], 2), 1, 100, Refusal::BadBatch);
+    assert!(salvage(&card, &mut [0; 25], &mut Report::<3>::new()).is_ok());
+    assert!(salvage(&card, &mut [0; 25], &mut <Report>::new()).is_ok());
 }
 
 #[test]
 fn a_room_too_short_is_refused_with_4() {
     let card = worn(0, &[]);
     for room in [0, 1, 24] {
-        assert_refused(&card, 2, room, Refusal::RoomTooShort);
+        assert_refused::<2>(&card, room, Refusal::RoomTooShort);
     }
-    assert!(salvage(&card, &mut [0; 25], &mut [UNTOUCHED; 2]).is_ok());
+    assert!(salvage(&card, &mut [0; 25], &mut Report::<2>::new()).is_ok());
     // What is dropped takes no room.
     let card = worn(10, b"\x01");
-    assert_refused(&card, 2, 10, Refusal::RoomTooShort);
-    assert!(salvage(&card, &mut [0; 11], &mut [UNTOUCHED; 2]).is_ok());
+    assert_refused::<2>(&card, 10, Refusal::RoomTooShort);
+    assert!(salvage(&card, &mut [0; 11], &mut Report::<2>::new()).is_ok());
 }
 
 #[test]
@@ -292,13 +297,13 @@ fn fullest_card() -> Vec<u8> {
 fn a_room_of_402_000_bytes_is_always_long_enough_and_may_be_needed() {
     let card = fullest_card();
     let mut room = vec![0; MOST_SALVAGED];
-    let mut rows = [UNTOUCHED; 32];
-    let salvaged = salvage(&card, &mut room, &mut rows).unwrap();
+    let mut report = Report::<32>::new();
+    let salvaged = salvage(&card, &mut room, &mut report).unwrap();
     assert_eq!(salvaged.records().len(), 402_000);
     assert_eq!(salvaged.names().len(), MOST_NAMES);
     assert!(salvaged.names().all(|name| name.len() == 200));
     assert!(salvaged.is_whole());
-    assert_refused(&card, 32, MOST_SALVAGED - 1, Refusal::RoomTooShort);
+    assert_refused::<32>(&card, MOST_SALVAGED - 1, Refusal::RoomTooShort);
 }
 
 #[test]
@@ -308,8 +313,8 @@ fn damage_inside_of_one_block_changes_no_other() {
         .collect();
     let card = card_of(&stops, 5);
     let whole = |card: &[u8]| {
-        let (mut room, mut rows) = ([0; 500], [UNTOUCHED; 8]);
-        let salvaged = salvage(card, &mut room, &mut rows).unwrap();
+        let (mut room, mut report) = ([0; 500], Report::<8>::new());
+        let salvaged = salvage(card, &mut room, &mut report).unwrap();
         let blocks = salvaged.blocks().map(|block| match block {
             Block::Kept(names) => Some(names.map(<[u8]>::to_vec).collect::<Vec<_>>()),
             Block::Dropped => None,

@@ -6,7 +6,7 @@ use crate::lines::Lines;
 use crate::loss::{self, Block};
 use crate::outcome::{Failure, Outcome, Status, Streams};
 use crate::{book, files, help, Command};
-use mistrogu::{BookKind, Kept, Refusal, Salvaged, MOST_SALVAGED};
+use mistrogu::{BookKind, Refusal, Report, Salvaged, MOST_SALVAGED};
 use std::ffi::OsStr;
 
 /// The command.
@@ -31,8 +31,8 @@ fn run(words: &Words, streams: &mut Streams) -> Outcome {
     let source = files::input_name(input);
     let data = book::read(input)?;
     let mut room = vec![0; MOST_SALVAGED];
-    let mut rows = vec![Kept::default(); mistrogu::blocks_of(&data).unwrap_or(0)];
-    let salvaged = mistrogu::salvage(&data, &mut room, &mut rows).map_err(|refusal| {
+    let mut report: Report = Report::new();
+    let salvaged = mistrogu::salvage(&data, &mut room, &mut report).map_err(|refusal| {
         let why = why_not(&data, refusal);
         Failure::refused(format!("{source} cannot be salvaged: {why}"))
     })?;

@@ -1,8 +1,8 @@
 //! Questions and what they get.
 
 use crate::outcome::Status;
-use mistrogu::{batch, exact, nearest, place, range, reply, row, width};
-use mistrogu::{Answer, Kind, Refusal, Reply};
+use mistrogu::{exact, nearest, place, range, width};
+use mistrogu::{Batch, Kind, Refusal, Reply};
 
 /// The kinds, for messages.
 pub const KINDS: &str = "exact, place, range, nearest or width";
@@ -34,18 +34,13 @@ pub fn ask_batch(
     questions: &[Question],
 ) -> Result<Vec<Result<Reply, Refusal>>, Refusal> {
     let mut buffer = Vec::new();
-    let mut rows = Vec::new();
+    let mut batch: Batch = Batch::new();
     for question in questions {
         let start = buffer.len();
         buffer.extend_from_slice(&question.text);
-        rows.push(row(question.kind, start..buffer.len()));
+        batch.push(question.kind, start..buffer.len())?;
     }
-    let mut answers = vec![Answer::default(); rows.len()];
-    batch(book, &buffer, &rows, &mut answers)?;
-    let both = questions.iter().zip(answers);
-    Ok(both
-        .map(|(question, answer)| reply(question.kind, answer))
-        .collect())
+    Ok(batch.ask(book, &buffer)?.collect())
 }
 
 /// Whether a reply says yes. A place and a nearest name there always are.
