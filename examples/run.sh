@@ -1,29 +1,37 @@
 #!/usr/bin/env bash
 # Compiles the example in C, links it with the proved library and runs it; then, where there is a C++ compiler, the one in C++.
 #
-#   examples/run.sh [ARCHIVE]        without ARCHIVE: what `rt staticlib book` writes, made anew
+#   examples/run.sh [ARCHIVE]        without ARCHIVE: what `rt staticlib book` writes, made again only where sources changed
 #
 # Each failure ends it with status 1. The library is for x86-64, and there the system's compilers are used (CC and CXX, else cc and
 # c++). Elsewhere the system's compiler only puts in what the example includes; the kit's compiles it for x86-64, and the kit's emulator
 # runs it with the kit's C library. With MISTROGU_KIT=1 that way is taken on x86-64, too, without the emulator. The example in C++ is linked
 # with an archive for the machine at hand, which MISTROGU_ARCHIVE names elsewhere; without one it is compiled alone.
 set -eu
-archive=${1:+$(realpath "$1")}
-cd "$(dirname "$0")/.."
-if [ -z "$archive" ]; then
-    rt staticlib book >&2
-    archive=target/staticlib/libbook.a
-fi
-
-machine=$(uname -m)
-strict=(-std=c99 -pedantic -Wall -Wextra -Werror)
-work=$(mktemp -d)
-trap 'rm -rf "$work"' EXIT
 
 fail() {
     echo "examples: $1" >&2
     exit 1
 }
+
+case ${1:-} in
+-h | --help)
+    sed -n '2,/^set /{/^set /d;s/^# \{0,1\}//p;}' "$0"
+    exit
+    ;;
+-*) fail "$1 is no option; --help has the rest" ;;
+esac
+[ $# -le 1 ] || fail "give one archive, or none; --help has the rest"
+[ -z "${1:-}" ] || [ -f "$1" ] || fail "$1 is not there"
+archive=${1:+$(realpath "$1")}
+cd "$(dirname "$0")/.."
+command -v "${CC:-cc}" >/dev/null || fail "${CC:-cc}, the C compiler, is missing"
+[ -n "$archive" ] || archive=$(host/archive.sh --product)
+
+machine=$(uname -m)
+strict=(-std=c99 -pedantic -Wall -Wextra -Werror)
+work=$(mktemp -d)
+trap 'rm -rf "$work"' EXIT
 
 with_the_system() {
     "${CC:-cc}" "${strict[@]}" -Iinclude examples/stops.c "$archive" -o "$work/stops" || fail "stops.c could not be compiled"
@@ -33,6 +41,7 @@ with_the_system() {
 # Both compilers have to read the same headers: GNU C 4 is what the kit's says it is.
 with_the_kit() {
     local kit tools emulator
+    command -v rt >/dev/null || fail "rt, the program of the Rattle kit, is missing, and the kit compiles the example here"
     kit=$(dirname "$(dirname "$(rt doc)")")
     tools=$kit/on/$machine/toolchain
     emulator=$tools/bin/qemu-x86_64

@@ -1,21 +1,88 @@
 #!/usr/bin/env bash
 # Makes the archive of the proved library for the machine at hand and prints its path, alone on standard output.
 #
-#   MISTROGU_ARCHIVE=$(host/archive.sh) cargo run --release -p difftest
+#   export MISTROGU_ARCHIVE=$(host/archive.sh)
+#
+#   --product   the product itself, which is for x86-64, on any machine
+#   --anew      make it even where it is there already, of the same sources
 #
 # On x86-64 it is what `rt staticlib` writes: the product itself. The prover compiles for no other processor, so elsewhere the LLVM
 # module that it hands to its compiler is kept on the way and compiled anew for this machine. That archive is for tests and benchmarks
 # only. With MISTROGU_NATIVE=1 the second way is taken on x86-64, too; with MISTROGU_TARGET, such as aarch64-unknown-linux-gnu, it is
-# compiled for that processor.
+# compiled for that processor. Either way the product is there, too.
+#
+# It is made again only where what it is made from has changed: crates.txt, the crates' src, specs and proofs, the kit, and for the second
+# way this script, native.c and the processor. A sum of these, and of the archive itself, is kept beside it. What the prover says goes to
+# target/archive.log; on the screen there is one line, on standard error.
 set -eu
 cd "$(dirname "$0")/.."
 root=$(pwd -P)
 library=book
 machine=$(uname -m)
+product=$root/target/staticlib/lib$library.a
+native=$root/target/native/lib$library.a
+log=$root/target/archive.log
 
-if [ "$machine" = x86_64 ] && [ "${MISTROGU_NATIVE:-0}" != 1 ]; then
-    rt staticlib "$library" >&2
-    echo "$root/target/staticlib/lib$library.a"
+say() {
+    echo "archive.sh: $1" >&2
+}
+
+archive=$native
+if [ "$machine" = x86_64 ] && [ "${MISTROGU_NATIVE:-0}" != 1 ]; then archive=$product; fi
+anew=0
+for word in "$@"; do
+    case $word in
+    --product) archive=$product ;;
+    --anew) anew=1 ;;
+    -h | --help)
+        sed -n '2,/^set /{/^set /d;s/^# \{0,1\}//p;}' "host/$(basename "$0")"
+        exit
+        ;;
+    *)
+        say "$word is no option; --help has all"
+        exit 2
+        ;;
+    esac
+done
+command -v rt >/dev/null || { say "rt, the program of the Rattle kit, is missing, and makes the archive"; exit 1; }
+target=${MISTROGU_TARGET:-$machine-unknown-linux-gnu}
+
+# The sums of what the product, and what the other archive, are made from.
+of_product=$({
+    rt version
+    find crates.txt crates/*/src crates/*/specs crates/*/proofs -type f -print0 | LC_ALL=C sort -z | xargs -0 sha256sum
+} | sha256sum)
+of_native=$({ echo "$of_product $target" && sha256sum host/archive.sh host/native.c; } | sha256sum)
+
+# Notes beside the archive $1 that it was made from the sources with the sum $2, and what it is.
+note() {
+    { echo "$2" && sha256sum <"$1"; } >"$1.sum"
+}
+
+# Whether the archive $1 is there, as it was made from the sources with the sum $2.
+is_made() {
+    [ -f "$1" ] && [ -f "$1.sum" ] && [ "$(cat "$1.sum")" = "$(echo "$2" && sha256sum <"$1")" ]
+}
+
+if [ "$anew" = 0 ] && is_made "$product" "$of_product" && { [ "$archive" = "$product" ] || is_made "$native" "$of_native"; }; then
+    say "${archive#"$root/"} is there already, of these sources"
+    echo "$archive"
+    exit
+fi
+
+# Has the product proved and compiled, by the kit $1 or, without it, by the one that is installed. All that is said on the way is in the log.
+make_product() {
+    local kit=${1:-}
+    say "the library is proved and compiled, which can take minutes; target/archive.log has what the prover says"
+    mkdir -p target
+    ${kit:+env RATTLE_HOME="$kit"} rt staticlib "$library" >"$log" 2>&1 || { say "the library was not made: target/archive.log says why"; exit 1; }
+    [ -f "$product" ] || { say "the prover wrote no ${product#"$root/"}: target/archive.log may say why"; exit 1; }
+    note "$product" "$of_product"
+}
+
+if [ "$archive" = "$product" ]; then
+    make_product
+    echo "$product"
     exit
 fi
 
@@ -46,23 +113,22 @@ done
 exec "$tools/bin/clang" "\$@"
 END
 chmod +x "$own/toolchain/bin/clang"
-RATTLE_HOME=$work/kit rt staticlib "$library" >&2
-[ -f "$work/module.bc" ] || { echo "archive.sh: the prover handed no module to its compiler" >&2; exit 1; }
+make_product "$work/kit"
+[ -f "$work/module.bc" ] || { say "the prover handed no module to its compiler"; exit 1; }
 
 # The module as text, without the words on x86-64; the compiler puts in those of its target. The calls get other names there, and
 # native.c has them as this processor's C sees them. Inner functions have the name of their crate and :: in theirs, and keep it; a call that
 # native.c does not have is missed when it is linked.
 clang=$tools/bin/clang
-target=${MISTROGU_TARGET:-$machine-unknown-linux-gnu}
 "$clang" --target=x86_64-unknown-linux-gnu -S -emit-llvm -Xclang -disable-llvm-passes -x ir "$work/module.bc" -o "$work/module.ll"
 sed -i -e '/^target datalayout = /d' -e '/^target triple = /d' -e 's/@\(book\|list\)_/@written_\1_/g' \
     -e 's/ *"\(target-cpu\|target-features\|tune-cpu\)"="[^"]*"//g' "$work/module.ll"
-native=(--target="$target" -O3 -fPIC -ffunction-sections -fdata-sections -c)
-"$clang" "${native[@]}" -Wno-override-module -x ir "$work/module.ll" -o "$work/$library.o"
-"$clang" "${native[@]}" -std=c99 -Wall -Wextra -Werror host/native.c -o "$work/calls.o"
+flags=(--target="$target" -O3 -fPIC -ffunction-sections -fdata-sections -c)
+"$clang" "${flags[@]}" -Wno-override-module -x ir "$work/module.ll" -o "$work/$library.o"
+"$clang" "${flags[@]}" -std=c99 -Wall -Wextra -Werror host/native.c -o "$work/calls.o"
 
-mkdir -p "$root/target/native"
-archive=$root/target/native/lib$library.a
-rm -f "$archive"
-"$tools/bin/llvm-ar" rcs "$archive" "$work/$library.o" "$work/calls.o"
-echo "$archive"
+mkdir -p "$(dirname "$native")"
+rm -f "$native"
+"$tools/bin/llvm-ar" rcs "$native" "$work/$library.o" "$work/calls.o"
+note "$native" "$of_native"
+echo "$native"

@@ -17,13 +17,29 @@
 # else in the repository knows of them. Where one is not there, the page says so. Merging stands beside `sort -mu`, on lines of the same
 # names.
 #
-# The archive is the one that MISTROGU_ARCHIVE names, or a new one from archive.sh.
+# The archive is the one that MISTROGU_ARCHIVE names, or archive.sh's.
 set -eu
-[ $# -eq 1 ] || { sed -n '2,/^set /s/^# \{0,1\}//p' "$0" >&2; exit 2; }
+usage() {
+    sed -n '2,/^set /{/^set /d;s/^# \{0,1\}//p;}' "$0"
+}
+fail() {
+    echo "benchmark.sh: $1" >&2
+    exit "${2:-1}"
+}
+case ${1:-} in
+-h | --help) usage && exit ;;
+-*) fail "$1 is no option; --help has the rest" 2 ;;
+esac
+[ $# -eq 1 ] || { usage >&2; exit 2; }
 folder=$1
+mkdir -p "$folder" 2>/dev/null || fail "$folder can't be made a folder"
+[ -w "$folder" ] || fail "$folder can't be written to"
 
 host=$(cd "$(dirname "$0")" && pwd -P)
-command -v valgrind >/dev/null || { echo "benchmark.sh: valgrind is not installed" >&2; exit 1; }
+for needed in cargo valgrind; do
+    command -v "$needed" >/dev/null || fail "$needed is missing"
+done
+[ -n "${MISTROGU_ARCHIVE:-}" ] || command -v rt >/dev/null || fail "rt, the program of the Rattle kit, is missing, and MISTROGU_ARCHIVE names no archive"
 archive=${MISTROGU_ARCHIVE:-$("$host/archive.sh")}
 MISTROGU_ARCHIVE=$archive cargo build --quiet --release --offline --manifest-path "$host/Cargo.toml" -p compare --features library
 

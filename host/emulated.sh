@@ -9,18 +9,19 @@
 #   host/emulated.sh merge|judge FIRST SECOND            of list_merge, list_judge on these two lists
 #   host/emulated.sh questions BOOKFILE                  of 100 questions to that book, in each of the five kinds, less those of its check
 #
-# Needs Debian's qemu-user and gcc-x86-64-linux-gnu. The archive is the one that MISTROGU_PRODUCT names, or what `rt staticlib` writes. The
+# Needs Debian's qemu-user and gcc-x86-64-linux-gnu. The archive is the one that MISTROGU_PRODUCT names, or archive.sh's. The
 # instructions between two marks that have nothing between them are taken off.
 set -eu
-[ $# -ge 2 ] || { sed -n '2,/^set /s/^# \{0,1\}//p' "$0" >&2; exit 2; }
+usage() {
+    sed -n '2,/^set /{/^set /d;s/^# \{0,1\}//p;}' "$0"
+}
+case ${1:-} in -h | --help) usage && exit ;; esac
+[ $# -ge 2 ] || { usage >&2; exit 2; }
 host=$(cd "$(dirname "$0")" && pwd -P)
 for needed in qemu-x86_64 x86_64-linux-gnu-gcc; do
     command -v "$needed" >/dev/null || { echo "emulated.sh: $needed is missing" >&2; exit 1; }
 done
-if [ -z "${MISTROGU_PRODUCT:-}" ]; then
-    (cd "$host/.." && rt staticlib book >&2)
-    MISTROGU_PRODUCT=$host/../target/staticlib/libbook.a
-fi
+MISTROGU_PRODUCT=${MISTROGU_PRODUCT:-$("$host/archive.sh" --product)}
 
 work=$(mktemp -d)
 trap 'rm -rf "$work"' EXIT

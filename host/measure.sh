@@ -25,7 +25,7 @@
 # writes, a damaged block is broken in its last entry, so all of it is gone through before it is dropped. `fold` writes NAME-folded.list and
 # NAME-folded.book, with the names as they are spelt, and NAME-turns.list and NAME-turns.book, in small letters and capitals by turns, so that
 # neighbours share no byte. Every call that takes a book takes either kind. The words go to the program `bench`.
-# The archive is the one that MISTROGU_ARCHIVE names, or a new one from archive.sh; reference.sh and small.sh make
+# The archive is the one that MISTROGU_ARCHIVE names, or archive.sh's; reference.sh and small.sh make
 # others, to measure in the same way.
 #
 # `questions` makes 100 questions from the book's names, the same ones each time: 20 names, 20 beginnings, 20 extensions, 20 that miss a
@@ -39,8 +39,12 @@
 #
 # `growth` prints a table. Beside each number stands how many times the one before it is; of place the check is taken off.
 set -eu
-[ $# -ge 1 ] || { sed -n '2,/^set /s/^# \{0,1\}//p' "$0" >&2; exit 2; }
+usage() {
+    sed -n '2,/^set /{/^set /d;s/^# \{0,1\}//p;}' "$0"
+}
+[ $# -ge 1 ] || { usage >&2; exit 2; }
 case $1 in
+-h | --help) usage && exit ;;
 merge | judge) call=list_$1 ;;
 step) call=list_head ;;
 *) call=book_$1 ;;

@@ -6,6 +6,12 @@
 #
 # For measuring alone: it is not proved, and not for use.
 set -eu
+case ${1:-} in
+-h | --help)
+    sed -n '2,/^set /{/^set /d;s/^# \{0,1\}//p;}' "$0"
+    exit
+    ;;
+esac
 cd "$(dirname "$0")"
 folder=${CARGO_TARGET_DIR:-$PWD/target}/reference
 mkdir -p "$folder"

@@ -4,9 +4,15 @@
 #
 #   MISTROGU_ARCHIVE=$(host/small.sh) host/measure.sh check BOOKFILE
 #
-# The code is that of the archive which MISTROGU_ARCHIVE names, or of a new one from archive.sh; only its calls of memcpy and memset go
+# The code is that of the archive which MISTROGU_ARCHIVE names, or of archive.sh's; only its calls of memcpy and memset go
 # to small.c. For measuring alone.
 set -eu
+case ${1:-} in
+-h | --help)
+    sed -n '2,/^set /{/^set /d;s/^# \{0,1\}//p;}' "$0"
+    exit
+    ;;
+esac
 host=$(cd "$(dirname "$0")" && pwd -P)
 archive=${MISTROGU_ARCHIVE:-$("$host/archive.sh")}
 folder=${CARGO_TARGET_DIR:-$host/target}/small

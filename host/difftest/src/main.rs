@@ -7,8 +7,8 @@
 //! and with each other, those of blocks apart what it salvages of two worn books
 //! that differ in one block, and those of small letters what it answers of a folded
 //! book with what it answers of the plain one of its names in small letters. The seed is printed first; the same seed gives
-//! the same cases. A difference is printed with the whole case, and the exit
-//! status is then 1.
+//! the same cases. While it runs it says how far it is, and at the end it prints a
+//! table. A difference is printed with the whole case, and the exit status is then 1.
 //!
 //! The proved library is called on exactly as much stack as its header says is
 //! enough, and all that is lent to it has a fence before or behind it. Where it
@@ -30,16 +30,18 @@ mod laws;
 mod lent;
 mod merging;
 mod neighbours;
+mod progress;
 mod reading;
 mod records;
 mod salvaging;
 mod shapes;
 mod tally;
 
+use progress::Progress;
 use std::env;
 use std::process::ExitCode;
 use std::time::{Duration, Instant, SystemTime, UNIX_EPOCH};
-use tally::Tally;
+use tally::{grouped, Tally};
 use vectors::random::Random;
 
 const USAGE: &str = "difftest [--seconds N | --cases N] [--seed S] [--say]";
@@ -175,7 +177,7 @@ fn main() -> ExitCode {
     println!("seed {}", asked.seed);
     match run(&asked) {
         Ok(figures) => {
-            println!("{figures}");
+            print!("{figures}");
             ExitCode::SUCCESS
         }
         Err(difference) => {
@@ -191,18 +193,28 @@ fn main() -> ExitCode {
 fn run(asked: &Asked) -> Result<String, String> {
     let began = Instant::now();
     let mut tally = Tally::new(&KINDS);
+    let mut progress = Progress::new();
     while !asked.until.is_reached(tally.cases(), began.elapsed()) {
         let own_seed = asked.seed.wrapping_add(tally.cases());
         let mut random = Random::from_seed(own_seed);
         let kind = random.below(KINDS.len());
         if asked.say {
             println!("{}, alone with {}", KINDS[kind].name, words_for(own_seed));
+        } else {
+            progress.tell(&asked.until, tally.cases(), began.elapsed());
         }
-        let code = (KINDS[kind].run)(&mut random)
-            .map_err(|case| difference(KINDS[kind].name, own_seed, &case))?;
+        let code = (KINDS[kind].run)(&mut random).map_err(|case| {
+            progress.end();
+            difference(KINDS[kind].name, own_seed, &case)
+        })?;
         tally.count(kind, code);
     }
-    Ok(tally.figures(began.elapsed()))
+    progress.end();
+    let (cases, seconds) = (grouped(tally.cases()), began.elapsed().as_secs_f64());
+    let table = tally.table();
+    Ok(format!(
+        "{cases} cases in {seconds:.1} seconds, no difference\n{table}"
+    ))
 }
 
 /// The words that run the case with this seed alone.

@@ -1,0 +1,174 @@
+#!/usr/bin/env bash
+# Tries the scripts without a proof: a stub stands for the prover, and notes what it is asked.
+#
+#   host/scripts.sh
+#
+# An archive is made again only where its sources changed, with one line on the screen; every script knows --help, looks at its words before
+# it has anything proved, and says in one sentence what is missing. Where that is not so, the exit status is 1. It takes some seconds.
+set -eu
+case ${1:-} in
+-h | --help)
+    sed -n '2,/^set /{/^set /d;s/^# \{0,1\}//p;}' "$0"
+    exit
+    ;;
+esac
+cd "$(dirname "$0")/.."
+unset MISTROGU_ARCHIVE MISTROGU_PRODUCT MISTROGU_NATIVE MISTROGU_TARGET RATTLE_HOME
+
+work=$(mktemp -d)
+trap 'rm -rf "$work"' EXIT
+clone=$work/mistrogu
+asked=$work/asked
+
+fail() {
+    echo "scripts.sh: $1" >&2
+    [ ! -s "$work/err" ] || sed 's/^/    /' "$work/err" >&2
+    exit 1
+}
+
+# The files of the repository as they are now, without what was made from them.
+mkdir "$clone"
+git ls-files -z --cached --others --exclude-standard | while IFS= read -r -d '' file; do
+    [ ! -f "$file" ] || printf '%s\0' "$file"
+done | tar --null -cf - -T - | tar -xf - -C "$clone"
+
+# The stub: a kit whose compiler writes anything, and a prover that hands it a module.
+machine=$(uname -m)
+tools=$work/kit/on/$machine/toolchain
+mkdir -p "$tools/bin" "$tools/lib" "$work/kit/doc" "$work/stub"
+cat >"$tools/bin/clang" <<'END'
+#!/bin/sh
+while [ $# -gt 0 ]; do
+    [ "$1" != -o ] || echo "$RANDOM compiled" >"$2"
+    shift
+done
+END
+cat >"$tools/bin/llvm-ar" <<'END'
+#!/bin/sh
+cat "$3" "$4" >"$2"
+END
+cat >"$work/stub/rt" <<END
+#!/bin/sh
+echo "\$*" >>"$asked"
+case \$1 in
+version) echo "a stub of the kit" ;;
+doc) echo "$work/kit/doc/index" ;;
+staticlib)
+    echo "a long log"
+    [ ! -f "$work/broken" ] || exit 1
+    mkdir -p target/staticlib
+    cat crates/book/src/*.rt >target/staticlib/libbook.a
+    home=\${RATTLE_HOME:-$work/kit}
+    echo module >"$work/book.bc"
+    "\$home/on/$machine/toolchain/bin/clang" "$work/book.bc" -o "$work/book.o"
+    ;;
+*) echo "rt: the stub proves nothing" && exit 1 ;;
+esac
+END
+chmod +x "$tools/bin/clang" "$tools/bin/llvm-ar" "$work/stub/rt"
+
+# All other commands, without the prover.
+mkdir "$work/without"
+for folder in ${PATH//:/ }; do
+    ln -s "$folder"/* "$work/without/" 2>/dev/null || true
+done
+rm -f "$work/without/rt"
+without=$work/without
+with=$work/stub:$without
+
+# Runs a script of the clone with the words behind it, and commands from the folders $1: out and err have what it prints, and status how it ends.
+try() {
+    local path=$1
+    shift
+    : >"$asked"
+    status=0
+    (cd "$clone" && PATH=$path "$@") >"$work/out" 2>"$work/err" || status=$?
+}
+
+# How often the prover was asked to make the archive.
+times_made() {
+    grep -c '^staticlib' "$asked" || true
+}
+
+# After a try: that it gave this path, with one line on the screen, and made the archive so many times.
+gave() {
+    [ "$status" = 0 ] || fail "archive.sh ended with $status, $3"
+    [ "$(cat "$work/out")" = "$clone/$1" ] || fail "archive.sh did not print the path alone, $3"
+    [ "$(wc -l <"$work/err")" = 1 ] || fail "archive.sh did not say one line, $3"
+    [ "$(times_made)" = "$2" ] || fail "archive.sh had the archive made $(times_made) times and not $2, $3"
+    [ -f "$clone/$1" ] || fail "archive.sh made nothing, $3"
+}
+
+product=target/staticlib/libbook.a
+native=target/native/libbook.a
+for way in --product native; do
+    words=(--product) path=$product
+    [ "$way" = --product ] || { words=() path=$native && export MISTROGU_NATIVE=1; }
+    rm -rf "$clone/target"
+    try "$with" host/archive.sh "${words[@]}" && gave "$path" 1 "where there was none"
+    grep -q 'a long log' "$clone/target/archive.log" || fail "the prover's log is not in target/archive.log"
+    try "$with" host/archive.sh "${words[@]}" && gave "$path" 0 "where nothing changed"
+    touch "$clone"/crates/*/src/*.rt
+    try "$with" host/archive.sh "${words[@]}" && gave "$path" 0 "where only times changed"
+    try "$with" host/archive.sh "${words[@]}" --anew && gave "$path" 1 "where it was asked for"
+    for file in crates.txt crates/book/src/lib.rt crates/book/proofs/new.antt crates/format/specs/new.antt; do
+        echo >>"$clone/$file"
+        try "$with" host/archive.sh "${words[@]}" && gave "$path" 1 "where $file changed"
+    done
+    rm "$clone/crates/book/proofs/new.antt"
+    try "$with" host/archive.sh "${words[@]}" && gave "$path" 1 "where a file went"
+    sed -i 's/a stub of/another stub of/' "$work/stub/rt"
+    try "$with" host/archive.sh "${words[@]}" && gave "$path" 1 "where the kit changed"
+    sed -i 's/another stub of/a stub of/' "$work/stub/rt"
+    try "$with" host/archive.sh "${words[@]}" && gave "$path" 1 "where the kit changed back"
+    echo >>"$clone/$product"
+    try "$with" host/archive.sh "${words[@]}" && gave "$path" 1 "where somebody changed the archive"
+    rm "$clone/$path"
+    try "$with" host/archive.sh "${words[@]}" && gave "$path" 1 "where somebody took it away"
+done
+try "$with" host/archive.sh --product && gave "$product" 0 "where the other way left the product"
+export MISTROGU_TARGET=other-unknown-linux-gnu
+try "$with" host/archive.sh && gave "$native" 1 "for another processor"
+unset MISTROGU_NATIVE MISTROGU_TARGET
+
+# That a try ended with the status $1 and a sentence that has the word $2, and that the prover was asked for no proof.
+said() {
+    [ "$status" = "$1" ] || fail "it ended with $status and not $1, $3"
+    [ "$(wc -l <"$work/err")" = 1 ] || fail "it did not say one sentence, $3"
+    grep -qF -e "$2" "$work/err" || fail "it did not speak of $2, $3"
+    if grep -qvE '^(version|doc)$' "$asked"; then fail "the prover was asked, $3"; fi
+}
+
+touch "$work/broken"
+rm -rf "$clone/target"
+try "$with" host/archive.sh --product
+[ "$status" = 1 ] && [ ! -s "$work/out" ] && grep -q 'archive.log says why' "$work/err" || fail "archive.sh does not say that nothing was made"
+rm "$work/broken"
+
+for script in demo fuzz test examples/run.sh host/*.sh; do
+    [ "$script" != host/scripts.sh ] || continue
+    try "$without" "./$script" --help
+    [ "$status" = 0 ] && [ ! -s "$work/err" ] && [ "$(wc -l <"$work/out")" -gt 2 ] || fail "$script --help has no help"
+    if grep -q '^set \|^#' "$work/out"; then fail "$script --help shows its code"; fi
+done
+
+try "$without" host/archive.sh && said 1 "rt, " "archive.sh without the prover"
+try "$without" ./demo && said 1 "rt, " "demo without the prover"
+try "$without" ./test && said 2 "rt is missing" "test without the prover"
+try "$without" ./fuzz 1 && said 1 "rt, " "fuzz without the prover"
+try "$without" examples/run.sh && said 1 "rt, " "examples/run.sh without the prover"
+if command -v valgrind >/dev/null; then
+    try "$without" host/benchmark.sh "$work/figures" && said 1 "rt, " "benchmark.sh without the prover"
+fi
+try "$with" host/archive.sh --prodcut && said 2 "--prodcut" "archive.sh with a slip"
+try "$with" ./demo no-such.txt && said 1 "no-such.txt" "demo without its text"
+try "$with" ./demo --fast && said 2 "--fast" "demo with an option"
+try "$with" ./demo sample/stops.txt again && said 2 "one text" "demo with two texts"
+try "$with" ./fuzz soon && said 2 "soon" "fuzz with a word"
+try "$with" ./fuzz 1 2 3 && said 2 "third" "fuzz with three numbers"
+try "$with" ./test fast && said 2 "no words" "test with a word"
+try "$with" examples/run.sh no-such.a && said 1 "no-such.a" "examples/run.sh without its archive"
+try "$with" examples/run.sh --fast && said 1 "--fast" "examples/run.sh with an option"
+try "$with" host/benchmark.sh README.md && said 1 "README.md" "benchmark.sh with a file for a folder"
+try "$with" host/benchmark.sh --fast && said 2 "--fast" "benchmark.sh with an option"
+echo "scripts.sh: all scripts do as they say"
