@@ -1,10 +1,14 @@
 #!/usr/bin/env bash
-# Holds README.md to what it shows: every sample in C compiles as a file by itself, and runs.
+# Holds README.md to what it shows: its commands run as they stand there, from the top folder of a fresh copy of the repository, and write
+# nothing that git does not ignore; every sample in C compiles as a file by itself, and runs.
 #
 #   host/readme.sh [ARCHIVE]
 #
 # ARCHIVE is the proved library for this machine, as archive.sh makes it; without it the one that MISTROGU_ARCHIVE names. Where there is
-# neither, the samples are compiled and not run. Nothing is proved here. Where something fails, one sentence says what, and the exit status is 1.
+# neither, commands are only looked at, and samples compiled and not run. Nothing is proved here: a stub stands for the prover, which looks
+# whether a crate is there, and commands that take long, or need what only the prover makes, have to be there and know --help. (The samples in Rust
+# are tried by the tests of host/mistrogu.) It takes under half a minute. Where something fails, one sentence says what, and the exit
+# status is 1.
 set -eu
 case ${1:-} in
 -h | --help)
@@ -16,9 +20,16 @@ esac
 archive=${1:-${MISTROGU_ARCHIVE:-}}
 [ -z "$archive" ] || archive=$(realpath -e "$archive")
 cd "$(dirname "$0")/.."
+unset MISTROGU_ARCHIVE MISTROGU_PRODUCT MISTROGU_NATIVE MISTROGU_TARGET RATTLE_HOME CARGO_TARGET_DIR
 
 work=$(mktemp -d)
 trap 'rm -rf "$work"' EXIT
+clone=$work/mistrogu
+# shellcheck source=host/stub.sh
+. host/stub.sh
+copy_files "$clone"
+make_kit "$work/kit" "$archive"
+cd "$clone"
 
 fail() {
     echo "readme.sh: $1" >&2
@@ -32,6 +43,63 @@ blocks() {
         $0 == "```" { inside = 0 }
         inside { print > file }' README.md
 }
+
+# Blocks have to be marked, or nobody would look at them.
+awk '/^```/ { inside = !inside; if (inside && $0 == "```") bad = 1 } !inside && /^    [^ ]/ { bad = 1 } END { exit bad }' README.md ||
+    fail "README.md has a block that is not marked as sh, c, rust or toml"
+
+# Whether a command is only looked at.
+takes_long() {
+    case $1 in
+    ./demo* | ./test* | ./fuzz* | examples/run.sh* | host/benchmark.sh* | 'cargo test'*) return 0 ;;
+    *target/bin/*) return 0 ;;
+    *) return 1 ;;
+    esac
+}
+
+# Looks whether a command is there. A program of the prover's is one of the crates.
+look_at() {
+    local word=${1%% *} program
+    case $1 in
+    *target/bin/*)
+        program=${1##*target/bin/}
+        grep -q "^${program%% *}:" crates.txt
+        ;;
+    ./* | */*.sh*) "$word" --help >"$work/help" 2>&1 && [ -s "$work/help" ] ;;
+    *) command -v "$word" >/dev/null ;;
+    esac
+}
+
+# The commands: those that are run, one after the other in one shell, say in the log what they are.
+blocks sh "$work/block" .sh
+[ -f "$work/block.1.sh" ] || fail "README.md has no commands"
+{
+    echo 'set -eu'
+    for number in $(seq "$(find "$work" -name 'block.*.sh' | wc -l)"); do
+        bash -n "$work/block.$number.sh" || fail "block $number of commands is no shell"
+        cat "$work/block.$number.sh"
+    done
+} | sed -e 's/  *#.*$//' -e '/^$/d' >"$work/commands"
+run=0
+looked=0
+while IFS= read -r command; do
+    if takes_long "$command"; then
+        looked=$((looked + 1))
+        look_at "$command" || fail "README.md has the command $command, which is not there or has no --help"
+    elif [ "$command" = 'set -eu' ] || [ -n "$archive" ]; then
+        [ "$command" = 'set -eu' ] || run=$((run + 1))
+        printf 'echo %q\n%s\n' "\$ $command" "$command"
+    fi
+done <"$work/commands" >"$work/walk"
+git init --quiet .
+git add --all
+PATH=$work/kit/bin:$PATH bash "$work/walk" >"$work/log" 2>&1 || {
+    cat "$work/log" >&2
+    fail "the last of these commands of README.md failed"
+}
+left=$(git status --porcelain | grep -v '^A  ' || true)
+[ -z "$left" ] || fail "README.md's commands write what git does not ignore: $left"
+echo "README.md: $run commands run, $looked looked at"
 
 # The samples in C.
 blocks c "$work/sample" .c

@@ -18,7 +18,7 @@ unset MISTROGU_ARCHIVE MISTROGU_PRODUCT MISTROGU_NATIVE MISTROGU_TARGET RATTLE_H
 work=$(mktemp -d)
 trap 'rm -rf "$work"' EXIT
 clone=$work/mistrogu
-asked=$work/asked
+asked=$work/kit/asked
 
 fail() {
     echo "scripts.sh: $1" >&2
@@ -26,55 +26,13 @@ fail() {
     exit 1
 }
 
-# The files of the repository as they are now, without what was made from them.
-mkdir "$clone"
-git ls-files -z --cached --others --exclude-standard | while IFS= read -r -d '' file; do
-    [ ! -f "$file" ] || printf '%s\0' "$file"
-done | tar --null -cf - -T - | tar -xf - -C "$clone"
-
-# The stub: a kit whose compiler writes anything, and a prover that hands it a module.
-machine=$(uname -m)
-tools=$work/kit/on/$machine/toolchain
-mkdir -p "$tools/bin" "$tools/lib" "$work/kit/doc" "$work/stub"
-cat >"$tools/bin/clang" <<'END'
-#!/bin/sh
-while [ $# -gt 0 ]; do
-    [ "$1" != -o ] || echo "$RANDOM compiled" >"$2"
-    shift
-done
-END
-cat >"$tools/bin/llvm-ar" <<'END'
-#!/bin/sh
-cat "$3" "$4" >"$2"
-END
-cat >"$work/stub/rt" <<END
-#!/bin/sh
-echo "\$*" >>"$asked"
-case \$1 in
-version) echo "a stub of the kit" ;;
-doc) echo "$work/kit/doc/index" ;;
-staticlib)
-    echo "a long log"
-    [ ! -f "$work/broken" ] || exit 1
-    mkdir -p target/staticlib
-    cat crates/book/src/*.rt >target/staticlib/libbook.a
-    home=\${RATTLE_HOME:-$work/kit}
-    echo module >"$work/book.bc"
-    "\$home/on/$machine/toolchain/bin/clang" "$work/book.bc" -o "$work/book.o"
-    ;;
-*) echo "rt: the stub proves nothing" && exit 1 ;;
-esac
-END
-chmod +x "$tools/bin/clang" "$tools/bin/llvm-ar" "$work/stub/rt"
-
-# All other commands, without the prover.
-mkdir "$work/without"
-for folder in ${PATH//:/ }; do
-    ln -s "$folder"/* "$work/without/" 2>/dev/null || true
-done
-rm -f "$work/without/rt"
+# shellcheck source=host/stub.sh
+. host/stub.sh
+copy_files "$clone"
+make_kit "$work/kit"
+all_but rt "$work/without"
 without=$work/without
-with=$work/stub:$without
+with=$work/kit/bin:$without
 
 # Runs a script of the clone with the words behind it, and commands from the folders $1: out and err have what it prints, and status how it ends.
 try() {
@@ -117,9 +75,9 @@ for way in --product native; do
     done
     rm "$clone/crates/book/proofs/new.antt"
     try "$with" host/archive.sh "${words[@]}" && gave "$path" 1 "where a file went"
-    sed -i 's/a stub of/another stub of/' "$work/stub/rt"
+    sed -i 's/a stub of/another stub of/' "$work/kit/bin/rt"
     try "$with" host/archive.sh "${words[@]}" && gave "$path" 1 "where the kit changed"
-    sed -i 's/another stub of/a stub of/' "$work/stub/rt"
+    sed -i 's/another stub of/a stub of/' "$work/kit/bin/rt"
     try "$with" host/archive.sh "${words[@]}" && gave "$path" 1 "where the kit changed back"
     echo >>"$clone/$product"
     try "$with" host/archive.sh "${words[@]}" && gave "$path" 1 "where somebody changed the archive"
@@ -139,16 +97,18 @@ said() {
     if grep -qvE '^(version|doc)$' "$asked"; then fail "the prover was asked, $3"; fi
 }
 
-touch "$work/broken"
+touch "$work/kit/broken"
 rm -rf "$clone/target"
 try "$with" host/archive.sh --product
-[ "$status" = 1 ] && [ ! -s "$work/out" ] && grep -q 'archive.log says why' "$work/err" || fail "archive.sh does not say that nothing was made"
-rm "$work/broken"
+if [ "$status" != 1 ] || [ -s "$work/out" ] || ! grep -q 'archive.log says why' "$work/err"; then
+    fail "archive.sh does not say that nothing was made"
+fi
+rm "$work/kit/broken"
 
 for script in demo fuzz test examples/run.sh host/*.sh; do
-    [ "$script" != host/scripts.sh ] || continue
+    [ "$script" != host/stub.sh ] || continue
     try "$without" "./$script" --help
-    [ "$status" = 0 ] && [ ! -s "$work/err" ] && [ "$(wc -l <"$work/out")" -gt 2 ] || fail "$script --help has no help"
+    if [ "$status" != 0 ] || [ -s "$work/err" ] || [ "$(wc -l <"$work/out")" -lt 3 ]; then fail "$script --help has no help"; fi
     if grep -q '^set \|^#' "$work/out"; then fail "$script --help shows its code"; fi
 done
 

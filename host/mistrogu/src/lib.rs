@@ -103,6 +103,11 @@
 #![forbid(unsafe_code)]
 #![warn(missing_docs)]
 
+/// The samples of the README, each tried as a program.
+#[cfg(doctest)]
+#[doc = include_str!("../../../README.md")]
+mod readme {}
+
 mod batch;
 mod list;
 mod merging;
