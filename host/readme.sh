@@ -91,13 +91,12 @@ while IFS= read -r command; do
         printf 'echo %q\n%s\n' "\$ $command" "$command"
     fi
 done <"$work/commands" >"$work/walk"
-git init --quiet .
-git add --all
+commit_all
 PATH=$work/kit/bin:$PATH bash "$work/walk" >"$work/log" 2>&1 || {
     cat "$work/log" >&2
     fail "the last of these commands of README.md failed"
 }
-left=$(git status --porcelain | grep -v '^A  ' || true)
+left=$(git status --porcelain)
 [ -z "$left" ] || fail "README.md's commands write what git does not ignore: $left"
 echo "README.md: $run commands run, $looked looked at"
 

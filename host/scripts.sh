@@ -4,7 +4,7 @@
 #   host/scripts.sh
 #
 # An archive is made again only where its sources changed, with one line on the screen; every script knows --help, looks at its words before
-# it has anything proved, and says in one sentence what is missing. Where that is not so, the exit status is 1. It takes some seconds.
+# it has anything proved, and says in one sentence what is missing; a package has what it should. Where that is not so, the exit status is 1. It takes some seconds.
 set -eu
 case ${1:-} in
 -h | --help)
@@ -13,7 +13,7 @@ case ${1:-} in
     ;;
 esac
 cd "$(dirname "$0")/.."
-unset MISTROGU_ARCHIVE MISTROGU_PRODUCT MISTROGU_NATIVE MISTROGU_TARGET RATTLE_HOME
+unset MISTROGU_ARCHIVE MISTROGU_PRODUCT MISTROGU_NATIVE MISTROGU_TARGET RATTLE_HOME CARGO_TARGET_DIR
 
 work=$(mktemp -d)
 trap 'rm -rf "$work"' EXIT
@@ -105,7 +105,7 @@ if [ "$status" != 1 ] || [ -s "$work/out" ] || ! grep -q 'archive.log says why' 
 fi
 rm "$work/kit/broken"
 
-for script in demo fuzz test examples/run.sh host/*.sh; do
+for script in demo fuzz test package examples/run.sh host/*.sh; do
     [ "$script" != host/stub.sh ] || continue
     try "$without" "./$script" --help
     if [ "$status" != 0 ] || [ -s "$work/err" ] || [ "$(wc -l <"$work/out")" -lt 3 ]; then fail "$script --help has no help"; fi
@@ -131,4 +131,52 @@ try "$with" examples/run.sh no-such.a && said 1 "no-such.a" "examples/run.sh wit
 try "$with" examples/run.sh --fast && said 1 "--fast" "examples/run.sh with an option"
 try "$with" host/benchmark.sh README.md && said 1 "README.md" "benchmark.sh with a file for a folder"
 try "$with" host/benchmark.sh --fast && said 2 "--fast" "benchmark.sh with an option"
+try "$without" ./package && said 1 "rt is missing" "package without the prover"
+try "$with" ./package now && said 2 "no words" "package with a word"
+
+# The package, with a stub for cargo, too.
+mkdir "$work/cargo"
+cat >"$work/cargo/cargo" <<'END'
+#!/bin/sh
+mkdir -p host/target/release
+echo stopbook >host/target/release/stopbook
+END
+chmod +x "$work/cargo/cargo"
+(cd "$clone" && commit_all)
+commit=$(git -C "$clone" rev-parse HEAD)
+version=$(sed -n 's/^#define MISTROGU_VERSION "\(.*\)"$/\1/p' include/mistrogu.h)
+packed=$clone/packages/mistrogu-$version
+
+# That a package was made whose text has this commit and this line of the gate.
+packed() {
+    [ "$status" = 0 ] || fail "package ended with $status, $3"
+    grep -qxF "version   $version" "$packed/PACKAGE.txt" || fail "the package has no version, $3"
+    grep -qxF "commit    $1" "$packed/PACKAGE.txt" || fail "the package names another commit, $3"
+    grep -qxF "kit       a stub of the kit" "$packed/PACKAGE.txt" || fail "the package names no kit, $3"
+    grep -qxF "gate      $2" "$packed/PACKAGE.txt" || fail "the package says something else of the gate, $3"
+    (cd "$packed" && sha256sum --check --quiet SHA256SUMS) || fail "the checksums of the package are wrong, $3"
+    rm -rf "$work/unpacked" && mkdir "$work/unpacked"
+    tar -xzf "$packed.tar.gz" -C "$work/unpacked"
+    diff -r "$packed" "$work/unpacked/mistrogu-$version" >"$work/err" || fail "the tar file has something else, $3"
+}
+
+unseen="./test was not seen to pass for this commit"
+mkdir -p "$clone/target"
+try "$work/cargo:$with" ./package && packed "$commit" "$unseen" "without a gate"
+for file in PACKAGE.txt SHA256SUMS CHANGELOG.md bin/stopbook docs/FORMAT.md docs/STATEMENTS.md docs/TRUST.md examples/stops.c include/mistrogu.h lib/libbook.a; do
+    [ -s "$packed/$file" ] || fail "the package has no $file"
+    [ "$file" = SHA256SUMS ] || grep -qF "  $file" "$packed/SHA256SUMS" || fail "$file has no checksum"
+done
+cmp -s "$clone/$product" "$packed/lib/libbook.a" || fail "the package has another archive"
+sum=$(sha256sum <"$packed.tar.gz")
+printf '%s\n7 passed, 0 failed\n' "$commit" >"$clone/target/gate"
+try "$work/cargo:$with" ./package && packed "$commit" "7 passed, 0 failed" "with a gate"
+rm "$clone/target/gate"
+try "$work/cargo:$with" ./package && packed "$commit" "$unseen" "without a gate, again"
+[ "$sum" = "$(sha256sum <"$packed.tar.gz")" ] || fail "the tar file differs from one time to the other"
+printf '%s\n7 passed, 0 failed\n' "${commit//[0-4]/5}" >"$clone/target/gate"
+try "$work/cargo:$with" ./package && packed "$commit" "$unseen" "with a gate of another commit"
+printf '%s\n7 passed, 0 failed\n' "$commit" >"$clone/target/gate"
+echo >>"$clone/README.md"
+try "$work/cargo:$with" ./package && packed "$commit, with changes that are in no commit" "$unseen" "with changes"
 echo "scripts.sh: all scripts do as they say"

@@ -4,6 +4,7 @@
 #   . host/stub.sh
 #   copy_files FOLDER         the files as they are now, without what was made from them
 #   make_kit FOLDER [ARCHIVE] FOLDER/bin/rt, which proves nothing: what it is asked it notes in FOLDER/asked, and ARCHIVE is what it makes
+#   commit_all                the files of the folder at hand, in a new repository
 #   all_but NAME FOLDER       every command that can be called, but NAME, as links in FOLDER
 set -eu
 
@@ -12,6 +13,12 @@ copy_files() {
     git ls-files -z --cached --others --exclude-standard | while IFS= read -r -d '' file; do
         [ ! -f "$file" ] || printf '%s\0' "$file"
     done | tar --null -cf - -T - | tar -xf - -C "$1"
+}
+
+commit_all() {
+    git init --quiet .
+    git add --all
+    git -c user.name=copy -c user.email=copy@example.org -c commit.gpgsign=false commit --quiet --message copy
 }
 
 # Without an archive the stub makes one of the sources of `book`. While FOLDER/broken is there, it makes none. A crate that is to be proved has to

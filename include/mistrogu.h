@@ -84,6 +84,8 @@
 extern "C" {
 #endif
 
+/* The version, of which CHANGELOG.md says what it brought. */
+#define MISTROGU_VERSION "0.7.0"
 /* The most bytes of a name, and of a question. */
 #define MISTROGU_LONGEST_NAME 200
 /* The most names of a book. */

@@ -128,6 +128,8 @@ pub use merging::{heads, judge, merge, Head, Heads};
 pub use refusal::{Refusal, Refused, Which};
 pub use salvage::{blocks_of, salvage, Block, Blocks, Names, Report, Salvaged};
 
+/// The version, as the header has it, too.
+pub const VERSION: &str = env!("CARGO_PKG_VERSION");
 /// The bytes of stack that are enough for [`build`] and [`build_folded`], whatever is
 /// lent to them.
 pub const BUILD_STACK: usize = 7936;

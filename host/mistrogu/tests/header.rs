@@ -1,9 +1,11 @@
 //! What C is told is what Rust is told: `include/mistrogu.h` has the same
-//! names, numbers and sentences.
+//! version, names, numbers and sentences.
 
 use mistrogu::{BookKind, Kind, Refusal};
 
 const HEADER: &str = include_str!("../../../include/mistrogu.h");
+const CHANGES: &str = include_str!("../../../CHANGELOG.md");
+const WORKSPACE: &str = include_str!("../../Cargo.toml");
 
 /// `NotAbove` as C writes it: `MISTROGU_NOT_ABOVE`.
 fn in_c(name: &str) -> String {
@@ -30,6 +32,28 @@ fn constant(name: &str) -> (&'static str, &'static str) {
 fn comment(sentence: &str) -> String {
     let (first, rest) = sentence.split_at(1);
     format!("/* {}{rest}. */", first.to_uppercase())
+}
+
+#[test]
+fn the_version_is_the_same_everywhere() {
+    let version = mistrogu::VERSION;
+    let line = format!("#define MISTROGU_VERSION \"{version}\"");
+    assert!(HEADER.lines().any(|other| other == line), "{line}");
+    let newest = CHANGES.lines().find_map(|line| line.strip_prefix("## "));
+    let newest = newest.and_then(|title| title.split([' ', ':']).next());
+    assert_eq!(newest, Some(version), "CHANGELOG.md");
+
+    let members = WORKSPACE.lines().find(|line| line.starts_with("members"));
+    let members = members.expect("the workspace has members").split('"');
+    for member in members.skip(1).step_by(2) {
+        let path = format!("{}/../{member}/Cargo.toml", env!("CARGO_MANIFEST_DIR"));
+        let manifest = std::fs::read_to_string(&path).expect("each member has a manifest");
+        let inherits = |line| line == "version.workspace = true";
+        assert!(
+            manifest.lines().any(inherits),
+            "{member} has another version"
+        );
+    }
 }
 
 #[test]
