@@ -23,12 +23,11 @@ fn the_help_names_every_command_and_every_exit_status() {
     }
 }
 
-/// Asserts that the page for users has this output, set in as it is there.
+/// Asserts that the page for users has this output, between its fences.
 fn assert_in_readme(output: &str) {
     let readme = include_str!("../../../README.md");
-    let lines = output.lines().map(|line| format!("    {line}\n"));
-    let block: String = lines.collect();
-    assert!(readme.contains(&format!("\n\n{block}\n")), "{block}");
+    let block = format!("\n```text\n{output}```\n");
+    assert!(readme.contains(&block), "{block}");
 }
 
 #[test]
