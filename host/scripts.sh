@@ -131,6 +131,8 @@ try "$with" examples/run.sh no-such.a && said 1 "no-such.a" "examples/run.sh wit
 try "$with" examples/run.sh --fast && said 1 "--fast" "examples/run.sh with an option"
 try "$with" host/benchmark.sh README.md && said 1 "README.md" "benchmark.sh with a file for a folder"
 try "$with" host/benchmark.sh --fast && said 2 "--fast" "benchmark.sh with an option"
+try "$without" host/sizes.sh && said 1 "rt, " "sizes.sh without the prover"
+try "$with" host/sizes.sh no-such.a && said 1 "no-such.a" "sizes.sh without its archive"
 try "$without" ./package && said 1 "rt is missing" "package without the prover"
 try "$with" ./package now && said 2 "no words" "package with a word"
 

@@ -6,6 +6,8 @@
  *   call salvage CARDFILE                              into a room and a report that are always long enough
  *   call merge|judge FIRST SECOND                      two lists, the merge into a room as long as both
  *   call questions BOOKFILE                            the check, then 100 questions, each by all five calls, one call after the other
+ *   call batch BOOKFILE                                64 of these questions in one call, in the five kinds by turns
+ *   call screen BOOKFILE TYPED                         the names that begin with what is typed, and the first ten of them read
  */
 #include <stdio.h>
 #include <stdlib.h>
@@ -77,6 +79,33 @@ static answer ask_all(size_t size) {
     return given;
 }
 
+static answer ask_batch(size_t size) {
+    static uint8_t buffer[MISTROGU_MOST_ROWS * LONGEST];
+    struct mistrogu_row rows[MISTROGU_MOST_ROWS];
+    answer answers[MISTROGU_MOST_ROWS], given = book_check(input, size);
+    make_questions(size, given.first);
+    size_t used = 0;
+    for (size_t i = 0; i < MISTROGU_MOST_ROWS; i++) {
+        rows[i] = (struct mistrogu_row){1 + i / 5 % 5, used, length[i]};
+        memcpy(buffer + used, question[i], length[i]);
+        used += length[i];
+    }
+    mark();
+    given = book_batch(input, size, buffer, used, rows, MISTROGU_MOST_ROWS, answers, MISTROGU_MOST_ROWS);
+    mark();
+    return given;
+}
+
+/* What a passenger screen does when something is typed: a range, and the first ten names of it. */
+static answer show(size_t size, const char *typed) {
+    mark();
+    answer given = book_range(input, size, (const uint8_t *)typed, strlen(typed));
+    for (size_t i = 0; i < given.second && i < 10; i++)
+        book_read(input, size, given.first + i, room, MISTROGU_LONGEST_NAME);
+    mark();
+    return given;
+}
+
 /* What a call gives that is made between two marks. */
 #define COUNTED(call) (mark(), given = (call), mark(), given)
 
@@ -111,7 +140,7 @@ int main(int words, char **word) {
     size_t size = read_file(word[2], input), second = 0;
     if (!strncmp(call, "build", 5) && words > 3)
         second = strtoul(word[3], NULL, 10);
-    else if (words > 3)
+    else if (words > 3 && strcmp(call, "screen"))
         second = read_file(word[3], other);
     else if (!strcmp(call, "salvage") && size >= 16)
         second = blocks_of(size);
@@ -119,6 +148,10 @@ int main(int words, char **word) {
     mark();
     if (!strcmp(call, "questions"))
         given = ask_all(size);
+    else if (!strcmp(call, "batch"))
+        given = ask_batch(size);
+    else if (!strcmp(call, "screen") && words > 3)
+        given = show(size, word[3]);
     else
         given = make(call, size, second);
     if (!strncmp(call, "build", 5) && words > 4 && !given.code)
