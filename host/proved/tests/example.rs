@@ -259,6 +259,27 @@ fn a_refused_row_does_not_end_its_batch() {
 }
 
 #[test]
+fn a_row_of_no_kind_or_past_the_questions_is_refused_whatever_its_numbers() {
+    let most = usize::MAX;
+    let rows = [
+        row(0, 0, 0),
+        row(6, 0, 0),
+        row(most, 0, 0),
+        row(0, most, most),
+        row(1, 4, 0),
+        row(1, 0, 4),
+        row(1, most, 1),
+        row(1, 1, most),
+        row(1, most, most),
+        row(most, most, most),
+    ];
+    let mut answers = [UNSET; 10];
+    let answered = book_batch(&book(), b"Mar", &rows, &mut answers);
+    assert_eq!(answered, answer(0, 10, 0));
+    assert_eq!(answers, [answer(11, 0, 0); 10]);
+}
+
+#[test]
 fn a_refused_batch_leaves_the_answer_rows_as_they_were() {
     let mut answers = [UNSET; 65];
     let rows = [row(1, 0, 3); 65];
