@@ -58,12 +58,14 @@ linked() {
     local ld=$1 call keep=()
     shift
     for call in "$@"; do keep+=(-u "$call"); done
-    "$ld" -e "$1" "${keep[@]}" --gc-sections --unresolved-symbols=ignore-all "$archive" -o "$work/linked"
+    "$ld" -m elf_x86_64 -e "$1" "${keep[@]}" --gc-sections --unresolved-symbols=ignore-all "$archive" -o "$work/linked"
 }
 
-# The first of these linkers that can.
+# The first of these linkers that can; the last is the kit's, where there is a kit.
+kit=
+if command -v rt >/dev/null; then kit=$(dirname "$(dirname "$(rt doc)")")/on/$(uname -m)/toolchain/bin/ld.lld; fi
 ld=
-for program in ${LD:+"$LD"} x86_64-linux-gnu-ld ld ld.lld; do
+for program in ${LD:+"$LD"} x86_64-linux-gnu-ld ld ld.lld ${kit:+"$kit"}; do
     # shellcheck disable=SC2086
     if linked "$program" $calls 2>/dev/null; then
         ld=$program
