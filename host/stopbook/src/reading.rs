@@ -71,10 +71,13 @@ impl Text {
                 source,
                 lines: names.rising,
             }),
-            bad => Err(Failure::refused(format!(
-                "{source}: {}, so nothing is written; mend them and try again",
-                counted(bad, "bad line")
-            ))),
+            bad => {
+                let lines = counted(bad, "bad line");
+                let which = if bad == 1 { "it" } else { "them" };
+                let text =
+                    format!("{source}: {lines}, so nothing is written; mend {which} and try again");
+                Err(Failure::refused(text))
+            }
         }
     }
 

@@ -54,6 +54,13 @@ fn control_characters_are_refused_by_line_and_by_what_they_are() {
 }
 
 #[test]
+fn one_bad_line_is_one() {
+    let ran = refused(b"Mar\nOld\tMill\n", &[]);
+    let last = "stopbook: n.txt: 1 bad line, so nothing is written; mend it and try again\n";
+    assert!(ran.err.ends_with(last), "{}", ran.err);
+}
+
+#[test]
 fn every_control_character_is_refused_and_no_other() {
     for code in 1..=0xFF {
         let character = char::from_u32(code).expect("a character");
