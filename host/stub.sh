@@ -8,8 +8,13 @@
 #   all_but NAME FOLDER       every command that can be called, but NAME, as links in FOLDER
 set -eu
 
+# Where git does not know the files, all are copied but what is made from them.
 copy_files() {
     mkdir -p "$1"
+    if ! git ls-files --error-unmatch crates.txt >/dev/null 2>&1; then
+        tar --exclude=./.git --exclude=./target --exclude=./host/target --exclude=./packages -cf - . | tar -xf - -C "$1"
+        return
+    fi
     git ls-files -z --cached --others --exclude-standard | while IFS= read -r -d '' file; do
         [ ! -f "$file" ] || printf '%s\0' "$file"
     done | tar --null -cf - -T - | tar -xf - -C "$1"
