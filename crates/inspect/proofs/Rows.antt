@@ -10,9 +10,7 @@ use native.Mathlib.Omega.{arith}
 use mathlib.Core.Path.{_≡_, refl, sym, ap, _∙_, subst}
 use mathlib.Core.Bool.{Bool, false, not, true}
 use mathlib.Core.Logic.{_⊎_, inl, inr}
-use lib.Dec.{eqb}
 use lib.ListN.{length, getD}
-use borrow.Author.Tests.{eqb-false, eqb-true, not-false, not-true}
 use Rattle.words.specs.Words.{Bytes, at}
 use Rattle.words.specs.Rising.{nth, span}
 use Rattle.words.proofs.Words.{apart, false≠true, less-parts, part-at, shared-at}
@@ -23,7 +21,7 @@ use Rattle.format.specs.Spans.{deep, wordsOf, nodeSize}
 use Rattle.format.specs.Records.{longest}
 use Rattle.format.specs.Widths.{widest}
 use Rattle.format.proofs.Widths.{widest-none, widest-span}
-use Rattle.streams.specs.Streams.{Here, InBlocks, Known, entryEnd, lengthAt, offsetFrom, restAt}
+use Rattle.streams.specs.Streams.{Here, InBlocks, Known, entryEnd, lengthAt, offsetFrom}
 use Rattle.streams.proofs.Here.{here-fits, here-next, here-rises, here-symbol, name-short, words-count}
 use Rattle.standing.specs.Maps.{Roomy, inRows, recordAt}
 use Rattle.standing.specs.Stands.{Child, GroupAt, NodeAt}

@@ -3,14 +3,17 @@
 -- Assumes nothing.
 use native.Mathlib.Omega.{arith}
 use borrow.Author.Needs.{needs}
-use Rattle.format.specs.Marks.{FoldedBook, PlainBook}
+use mathlib.Core.Path.{_≡_}
+use Rattle.format.specs.Book.{told}
+use Rattle.format.specs.Marks.{FoldedBook, PlainBook, kindOf}
+use Rattle.trailer.specs.Trailer.{Trail, markBack}
 use Rattle.trailer.proofs.Telling.{mark-own, unmarked}
 use Rattle.trailer.proofs.is_trailer.Statement.{statement}
 use Rattle.trailer.proofs.is_trailer.Tie as tie
 
--- all tests pass, and the mark is a plain book's
-plain-passes : tie.Need-returns-10
-plain-passes c = record {
+-- what every test but those of the mark's back has shown
+fitting : (c : tie.Else9) → let b = c .before .before .before .before .before .before .before .before .before .before .before .before .before .before .before .before .before .args .book .now in told b 7 ≡ markBack (kindOf b) → Trail b
+fitting c back = record {
   long = omega arith;
   short = omega arith;
   few = omega arith;
@@ -20,23 +23,16 @@ plain-passes c = record {
   total = omega arith;
   whole = omega arith;
   front = omega arith;
-  back = mark-own _ (omega arith) (search needs) PlainBook _ (c .before .number6 .ensures .0) (c .if10 .taken);
+  back = back;
 }
 
--- the same of a folded book's
+-- the mark is a plain book's
+plain-passes : tie.Need-returns-10
+plain-passes c = fitting (c .before .before) (mark-own _ (omega arith) (search needs) PlainBook _ (c .before .number6 .ensures .0) (c .if10 .taken))
+
+-- or a folded one's
 folded-passes : tie.Need-returns-12
-folded-passes c = record {
-  long = omega arith;
-  short = omega arith;
-  few = omega arith;
-  low = omega arith;
-  high = omega arith;
-  order = omega arith;
-  total = omega arith;
-  whole = omega arith;
-  front = omega arith;
-  back = mark-own _ (omega arith) (search needs) FoldedBook _ (c .before .before .number6 .ensures .0) (omega arith);
-}
+folded-passes c = fitting (c .before .before .before) (mark-own _ (omega arith) (search needs) FoldedBook _ (c .before .before .number6 .ensures .0) (omega arith))
 
 pub is-trailer-spec : {M : Type 1} → statement M
 is-trailer-spec =
