@@ -1,5 +1,6 @@
 -- Laws of the questions and of the calls. No contract cites them.
 pub mod Accents
+pub mod AllRefusals
 pub mod Beside
 pub mod Doubles
 pub mod Places

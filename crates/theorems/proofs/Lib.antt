@@ -1,4 +1,5 @@
 -- The theorems, by what they are about.
+pub mod Edges
 pub mod Books
 pub mod Lists
 pub mod Trees

@@ -6,6 +6,7 @@
 --     merge-itself      A with itself gives A
 --     fewer-together    names that are few together with others are few by themselves
 --     room-enough       a room as long as both lists together is room for their union
+--     example-associates     an instance in which every premise of merge-associates is met
 --     example-orders    three lists in all six orders and both groupings, computed
 --     example-swapped   what is excepted: of two lists that are swapped a step shows the same bytes, and they lie in the other list
 -- Assumes nothing.
@@ -18,7 +19,8 @@ use mathlib.Core.List.{List, List·Memᴰ as Among, Memᴰ·append-left, Memᴰ�
 use lib.ListN.{drop, getD, length, replicate}
 use lib.Seq.{take-append-seam}
 use denote.Ref.{RefT}
-use Rattle.words.specs.Words.{Bytes, less, plain, same, shared}
+use borrow.Author.Tests.{leb-true}
+use Rattle.words.specs.Words.{Bytes, begins, less, plain, same, shared}
 use Rattle.words.proofs.Words.{plain-injective, plain-lawful, word-injective}
 use Rattle.format.specs.Alone.{Reads}
 use Rattle.format.specs.Distinct.{distinct}
@@ -180,6 +182,13 @@ whole = 3 ∷ text "Mar" ++ (6 ∷ text "Marina" ++ (13 ∷ text "Market Square"
 pub example-orders : map grouped orders ≡ replicate 6 (whole ∷ whole ∷ [])
 unfolding shared less kept merged encode readFrom readList ofReadings mergeLists
 example-orders = refl
+
+-- Every premise is met: the three read well, have 4 distinct names together, and there is room.
+pub example-associates : EitherWay (list 0) (list 1) (list 2) room room room
+unfolding shared less begins same kept merged distinct encode readFrom readList
+example-associates =
+    merge-associates (list 0) (list 1) (list 2) (text "Mar" ∷ text "Marina" ∷ []) (text "Marina" ∷ text "Market Square" ∷ []) (text "Mar" ∷ text "Zoo" ∷ []) refl refl refl (leb-true 4 mostNames refl)
+    room room room (leb-true 25 40 refl) (leb-true 29 40 refl) (leb-true 29 40 refl)
 
 -- the first list is lent at block 1, the second at block 2
 abbrev lent : ℕ → ℕ → RefT Bytes

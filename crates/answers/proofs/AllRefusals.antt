@@ -1,0 +1,249 @@
+-- All refusals of all calls, computed: each alone, and beside its neighbour in the order of refusals, which is then not the one that is given. What was lent
+-- is left as it was. The books are document 01's by two, the same with one byte changed, and the one without names. Each line has what the documents say
+-- and not what a branch of a definition says, so a wrong definition shows here by its numbers.
+--     build-refusals    8, 5, 6, 4; lists too long for a book, 7 and 9, are computed in the theorems' Edges
+--     check-refusals, read-refusals, question-refusals
+--     batch-refusals, batch-taken, batch-rows-alone, batch-rows-none
+--     judge-refusals, merge-refusals, put-2001, put-2000, merge-taken     5 and 6 of either list; 4; 7 of the names that a merge has put together
+--     head-refusals, heads-computed
+--     salvage-refusals, salvage-taken-just
+-- Assumes nothing.
+use Prim.Native.Nat.{ℕ}
+use mathlib.Core.Path.{_≡_, refl}
+use mathlib.Core.List.{List, [], _∷_, _++_, map}
+use lib.ListN.{drop, length, replicate, set, take}
+use Rattle.words.specs.Words.{Bytes, begins, less, same, shared}
+use Rattle.format.specs.Book.{allFields, blockPart, book, entryPart, fits, joined, namesOf, nodePart, number, numbers, opened, trailer}
+use Rattle.format.specs.Entries.{blocks, blocksFrom, decode, decodeFrom, entry, front, offsets}
+use Rattle.format.specs.Example.{exampleBy2, exampleBy4, text}
+use Rattle.format.specs.Marks.{PlainBook, kindOf}
+use Rattle.format.specs.Merging.{kept, merged}
+use Rattle.format.specs.Nodes.{depth, glue, groups, rowBy, table, tableWithin}
+use Rattle.format.specs.Outcomes.{Answer, Written, checkOf, given, numbered, refused}
+use Rattle.format.specs.Records.{encode, readFrom, readList, rising, sound}
+use Rattle.format.specs.Salvage.{boundsFrom, climbs, judgedAlone, mapped, spansFrom}
+use Rattle.format.specs.Spans.{nodeTable}
+use Rattle.format.specs.Widths.{widest}
+use Rattle.answers.specs.Calls.{Batched, Row, batch, batchOf, build, builtFrom, check, question, questionOf, readBack, readBackOf, rowAnswer}
+use Rattle.answers.specs.Heads.{Head, headOf, lesserHead}
+use Rattle.answers.specs.Lit.{lit, mayEnd}
+use Rattle.answers.specs.Merging.{judgeLists, mergeLists, ofReadings, putNames}
+use Rattle.answers.specs.Questions.{answer, ask, childOf, count, exact, exactFrom, nearest, place, range, reachWithin, reached}
+use Rattle.answers.specs.Salvage.{Salvaged, salvage, salvageFrom}
+use Rattle.answers.specs.Widths.{width}
+
+-- ---- what comes in
+
+-- a room, or a part of one, that holds what another guest left there
+abbrev pub lent : ℕ → Bytes
+lent n = replicate n 7
+
+abbrev pub mar : Bytes
+mar = 3 ∷ text "Mar"
+
+abbrev pub marina : Bytes
+marina = 6 ∷ text "Marina"
+
+abbrev pub market : Bytes
+market = 13 ∷ text "Market Square"
+
+-- Marina's entry shares 2 bytes with Mar, and not the 3 that it could: no book
+abbrev pub broken : Bytes
+broken = set exampleBy2 5 2
+
+abbrev pub noNames : Bytes
+noNames = 0 ∷ 0 ∷ 2 ∷ 0 ∷ 0 ∷ 0 ∷ 0 ∷ 0 ∷ 0 ∷ 0 ∷ 16 ∷ 0 ∷ 0x4E ∷ 0x42 ∷ 0x4B ∷ 0x32 ∷ []
+
+-- a question too long by one byte
+abbrev pub over200 : Bytes
+over200 = replicate 201 77
+
+-- ---- build: 8; then record by record 5, 6; then 4
+
+-- a list, a block size, how long the room is; the code and the record's number
+abbrev pub BuildRow : Type 0
+BuildRow = Bytes × ℕ × ℕ × (ℕ × ℕ)
+
+abbrev pub builds : List BuildRow
+builds =
+    (mar, 0, 99, (8, 0)) ∷ (mar, 65, 99, (8, 0)) ∷ (0 ∷ [], 0, 99, (8, 0))
+    ∷ (0 ∷ [], 2, 99, (5, 0)) ∷ (201 ∷ over200, 2, 99, (5, 0)) ∷ (3 ∷ text "Ma", 2, 99, (5, 0)) ∷ (mar ++ (3 ∷ []), 2, 99, (5, 1)) ∷ (marina ++ (4 ∷ text "Mar"), 2, 99, (5, 1))
+    ∷ (marina ++ mar, 2, 99, (6, 1)) ∷ (mar ++ mar, 2, 99, (6, 1)) ∷ (marina ++ (mar ++ (0 ∷ [])), 2, 99, (6, 1)) ∷ (mar ++ (0 ∷ mar), 2, 99, (5, 1))
+    ∷ (mar ++ (marina ++ market), 2, 92, (4, 0)) ∷ []
+
+pub build-refusals : map (λ (c : BuildRow). build PlainBook (c .0) (c .1) (lent (c .2))) builds ≡ map (λ (c : BuildRow). record { answer = numbered (c .3 .0) (c .3 .1); room = lent (c .2) }) builds
+unfolding shared less depth glue groups widest rowBy tableWithin nodeTable table numbers joined entry blocksFrom front blocks offsets entryPart blockPart allFields nodePart trailer book encode readFrom readList builtFrom build
+build-refusals = refl
+
+-- ---- check: 2
+
+pub check-refusals : map (λ (s : Bytes). check (kindOf s) s) (broken ∷ [] ∷ take 92 exampleBy2 ∷ drop 1 exampleBy2 ∷ (exampleBy2 ++ (0 ∷ [])) ∷ set noNames 2 0 ∷ set noNames 2 65 ∷ noNames ∷ exampleBy2 ∷ exampleBy4 ∷ [])
+    ≡ refused 2 ∷ refused 2 ∷ refused 2 ∷ refused 2 ∷ refused 2 ∷ refused 2 ∷ refused 2 ∷ given 0 2 ∷ given 3 2 ∷ given 3 4 ∷ []
+unfolding shared less begins same depth glue groups widest rowBy tableWithin nodeTable table numbers joined entry blocksFrom front blocks offsets entryPart blockPart allFields nodePart trailer book decodeFrom decode number rising sound fits namesOf opened checkOf check
+check-refusals = refl
+
+-- ---- read back: 2, 3, 4
+
+-- a book, a position, how long the room is; the code
+abbrev pub ReadRow : Type 0
+ReadRow = Bytes × ℕ × ℕ × ℕ
+
+abbrev pub reads : List ReadRow
+reads =
+    (broken, 0, 99, 2) ∷ (broken, 3, 99, 2) ∷ (broken, 0, 0, 2) ∷ (exampleBy2, 3, 99, 3) ∷ (exampleBy2, 70000, 99, 3) ∷ (exampleBy2, 3, 0, 3) ∷ (noNames, 0, 99, 3)
+    ∷ (exampleBy2, 2, 12, 4) ∷ (exampleBy2, 0, 0, 4) ∷ []
+
+pub read-refusals : map (λ (c : ReadRow). readBack (kindOf (c .0)) (c .0) (c .1) (lent (c .2))) reads ≡ map (λ (c : ReadRow). record { answer = refused (c .3); room = lent (c .2) }) reads
+unfolding shared less begins same depth glue groups widest rowBy tableWithin nodeTable table numbers joined entry blocksFrom front blocks offsets entryPart blockPart allFields nodePart trailer book decodeFrom decode number rising sound fits namesOf opened readBackOf readBack
+read-refusals = refl
+
+-- ---- a question: 2, 1, 10
+
+-- a kind, a book, a question
+abbrev pub QuestionRow : Type 0
+QuestionRow = ℕ × Bytes × Bytes
+
+-- 2, then 1 of every kind, then 10 of nearest alone; a question of 200 bytes is answered
+abbrev pub asks : List (QuestionRow × Answer)
+asks =
+    ((1, broken, text "Mar"), refused 2) ∷ ((4, broken, over200), refused 2) ∷ ((4, set noNames 2 0, []), refused 2)
+    ∷ ((1, exampleBy2, over200), refused 1) ∷ ((2, exampleBy2, over200), refused 1) ∷ ((3, exampleBy2, over200), refused 1) ∷ ((4, exampleBy2, over200), refused 1) ∷ ((5, exampleBy2, over200), refused 1)
+    ∷ ((4, noNames, over200), refused 1) ∷ ((4, noNames, text "Mar"), refused 10) ∷ ((4, noNames, []), refused 10)
+    ∷ ((1, noNames, text "Mar"), given 0 0) ∷ ((2, noNames, text "Mar"), given 0 0) ∷ ((3, noNames, text "Mar"), given 0 0) ∷ ((5, noNames, text "Mar"), given 0 0)
+    ∷ ((2, exampleBy2, replicate 200 77), given 0 0) ∷ []
+
+pub question-refusals : map (λ (c : QuestionRow × Answer). question (kindOf (c .0 .1)) (c .0 .0) (c .0 .1) (c .0 .2)) asks ≡ map (λ (c : QuestionRow × Answer). c .1) asks
+unfolding shared less begins same depth glue groups widest rowBy tableWithin nodeTable table numbers joined entry blocksFrom front blocks offsets entryPart blockPart allFields nodePart trailer book decodeFrom decode number rising sound fits namesOf opened childOf reachWithin reached count exactFrom exact place range width nearest ask mayEnd lit answer questionOf question
+question-refusals = refl
+
+-- ---- batch: 12, 2; then for each row 11, 1, 10
+
+abbrev pub row : ℕ → ℕ → ℕ → Row
+row kind start size = record { kind = kind; start = start; size = size }
+
+-- what another guest left in the answer rows
+abbrev pub leftRows : ℕ → List Answer
+leftRows n = replicate n (record { code = 7; first = 7; second = 7 })
+
+-- 214 bytes: Marina, 201 letters, Maxim and M
+abbrev pub buffer : Bytes
+buffer = text "Marina" ++ (over200 ++ text "Maxim" ++ text "MM")
+
+-- a book, how many rows and how many answer rows; the code
+abbrev pub BatchRow : Type 0
+BatchRow = Bytes × ℕ × ℕ × ℕ
+
+abbrev pub batches : List BatchRow
+batches = (exampleBy2, 65, 65, 12) ∷ (exampleBy2, 2, 1, 12) ∷ (exampleBy2, 1, 2, 12) ∷ (exampleBy2, 0, 1, 12) ∷ (broken, 65, 65, 12) ∷ (broken, 2, 1, 12) ∷ (broken, 1, 1, 2) ∷ (broken, 0, 0, 2) ∷ (broken, 64, 64, 2) ∷ []
+
+pub batch-refusals : map (λ (c : BatchRow). batch (kindOf (c .0)) (c .0) buffer (replicate (c .1) (row 1 0 6)) (leftRows (c .2))) batches ≡ map (λ (c : BatchRow). record { answer = refused (c .3); rows = leftRows (c .2) }) batches
+unfolding shared less begins same depth glue groups widest rowBy tableWithin nodeTable table numbers joined entry blocksFrom front blocks offsets entryPart blockPart allFields nodePart trailer book decodeFrom decode number rising sound fits namesOf opened batchOf batch
+batch-refusals = refl
+
+-- 64 rows are taken, and no rows
+pub batch-taken : map (λ (n : ℕ). batch PlainBook exampleBy2 buffer (replicate n (row 1 0 6)) (leftRows n)) (0 ∷ 64 ∷ []) ≡ map (λ (n : ℕ). record { answer = given n 0; rows = replicate n (given 1 1) }) (0 ∷ 64 ∷ [])
+unfolding shared less begins same depth glue groups widest rowBy tableWithin nodeTable table numbers joined entry blocksFrom front blocks offsets entryPart blockPart allFields nodePart trailer book decodeFrom decode number rising sound fits namesOf opened exactFrom exact ask mayEnd lit answer questionOf rowAnswer batchOf batch
+batch-taken = refl
+
+-- each row, and what it gets: kinds 0 to 7; spans that end at the buffer's end, past it, or begin past it; 11 before 1
+abbrev pub asked : List (Row × Answer)
+asked =
+    (row 0 0 6, refused 11) ∷ (row 1 0 6, given 1 1) ∷ (row 2 0 6, given 1 0) ∷ (row 3 0 6, given 1 1) ∷ (row 4 207 5, given 1 2) ∷ (row 5 0 4, given 6 0) ∷ (row 6 0 6, refused 11) ∷ (row 7 0 6, refused 11)
+    ∷ (row 3 213 1, given 0 3) ∷ (row 3 213 2, refused 11) ∷ (row 3 214 0, given 0 3) ∷ (row 3 214 1, refused 11) ∷ (row 3 215 0, refused 11)
+    ∷ (row 3 6 201, refused 1) ∷ (row 0 6 201, refused 11) ∷ (row 6 6 201, refused 11) ∷ (row 3 14 201, refused 11) ∷ (row 3 6 200, given 0 0) ∷ []
+
+pub batch-rows-alone : batch PlainBook exampleBy2 buffer (map (λ (c : Row × Answer). c .0) asked) (leftRows 18) ≡ record { answer = given 18 0; rows = map (λ (c : Row × Answer). c .1) asked }
+unfolding shared less begins same depth glue groups widest rowBy tableWithin nodeTable table numbers joined entry blocksFrom front blocks offsets entryPart blockPart allFields nodePart trailer book decodeFrom decode number rising sound fits namesOf opened childOf reachWithin reached count exactFrom exact place range width nearest ask mayEnd lit answer questionOf rowAnswer batchOf batch
+batch-rows-alone = refl
+
+-- of the book without names: 11 before 1, 1 before 10, 10 for nearest alone
+pub batch-rows-none : batch PlainBook noNames buffer (row 6 0 6 ∷ row 4 6 201 ∷ row 4 0 6 ∷ row 1 0 6 ∷ row 2 0 6 ∷ row 3 0 6 ∷ row 5 0 6 ∷ []) (leftRows 7)
+    ≡ record { answer = given 7 0; rows = refused 11 ∷ refused 1 ∷ refused 10 ∷ given 0 0 ∷ given 0 0 ∷ given 0 0 ∷ given 0 0 ∷ [] }
+unfolding shared less begins same depth glue groups widest rowBy tableWithin nodeTable table numbers joined entry blocksFrom front blocks offsets entryPart blockPart allFields nodePart trailer book decodeFrom decode number rising sound fits namesOf opened count exactFrom exact place range width nearest ask mayEnd lit answer questionOf rowAnswer batchOf batch
+batch-rows-none = refl
+
+-- ---- two lists: 5 and 6 of the first, then of the second; a merge then 7, then 4
+
+-- the first list, the second, how long the room is; the code, the record's number and the list's
+abbrev pub ListsRow : Type 0
+ListsRow = Bytes × Bytes × ℕ × (ℕ × ℕ × ℕ)
+
+-- for the judging, the merging and the step alike
+abbrev pub badLists : List ListsRow
+badLists =
+    (0 ∷ [], mar, 99, (5, 0, 1)) ∷ (mar ++ (3 ∷ []), mar, 99, (5, 1, 1)) ∷ (marina ++ mar, mar, 99, (6, 1, 1)) ∷ (mar ++ mar, mar, 99, (6, 1, 1)) ∷ (marina ++ (mar ++ (0 ∷ [])), mar, 99, (6, 1, 1))
+    ∷ (mar, 0 ∷ [], 99, (5, 0, 2)) ∷ (mar, mar ++ (marina ++ (201 ∷ over200)), 99, (5, 2, 2)) ∷ (mar, marina ++ mar, 99, (6, 1, 2)) ∷ (mar, marina ++ (4 ∷ text "Mar"), 99, (5, 1, 2))
+    ∷ (marina ++ mar, 0 ∷ [], 99, (6, 1, 1)) ∷ (0 ∷ [], marina ++ mar, 99, (5, 0, 1)) ∷ (mar, 0 ∷ [], 0, (5, 0, 2)) ∷ []
+
+-- a room that is short by one byte
+abbrev pub shortRoom : ListsRow
+shortRoom = (mar, marina, 10, (4, 0, 0))
+
+abbrev pub told3 : ℕ × ℕ × ℕ → Answer
+told3 n = record { code = n .0; first = n .1; second = n .2 }
+
+pub judge-refusals : map (λ (c : ListsRow). judgeLists (c .0) (c .1)) (badLists ++ (shortRoom ∷ [])) ≡ map (λ (c : ListsRow). told3 (c .3)) badLists ++ (given 0 0 ∷ [])
+unfolding shared less readFrom readList ofReadings judgeLists
+judge-refusals = refl
+
+pub merge-refusals : map (λ (c : ListsRow). mergeLists (c .0) (c .1) (lent (c .2))) (badLists ++ (shortRoom ∷ [])) ≡ map (λ (c : ListsRow). record { answer = told3 (c .3); room = lent (c .2) }) (badLists ++ (shortRoom ∷ []))
+unfolding shared less kept merged encode readFrom readList ofReadings mergeLists
+merge-refusals = refl
+
+-- what is put of a union of 2,001 names; of 2,000, in a room that is too short
+pub put-2001 : putNames (lent 5) (replicate 2001 (text "a")) ≡ record { answer = told3 (7, 2000, 0); room = lent 5 }
+put-2001 = refl
+
+pub put-2000 : putNames (lent 5) (replicate 2000 (text "a")) ≡ record { answer = told3 (4, 0, 0); room = lent 5 }
+unfolding encode
+put-2000 = refl
+
+pub merge-taken : mergeLists mar marina (lent 11) ≡ record { answer = given 11 0; room = mar ++ marina }
+unfolding shared less kept merged encode readFrom readList ofReadings mergeLists
+merge-taken = refl
+
+-- a refused step shows the empty part of the first list, whatever is counted
+pub head-refusals : map (λ (c : ListsRow). headOf (c .0) (c .1) 0 0) badLists ≡ replicate 12 (1, 0, 0)
+unfolding shared less encode readFrom readList ofReadings lesserHead headOf
+head-refusals = refl
+
+-- two lists, and how many records of each are passed; the head's list, where it begins there, its length
+abbrev pub HeadRow : Type 0
+HeadRow = Bytes × Bytes × (ℕ × ℕ) × Head
+
+abbrev pub heads : List HeadRow
+heads =
+    (mar ++ marina, marina ++ market, (0, 0), (1, 1, 3)) ∷ (mar ++ marina, marina ++ market, (1, 0), (1, 5, 6)) ∷ (mar ++ marina, marina ++ market, (0, 1), (1, 1, 3)) ∷ (mar ++ marina, marina ++ market, (2, 0), (2, 1, 6))
+    ∷ (mar ++ marina, marina ++ market, (2, 1), (2, 8, 13)) ∷ (mar ++ marina, marina ++ market, (1, 2), (1, 5, 6)) ∷ (mar ++ marina, marina ++ market, (2, 2), (1, 0, 0)) ∷ (mar ++ marina, marina ++ market, (70000, 70000), (1, 0, 0))
+    ∷ (marina ++ market, mar, (0, 0), (2, 1, 3)) ∷ (mar, mar, (0, 0), (1, 1, 3)) ∷ ([], [], (0, 0), (1, 0, 0)) ∷ ([], mar, (0, 0), (2, 1, 3)) ∷ (mar, [], (0, 0), (1, 1, 3)) ∷ []
+
+pub heads-computed : map (λ (c : HeadRow). headOf (c .0) (c .1) (c .2 .0) (c .2 .1)) heads ≡ map (λ (c : HeadRow). c .3) heads
+unfolding shared less encode readFrom readList ofReadings lesserHead headOf
+heads-computed = refl
+
+-- ---- salvage: 13, 12, 4
+
+-- what another guest left in the report rows
+abbrev pub leftReport : ℕ → List (ℕ × ℕ)
+leftReport n = replicate n (5, 5)
+
+-- a card, how long the room is, how many rows; the code
+abbrev pub CardRow : Type 0
+CardRow = Bytes × ℕ × ℕ × ℕ
+
+-- a trailer whose number of nodes is another makes no map; a book in which Marina's entry is worn has one
+abbrev pub cards : List CardRow
+cards =
+    (set exampleBy2 85 5, 99, 2, 13) ∷ (set exampleBy2 85 5, 99, 1, 13) ∷ (set exampleBy2 85 5, 0, 2, 13) ∷ ([], 0, 0, 13)
+    ∷ (exampleBy2, 99, 1, 12) ∷ (exampleBy2, 99, 3, 12) ∷ (exampleBy2, 0, 1, 12) ∷ (exampleBy2, 24, 2, 4) ∷ (exampleBy2, 0, 2, 4) ∷ (broken, 13, 2, 4) ∷ (noNames, 0, 1, 12) ∷ []
+
+pub salvage-refusals : map (λ (c : CardRow). salvage (c .0) (lent (c .1)) (leftReport (c .2))) cards ≡ map (λ (c : CardRow). record { answer = refused (c .3); room = lent (c .1); rows = leftReport (c .2) }) cards
+unfolding shared less joined encode decode decodeFrom entry front rising boundsFrom climbs spansFrom mapped judgedAlone salvage salvageFrom number same begins
+salvage-refusals = refl
+
+-- a room of just the length; and n = 0: no rows and no bytes
+pub salvage-taken-just : salvage exampleBy2 (lent 25) (leftReport 2) ∷ salvage broken (lent 14) (leftReport 2) ∷ salvage noNames [] [] ∷ []
+    ≡ record { answer = given 25 0; room = mar ++ (marina ++ market); rows = (1, 2) ∷ (1, 1) ∷ [] } ∷ record { answer = given 14 0; room = market; rows = (0, 0) ∷ (1, 1) ∷ [] }
+    ∷ record { answer = given 0 0; room = []; rows = [] } ∷ []
+unfolding shared less joined encode decode decodeFrom entry front rising boundsFrom climbs spansFrom mapped judgedAlone salvage salvageFrom number same begins
+salvage-taken-just = refl
