@@ -4,7 +4,7 @@
 --     encode-from, encode-name, encode-fits     the records from number i on, its name, and that both are there
 --     read-skip                 what was skipped does not count
 --     read-encode, read-names, read-sound   the round trip, both ways; for any number of names, and for as many as a book has
---     read-refused              a list that is not read is refused with 5, 6 or 7
+--     read-refused, alone-refused   a list that is not read is refused with 5, 6 or 7; judged by its own length, never with 7
 --     sound-few, sound-rising, rising-sizes, sound-rises, rising-less, word-short    what a sound list's names are; their words rise
 --     from-rising, from-sound                and back
 -- Assumes nothing.
@@ -15,14 +15,14 @@ use mathlib.Core.Path.{_≡_, refl, sym, ap, ap₂, _∙_}
 use mathlib.Core.Bool.{Bool, true, false}
 use mathlib.Core.List.{List, [], _∷_, _++_, append-assoc, map}
 use lib.Dec.{leb, ltb}
-use lib.ListN.{length, length-map, getD, take, drop, length-append, take-append-drop}
+use lib.ListN.{length, length-drop, length-map, getD, take, drop, length-append, take-append-drop}
 use lib.Seq.{drop-append-seam, drop-cons, drop-drop, length-take-le, take-append-seam}
 use borrow.Author.Tests.{lt-ltb, ltb-true, leb-true, le-leb}
 use Rattle.words.specs.Rising.{All, Rises, cons, nil, rise, start, nth}
 use Rattle.words.specs.Words.{Bytes, Lawful, Rule, both, less, pick, word}
 use Rattle.words.proofs.Lists.{all-map}
 use Rattle.words.proofs.Rising.{Above, nth-less, nth-word}
-use Rattle.words.proofs.Words.{both-true, less-start, less-trans, word-positive}
+use Rattle.words.proofs.Words.{both-true, false≠true, less-start, less-trans, word-positive}
 use Rattle.format.specs.Records.{Names, Reading, Refused, after, encode, goodLength, longest, mostNames, readFrom, readList, rising, sound}
 
 -- the records of two lists of names are the records of both
@@ -153,28 +153,42 @@ read-sound ρ s xs e =
 
 -- ---- a list that is not read
 
-from-refused : (ρ : Rule) (most i : ℕ) (prev : Bytes) (n : ℕ) (s : Bytes) (code j : ℕ) → readFrom ρ most i prev n s ≡ Refused code j → 5 ≤ code
+-- the code, and that it is no 7 where the names may be as many as the bytes that are left
+abbrev Code : ℕ → ℕ → ℕ → Type 0
+Code most left code = (5 ≤ code) × (left ≤ most → code ≤ 6)
+
+from-refused : (ρ : Rule) (most i : ℕ) (prev : Bytes) (n : ℕ) (s : Bytes) (code j : ℕ) → readFrom ρ most i prev n s ≡ Refused code j → Code most (i + length (drop n s)) code
 unfolding readFrom
 from-refused ρ most i prev zero [] code j e = let z : _≡_ {A = ℕ} 0 1 = cc in absurd (omega arith)
 from-refused ρ most i prev (suc n) [] code j e = let z : _≡_ {A = ℕ} 0 1 = cc in absurd (omega arith)
 from-refused ρ most i prev (suc n) (b ∷ s) code j e = from-refused ρ most i prev n s code j e
 from-refused ρ most i prev zero (n ∷ rest) code j e =
-    go (both (goodLength n) (leb n (length rest))) (less (word ρ prev) (word ρ (take n rest))) (ltb i most) (readFrom ρ most (suc i) (take n rest) n rest) refl
+    go (both (goodLength n) (leb n (length rest))) (less (word ρ prev) (word ρ (take n rest))) (ltb i most) refl (readFrom ρ most (suc i) (take n rest) n rest) refl
     (λ c k. from-refused ρ most (suc i) (take n rest) n rest c k) e
   where
-    go : (a b c : Bool) (r : Reading) → readFrom ρ most (suc i) (take n rest) n rest ≡ r
-        → ((c′ k : ℕ) → readFrom ρ most (suc i) (take n rest) n rest ≡ Refused c′ k → 5 ≤ c′)
+    go : (a b c : Bool) → ltb i most ≡ c → (r : Reading) → readFrom ρ most (suc i) (take n rest) n rest ≡ r
+        → ((c′ k : ℕ) → readFrom ρ most (suc i) (take n rest) n rest ≡ Refused c′ k → Code most (suc i + length (drop n rest)) c′)
         → pick a (pick b (pick c (after (take n rest) r) (Refused 7 i)) (Refused 6 i)) (Refused 5 i) ≡ Refused code j
-        → 5 ≤ code
-    go true true true (Names xs) f ih e′ = let z : _≡_ {A = ℕ} 0 1 = cc in absurd (omega arith)
-    go true true true (Refused c k) f ih e′ = let same : c ≡ code = cc in omega (arith, ih c k f)
-    go true true false r f ih e′ = let same : 7 ≡ code = cc in omega arith
-    go true false c r f ih e′ = let same : 6 ≡ code = cc in omega arith
-    go false b c r f ih e′ = let same : 5 ≡ code = cc in omega arith
+        → Code most (i + suc (length rest)) code
+    go true true true t (Names xs) f ih e′ = let z : _≡_ {A = ℕ} 0 1 = cc in absurd (omega arith)
+    go true true true t (Refused c k) f ih e′ =
+        let same : c ≡ code = cc in
+        let is = ih c k f in
+        (omega (arith, is .0), λ h. omega (arith, is .1 (omega (arith, length-drop n rest))))
+    go true true false t r f ih e′ =
+        let same : 7 ≡ code = cc in
+        (omega arith, λ h. let within : true ≡ false = sym (lt-ltb i most (omega arith)) ∙ t in absurd (false≠true (sym within)))
+    go true false c t r f ih e′ = let same : 6 ≡ code = cc in (omega arith, λ h. omega arith)
+    go false b c t r f ih e′ = let same : 5 ≡ code = cc in (omega arith, λ h. omega arith)
 
 pub read-refused : (ρ : Rule) (most : ℕ) (s : Bytes) (code i : ℕ) → readList ρ most s ≡ Refused code i → 5 ≤ code
 unfolding readList
-read-refused ρ most s code i e = from-refused ρ most 0 [] 0 s code i e
+read-refused ρ most s code i e = from-refused ρ most 0 [] 0 s code i e .0
+
+-- a list has no more names than bytes: judged by its own length it is never refused for their number
+pub alone-refused : (ρ : Rule) (s : Bytes) (code i : ℕ) → readList ρ (length s) s ≡ Refused code i → code ≤ 6
+unfolding readList
+alone-refused ρ s code i e = from-refused ρ (length s) 0 [] 0 s code i e .1 (omega arith)
 
 -- ---- what a sound list is
 
