@@ -3,10 +3,11 @@
 --     walked-own, walk-ask, entries-fail, table-ask, table-says     after a trailer that passes: what the two walks ask, and what their answers
 --                       come to
 --     SoundBook, sound-book, checked-sound     what an accepting answer says
+--     sound-numbers, unsound-numbers     document 01's numbers for either answer
 -- Assumes nothing.
 use Prim.Native.Nat.{ℕ, _-_, _≤_}
 use native.Mathlib.Omega.{arith}
-use mathlib.Core.Path.{_≡_, _∙_, ap, refl, subst, sym}
+use mathlib.Core.Path.{_≡_, _∙_, ap, ap₂, refl, subst, sym}
 use mathlib.Core.Bool.{Bool, false, not, true}
 use mathlib.Core.List.{[]}
 use lib.ListN.{length}
@@ -14,7 +15,9 @@ use Rattle.words.specs.Words.{Bytes, InBytes, Rule}
 use Rattle.words.proofs.Words.{false≠true}
 use Rattle.format.specs.Marks.{kindOf, ruleIn}
 use Rattle.format.proofs.Marks.{kind-lawful}
-use Rattle.format.specs.Book.{Book, NoBook, Opened, opened, trailerSize, namesOf, told}
+use Rattle.format.specs.Book.{Book, NoBook, Opened, book, opened, trailerSize, namesOf, told}
+use Rattle.format.specs.Outcomes.{checkOf, given}
+use Rattle.format.proofs.Book.{Fits, book-opened, fits-parts, read-field}
 use Rattle.symbols.specs.Rules.{ruleBy}
 use Rattle.symbols.proofs.Symbols.{rule-by}
 use Rattle.trailer.specs.Trailer.{Trail, TrailSays, trailerIn}
@@ -26,7 +29,7 @@ use Rattle.streams.proofs.Walks.{has-known, has-names}
 use Rattle.entries.specs.Judging.{WalkSays}
 use Rattle.inspect.specs.Check.{TableAsk, isTable}
 use Rattle.numbers.proofs.Parts.{Held, held-bytes}
-use Rattle.accept.specs.Parts.{Parts, PartsSay, checkOn}
+use Rattle.accept.specs.Parts.{Parts, PartsSay, checkOn, checkedAs}
 use Rattle.accept.specs.declared.Checked.{Checked}
 use Rattle.accept.specs.declared.Checked.the-variants.{Sound, Unsound}
 use Rattle.accept.proofs.Opens.{has-at, opened-parts, parts-opened}
@@ -168,6 +171,31 @@ sound-book b t bytes s = go (opened (kindOf b) b) refl s
           book = parts-opened b bytes p ∙ ap (λ (x : Trailer). Book (x .block) (namesOf b)) (sym is);
           count = ap (λ (x : Trailer). x .names) is ∙ names-told b p;
         }
+
+-- the numbers of what the check gives are the check's
+numbers-checked : (b : Bytes) (v : Checked) → v ≡ checkOn b (opened (kindOf b) b) → checkedAs v ≡ checkOf (opened (kindOf b) b)
+unfolding checkOn checkOf
+numbers-checked b v s = go (opened (kindOf b) b) refl s
+  where
+    go : (o : Opened) → opened (kindOf b) b ≡ o → v ≡ checkOn b o → checkedAs v ≡ checkOf o
+    go NoBook e q = ap checkedAs q
+    go (Book k xs) e q =
+        let o = book-opened (kindOf b) b k xs e in
+        let f = fits-parts (kindOf b) k xs (o .0) in
+        ap checkedAs q ∙ ap₂ given (told-names f (o .1)) (told-block f (o .1))
+      where
+        told-names : Fits (kindOf b) k xs → book (kindOf b) k xs ≡ b → told b 0 ≡ length xs
+        told-names f is = subst (λ (t : Bytes). told t 0 ≡ length xs) is (read-field (kindOf b) k xs f 0 (omega arith))
+
+        told-block : Fits (kindOf b) k xs → book (kindOf b) k xs ≡ b → told b 1 ≡ k
+        told-block f is = subst (λ (t : Bytes). told t 1 ≡ k) is (read-field (kindOf b) k xs f 1 (omega arith))
+
+-- on either way
+pub sound-numbers : (b : Bytes) → Held b → (r : Bool) → r ≡ true → PartsSay b r → (t : Trailer) → t ≡ trailerIn b → checkedAs (Sound t) ≡ checkOf (opened (kindOf b) b)
+sound-numbers b held r h p t e = numbers-checked b (Sound t) (parts-sound b held r h p t e)
+
+pub unsound-numbers : (b : Bytes) (r : Bool) → r ≡ false → PartsSay b r → checkedAs Unsound ≡ checkOf (opened (kindOf b) b)
+unsound-numbers b r h p = numbers-checked b Unsound (parts-unsound b r h p)
 
 module _ (b : Bytes) (t : Trailer) (held : Held b) (v : Checked) (s : v ≡ checkOn b (opened (kindOf b) b)) (u : v ≡ Sound t) where
   pub checked-sound : SoundBook b t

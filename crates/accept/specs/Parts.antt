@@ -1,6 +1,7 @@
 -- The tests that make bytes a book, part by part.
 --     Parts, PartsSay   the trailer, the entries with their block table, the node table; whether all three stand
 --     checkOn           what the check gives, by what the bytes open to: what their trailer tells, or nothing
+--     checkedAs         document 01's numbers for each case of what the check gives: 0 with the names and the block size, or 2
 -- proofs/Opens.antt shows that these are just the books. Assumes nothing: these are definitions.
 use Prim.Native.Nat.{_-_}
 use mathlib.Core.Path.{_≡_}
@@ -10,6 +11,7 @@ use lib.ListN.{length}
 use Rattle.words.specs.Words.{Bytes}
 use Rattle.format.specs.Marks.{ruleIn}
 use Rattle.format.specs.Book.{Book, NoBook, Opened, told, trailerSize}
+use Rattle.format.specs.Outcomes.{Answer, given, refused}
 use Rattle.trailer.specs.Trailer.{Trail, trailerIn}
 use Rattle.streams.specs.Runs.{Has}
 use Rattle.inspect.specs.Check.{isTable}
@@ -28,3 +30,7 @@ PartsSay b false = Parts b → ⊥
 unfoldable pub checkOn : Bytes → Opened → Checked
 checkOn b (Book k xs) = Sound (trailerIn b)
 checkOn b NoBook = Unsound
+
+abbrev pub checkedAs : Checked → Answer
+checkedAs (Sound t) = given (t .names) (t .block)
+checkedAs Unsound = refused 2

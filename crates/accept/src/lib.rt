@@ -3,8 +3,9 @@
 ghost use mathlib.Core.Path.{_≡_};
 ghost use Rattle.format.specs.Book.{opened};
 ghost use Rattle.format.specs.Marks.{kindOf};
+ghost use Rattle.format.specs.Outcomes.{checkOf};
 ghost use Rattle.trailer.specs.Trailer.{Trail};
-ghost use Rattle.accept.specs.Parts.{PartsSay, checkOn};
+ghost use Rattle.accept.specs.Parts.{PartsSay, checkOn, checkedAs};
 
 // A book, and what its trailer tells, which no one need read again; or that the bytes are no book.
 pub enum Checked {
@@ -48,7 +49,7 @@ pub fn is_book(book: &[u8]) -> bool
 
 // Whether bytes are a book; then its trailer is read once for all who go on.
 pub fn check_book(book: &[u8]) -> Checked
-    ensures { λ r. ⌜ r ≡ checkOn (now (book .entry)) (opened (kindOf (now (book .entry))) (now (book .entry))) ⌝ }
+    ensures { λ r. ⌜ (checkedAs r ≡ checkOf (opened (kindOf (now (book .entry))) (now (book .entry)))) × (r ≡ checkOn (now (book .entry)) (opened (kindOf (now (book .entry))) (now (book .entry)))) ⌝ }
 {
     if is_book(book) {
         Checked::Sound(trailer::read(book))

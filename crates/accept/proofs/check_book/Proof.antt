@@ -1,6 +1,6 @@
 -- `accept::check_book` meets its contract.
 -- Assumes nothing.
-use Rattle.accept.proofs.Judging.{parts-long, parts-sound, parts-unsound}
+use Rattle.accept.proofs.Judging.{parts-long, parts-sound, parts-unsound, sound-numbers, unsound-numbers}
 use borrow.Author.Needs.{needs}
 use Rattle.accept.proofs.check_book.Statement.{statement}
 use Rattle.accept.proofs.check_book.Tie as tie
@@ -11,5 +11,5 @@ check-book-spec =
     (tie.spec
     (λ c κs. search needs)
     (λ c κs. parts-long _ _ (c .if1 .taken) (c .before .is-book .ensures))
-    (λ c. search parts-sound)
-    (λ c. parts-unsound _ _ (c .if1 .left) (c .before .is-book .ensures)))
+    (λ c. (search sound-numbers, search parts-sound))
+    (λ c. (unsound-numbers _ _ (c .if1 .left) (c .before .is-book .ensures), parts-unsound _ _ (c .if1 .left) (c .before .is-book .ensures))))
