@@ -1,18 +1,18 @@
 -- The symbol that the entry at hand tells.
---     has-by, has-low, has-high     ways out of `has_symbol`: by the book's rule, or the same by both rules
+--     has-by, has-own     ways out of `has_symbol`: by the book's rule, or the same by both rules
 --     lead-in, lead-past       ways out of `leads`: a byte of the entry has the symbol; the name has ended
 -- Assumes nothing.
 use Prim.Native.Nat.{ℕ, _+_, _-_, _≤_, _<_}
 use native.Mathlib.Omega.{arith}
 use mathlib.Core.Path.{_≡_, refl, sym, ap, _∙_}
 use mathlib.Core.Bool.{Bool, false}
-use lib.Dec.{eqb, leb}
-use borrow.Author.Tests.{le-leb, lt-leb}
+use lib.Dec.{eqb}
 use lib.ListN.{getD, length, drop, length-drop, length-map, length-take}
 use lib.Seq.{getD-drop, getD-take}
-use Rattle.words.specs.Words.{Bytes, Rule, at, both, word}
+use Rattle.words.specs.Words.{Bytes, Rule, at, word}
 use Rattle.words.proofs.Words.{at-past, word-at}
-use Rattle.format.specs.Marks.{BookKind, FoldedBook, PlainBook, kindOf, ruleIn, ruleOf}
+use Rattle.format.specs.Marks.{capital, kindOf, ruleIn}
+use Rattle.format.proofs.Marks.{small-rule}
 use Rattle.symbols.specs.Rules.{byKind, ruleBy}
 use Rattle.symbols.specs.declared.Rule.{Rule as ByRule}
 use Rattle.symbols.proofs.Symbols.{rule-by}
@@ -25,17 +25,9 @@ module _ (b : Bytes) (x s : ℕ) where
   pub has-by : (t : ByRule) → t ≡ byKind (kindOf b) → (v : Bool) → v ≡ eqb s (ruleBy t x) → v ≡ eqb s (ruleIn b x)
   has-by t te v ve = ve ∙ ap (eqb s) (ap (λ (ρ : Rule). ρ x) (ap ruleBy te ∙ rule-by (kindOf b)))
 
-  -- y is the byte, which is no capital letter
-  module _ (y : ℕ) (ye : y ≡ x) where
-    own : (κ : BookKind) → both (leb 65 x) (leb x 90) ≡ false → y + 1 ≡ ruleOf κ x
-    own PlainBook e = omega arith
-    own FoldedBook e = rw e (omega arith)
-
-    pub has-low : x ≤ 64 → eqb s (y + 1) ≡ eqb s (ruleIn b x)
-    has-low h = ap (eqb s) (own (kindOf b) (rw (lt-leb 65 x (omega arith)) refl))
-
-    pub has-high : 64 < x → 91 ≤ x → eqb s (y + 1) ≡ eqb s (ruleIn b x)
-    has-high g h = ap (eqb s) (own (kindOf b) (rw (le-leb 65 x (omega arith), lt-leb x 90 (omega arith)) refl))
+  -- y is the byte, and v says that it is no capital letter
+  pub has-own : (v : Bool) → v ≡ capital x → v ≡ false → (y : ℕ) → y ≡ x → eqb s (y + 1) ≡ eqb s (ruleIn b x)
+  has-own v ve n y ye = ap (eqb s) (omega (arith, small-rule (kindOf b) x (sym ve ∙ n)))
 
 -- c and l are what the code read at a and after it
 module _ (b : Bytes) (a d s c l : ℕ) (ask : LeadAsk b a d) (ce : c ≡ getD b a 0) (le : l ≡ getD b (a + 1) 0) where

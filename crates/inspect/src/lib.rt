@@ -16,10 +16,8 @@ fn has_symbol(book: &[u8], x: u8, s: usize) -> bool
     requires { ⌜ trailerSize ≤ length (now book) ⌝ }
     ensures { λ r. ⌜ r ≡ eqb s (ruleIn (now (book .entry)) x) ⌝ }
 {
-    if 64 < x {
-        if x < 91 {
-            return symbols::has_symbol(trailer::rule(book), x, s);
-        }
+    if symbols::is_capital(x) {
+        return symbols::has_symbol(trailer::rule(book), x, s);
     }
     s == numbers::wide(x) + 1
 }

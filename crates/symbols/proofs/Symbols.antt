@@ -1,5 +1,6 @@
 -- Laws of symbols by the rule that the code takes along, and of the comparison of names.
---     symbol-plain, -below, -behind, -capital     a byte's symbol, way by way
+--     capital-below, capital-within     whether a byte is a capital letter, by the two tests of the code
+--     symbol-plain, -small, -capital    a byte's symbol, way by way
 --     pair-..                   a byte and a greater one, by the folded rule
 --     alike-.., higher-.., has-..   two bytes and their symbols; a byte and a symbol
 --     kind-by, rule-by, rule-lawful     the code's rules are the kinds' rules, and lawful
@@ -19,8 +20,8 @@ use borrow.Author.Tests.{eq-eqb, eqb-false, eqb-true, le-leb, leb-false, leb-tru
 use lib.ListN.{length, getD, length-map}
 use Rattle.words.specs.Words.{Bytes, Lawful, at, both, less, pick, plain, shared, word}
 use Rattle.words.proofs.Words.{at-past, false≠true, less-by, part-at, shared-comm, shared-le, shared-more, shared-other, word-at}
-use Rattle.format.specs.Marks.{BookKind, FoldedBook, PlainBook, ruleOf}
-use Rattle.format.proofs.Marks.{kind-lawful}
+use Rattle.format.specs.Marks.{BookKind, FoldedBook, PlainBook, capital, ruleOf}
+use Rattle.format.proofs.Marks.{capital-bounds, kind-lawful, small-rule}
 use Rattle.symbols.specs.Parting.{Parted}
 use Rattle.symbols.specs.Rules.{byKind, kindBy, ruleBy}
 use Rattle.symbols.specs.declared.Rule.{Rule as ByRule}
@@ -28,19 +29,24 @@ use Rattle.symbols.specs.declared.Rule.the-variants.{Folded, Plain}
 
 -- ---- a byte's symbol
 
--- t is the byte, wider
+pub capital-below : (x : ℕ) → x < 65 → false ≡ capital x
+capital-below x h = rw (lt-leb 65 x h) refl
+
+pub capital-within : (x : ℕ) → 65 ≤ x → leb x 90 ≡ capital x
+capital-within x g = rw (le-leb 65 x g) refl
+
+-- t is the byte, wider; v is whether it is a capital letter
 module _ (r : ByRule) (x t : ℕ) where
   pub symbol-plain : r ≡ Plain → t ≡ x → t < 256 → (t + 1 ≡ ruleBy r x) × (t + 1 < 257)
   symbol-plain e w h = rw e (omega arith, omega arith)
 
-  pub symbol-below : r ≡ Folded → t ≡ x → x < 65 → (t + 1 ≡ ruleBy r x) × (t + 1 < 257)
-  symbol-below e w h = rw (e, lt-leb 65 x h) (omega arith, omega arith)
+  pub symbol-small : (v : Bool) → v ≡ capital x → v ≡ false → t ≡ x → t < 256 → (t + 1 ≡ ruleBy r x) × (t + 1 < 257)
+  symbol-small v e n w h = (omega (arith, small-rule (kindBy r) x (sym e ∙ n)), omega arith)
 
-  pub symbol-behind : r ≡ Folded → t ≡ x → t < 256 → 65 ≤ x → 90 < x → (t + 1 ≡ ruleBy r x) × (t + 1 < 257)
-  symbol-behind e w h g l = rw (e, le-leb 65 x g, lt-leb x 90 l) (omega arith, omega arith)
-
-  pub symbol-capital : r ≡ Folded → t ≡ x → 65 ≤ x → x ≤ 90 → (t + 1 + 32 ≡ ruleBy r x) × (t + 1 + 32 < 257)
-  symbol-capital e w g l = rw (e, le-leb 65 x g, le-leb x 90 l) (omega arith, omega arith)
+  pub symbol-capital : (v : Bool) → v ≡ capital x → v ≡ true → r ≡ Folded → t ≡ x → (t + 1 + 32 ≡ ruleBy r x) × (t + 1 + 32 < 257)
+  symbol-capital v e is q w =
+      let c : capital x ≡ true = sym e ∙ is in
+      rw (q, c) (omega arith, omega (arith, capital-bounds x c))
 
 -- two tests that say the same
 same-eqb : (a b c d : ℕ) → (a ≡ b → c ≡ d) → (c ≡ d → a ≡ b) → eqb a b ≡ eqb c d
@@ -50,14 +56,11 @@ same-eqb a b c d to from = go (eqb a b) refl
     go true q = q ∙ sym (eq-eqb c d (to (eqb-true a b q)))
     go false q = q ∙ sym (ne-eqb c d (λ e. eqb-false a b q (from e)))
 
-folded-low : (x : ℕ) → x < 65 → ruleBy Folded x ≡ x + 1
-folded-low x h = rw (lt-leb 65 x h) (omega arith)
-
 folded-high : (x : ℕ) → 90 < x → ruleBy Folded x ≡ x + 1
 folded-high x h = rw (le-leb 65 x (omega arith), lt-leb x 90 h) (omega arith)
 
 folded-least : (x : ℕ) → x < ruleBy Folded x
-folded-least x = go (both (leb 65 x) (leb x 90))
+folded-least x = go (capital x)
   where
     go : (v : Bool) → x < pick v (plain (x + 32)) (plain x)
     go true = omega arith
@@ -69,18 +72,26 @@ folded-capital x g l = rw (le-leb 65 x g, le-leb x 90 l) (omega arith)
 -- x is less than y
 module _ (x y : ℕ) (lower : x < y) where
   -- what is no capital letter has the next number for its symbol
-  pub pair-below : x < 65 → false ≡ eqb (ruleBy Folded x) (ruleBy Folded y)
-  pair-below h = sym (ne-eqb (ruleBy Folded x) (ruleBy Folded y) (λ q. lt-irrefl x (omega (arith, q, folded-low x h, folded-least y))))
+  pub pair-small : (v : Bool) → v ≡ capital x → not v ≡ true → false ≡ eqb (ruleBy Folded x) (ruleBy Folded y)
+  pair-small v e n =
+      let s : ruleBy Folded x ≡ suc x = small-rule FoldedBook x (sym e ∙ not-true v n) in
+      sym (ne-eqb (ruleBy Folded x) (ruleBy Folded y) (λ q. lt-irrefl x (omega (arith, q, s, folded-least y))))
 
-  pub pair-behind : 90 < x → false ≡ eqb (ruleBy Folded x) (ruleBy Folded y)
-  pair-behind h = sym (ne-eqb (ruleBy Folded x) (ruleBy Folded y) (λ q. lt-irrefl x (omega (arith, q, folded-high x h, folded-high y (omega arith)))))
+  pub pair-fits : (v : Bool) → v ≡ capital x → not v ≡ false → x + 32 < 256
+  pair-fits v e n = omega (arith, capital-bounds x (sym e ∙ not-false v n))
 
-  pub pair-capital : 65 ≤ x → x ≤ 90 → eqb (x + 32) y ≡ eqb (ruleBy Folded x) (ruleBy Folded y)
-  pair-capital g l = go (leb y 90) refl
+  pub pair-capital : (v : Bool) → v ≡ capital x → not v ≡ false → eqb (x + 32) y ≡ eqb (ruleBy Folded x) (ruleBy Folded y)
+  pair-capital v e n = go (leb y 90) refl
     where
+      g : 65 ≤ x
+      g = capital-bounds x (sym e ∙ not-false v n) .0
+
+      l : x ≤ 90
+      l = capital-bounds x (sym e ∙ not-false v n) .1
+
       go : (v : Bool) → leb y 90 ≡ v → eqb (x + 32) y ≡ eqb (ruleBy Folded x) (ruleBy Folded y)
-      go true q = ne-eqb (x + 32) y (λ e. lt-irrefl y (omega (arith, leb-true y 90 q))) ∙ sym (ne-eqb (ruleBy Folded x) (ruleBy Folded y)
-          (λ e. lt-irrefl x (omega (arith, e, folded-capital x g l, folded-capital y (omega arith) (leb-true y 90 q)))))
+      go true q = ne-eqb (x + 32) y (λ e. lt-irrefl y (omega (arith, g, leb-true y 90 q))) ∙ sym (ne-eqb (ruleBy Folded x) (ruleBy Folded y)
+          (λ e. lt-irrefl x (omega (arith, e, folded-capital x g l, folded-capital y (omega (arith, g)) (leb-true y 90 q)))))
       go false q = same-eqb (x + 32) y (ruleBy Folded x) (ruleBy Folded y)
           (λ e. omega (arith, folded-capital x g l, folded-high y (leb-false y 90 q))) (λ e. omega (arith, folded-capital x g l, folded-high y (leb-false y 90 q)))
 

@@ -6,6 +6,7 @@ ghost use mathlib.Core.Path.{_≡_};
 ghost use Prim.Native.Nat.{_-_, _<_, _≤_};
 ghost use lib.Dec.{eqb, ltb};
 ghost use Rattle.words.specs.Words.{at, less, shared, word};
+ghost use Rattle.format.specs.Marks.{capital};
 ghost use Rattle.symbols.specs.Rules.{ruleBy};
 ghost use Rattle.symbols.specs.Parting.{Parted};
 
@@ -17,6 +18,16 @@ pub enum Rule {
     Folded,
 }
 
+// Whether a byte is a capital letter, 65 to 90. All other bytes have the same symbol by every rule.
+pub fn is_capital(x: u8) -> bool
+    ensures { λ r. ⌜ r ≡ capital x ⌝ }
+{
+    if x < 65 {
+        return false;
+    }
+    x <= 90
+}
+
 // The symbol of a byte.
 pub fn symbol(rule: Rule, x: u8) -> usize
     ensures { λ r. ⌜ (r ≡ ruleBy rule x) × (r < 257) ⌝ }
@@ -25,13 +36,10 @@ pub fn symbol(rule: Rule, x: u8) -> usize
     match rule {
         Rule::Plain => own,
         Rule::Folded => {
-            if x < 65 {
-                return own;
+            if is_capital(x) {
+                return own + 32;
             }
-            if 90 < x {
-                return own;
-            }
-            own + 32
+            own
         }
     }
 }
@@ -51,10 +59,7 @@ fn is_pair(x: u8, y: u8) -> bool
     requires { ⌜ x < y ⌝ }
     ensures { λ r. ⌜ r ≡ eqb (ruleBy Rule.Folded x) (ruleBy Rule.Folded y) ⌝ }
 {
-    if x < 65 {
-        return false;
-    }
-    if 90 < x {
+    if !is_capital(x) {
         return false;
     }
     x + 32 == y
