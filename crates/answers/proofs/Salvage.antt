@@ -3,6 +3,7 @@
 --     blocks-many, block-at     how many blocks; block number i is its span's verdict
 --     saved-more, saved-append, saved-whole     the records of one block more, of others behind them, of blocks that are all whole
 --     salvage-by, salvage-gives, salvage-taken, salvage-kept     the call by what its tests say; what it gives, and where it does; what it leaves alone
+--     nodes-mapped, nodes-blocks     bytes that differ only in the node table have the same map and the same blocks
 --     mapped-same       bytes that differ only inside a block's span have the same map
 --     Isolated, isolated     and the same blocks, in the same order, but for that one
 -- Assumes nothing.
@@ -23,10 +24,10 @@ use Rattle.format.specs.Book.{goodBlock, joined, told, trailerSize}
 use Rattle.format.specs.Outcomes.{Answer, given, over, refused}
 use Rattle.format.specs.Records.{encode, mostNames}
 use Rattle.format.specs.Salvage.{Block, Broken, Whole, blockCount, bounds, boundsFrom, fromZero, judgedAlone, mapped, spans, spansFrom}
-use Rattle.format.specs.Spans.{nodeSize}
+use Rattle.format.specs.Nodes.{nodeSize}
 use Rattle.format.proofs.Entries.{joinedNames}
 use Rattle.format.proofs.Records.{encode-append}
-use Rattle.format.proofs.Salvage.{Outside, bounds-last, bounds-long, bounds-rise, bounds-same, noSpan, spans-isolated, spans-long, tail-behind, told-same}
+use Rattle.format.proofs.Salvage.{Outside, bounds-before, bounds-last, bounds-long, bounds-rise, bounds-same, noSpan, spans-before, spans-isolated, spans-long, tail-behind, told-same}
 use Rattle.answers.specs.Salvage.{Salvaged, cardBlocks, recordsIn, reported, salvage, salvageFrom, savedRecords}
 
 pub record Mapped (s : Bytes) : Type 0 where
@@ -159,6 +160,55 @@ module _ (s room : Bytes) (rows : List (ℕ × ℕ)) where
 -- ---- two runs of bytes that differ only inside span number j
 
 -- the same blocks before it and behind it, each with its own in its place
+-- trailer and block table tell the same, and so the map is
+told-mapped : (s t : Bytes) → Mapped s → {lo hi : ℕ} → Outside lo hi s t → hi + trailerSize ≤ length s → bounds s ≡ bounds t → mapped t ≡ true
+told-mapped s t m u within same-bounds = parts-mapped t (record {
+  sized = omega (arith, m .sized, u .size);
+  few = omega (arith, m .few, told-are 0);
+  block = ap goodBlock (sym (told-are 1)) ∙ m .block;
+  table = ap₂ (λ (a n : ℕ). a + 2 * n) (sym (told-are 2)) (ap₂ blockCount (sym (told-are 0)) (sym (told-are 1))) ∙ m .table ∙ told-are 3;
+  nodes = ap₂ (λ (a n : ℕ). a + nodeSize * n + trailerSize) (sym (told-are 3)) (sym (told-are 4)) ∙ m .nodes ∙ u .size;
+  long = sym (told-are 5) ∙ m .long ∙ u .size;
+  marked = ap (λ (l : Bytes). same l (markOf PlainBook)) (sym (tail-behind u (length s - 4) (omega (arith, within)) ∙ ap (λ (n : ℕ). drop (n - 4) t) (u .size))) ∙ m .marked;
+  starts = ap fromZero (sym same-bounds) ∙ m .starts;
+})
+  where
+    told-are : (i : ℕ) → told s i ≡ told t i
+    told-are = told-same u within
+
+-- ---- bytes that differ only in the node table
+
+module _ (s t : Bytes) (is : mapped s ≡ true) (u : Outside (told s 3) (length s - trailerSize) s t) where
+  around : length s - trailerSize + trailerSize ≤ length s
+  around = omega (arith, mapped-parts s is .sized)
+
+  starts-are : bounds s ≡ bounds t
+  starts-are =
+      bounds-before u around (told s 2) (blockCount (told s 0) (told s 1)) (omega (arith, mapped-parts s is .table))
+      ∙ ap₂ (λ (a n : ℕ). boundsFrom t a n) (told-same u around 2) (ap₂ blockCount (told-same u around 0) (told-same u around 1))
+
+  pub nodes-mapped : mapped t ≡ true
+  nodes-mapped = told-mapped s t (mapped-parts s is) u around starts-are
+
+  -- every bound is at most where the entries end
+  entered : (i : ℕ) → i < length (bounds s) → getD (bounds s) i 0 ≤ told s 3
+  entered i h =
+      let long = bounds-long s (told s 2) (blockCount (told s 0) (told s 1)) in
+      omega (
+        arith,
+        bounds-rise (bounds s) (mapped-parts s is .starts) i (blockCount (told s 0) (told s 1)) (omega (arith, long)) (omega (arith, long)),
+        bounds-last s (told s 2) (blockCount (told s 0) (told s 1)),
+        mapped-parts s is .table,
+      )
+
+  pub nodes-blocks : cardBlocks s ≡ cardBlocks t
+  nodes-blocks =
+      ap (map verdict)
+      (spans-before u (told s 1) (told s 0) (bounds s) entered ∙ ap (spansFrom t (told s 1) (told s 0)) starts-are
+      ∙ ap₂ (λ (k left : ℕ). spansFrom t k left (bounds t)) (told-same u around 1) (told-same u around 0))
+
+-- ---- a block by itself
+
 pub record Isolated (s t : Bytes) (j : ℕ) : Type 0 where
   pub front : List Block
   pub back : List Block
@@ -197,16 +247,7 @@ module _ (s t : Bytes) (is : mapped s ≡ true) (j : ℕ) (hj : suc j < length (
 
   -- the map is the same: nothing of a block's own is looked at
   pub mapped-same : mapped t ≡ true
-  mapped-same = parts-mapped t (record {
-    sized = omega (arith, m .sized, u .size);
-    few = omega (arith, m .few, told-are 0);
-    block = ap goodBlock (sym (told-are 1)) ∙ m .block;
-    table = ap₂ (λ (a n : ℕ). a + 2 * n) (sym (told-are 2)) (ap₂ blockCount (sym (told-are 0)) (sym (told-are 1))) ∙ m .table ∙ told-are 3;
-    nodes = ap₂ (λ (a n : ℕ). a + nodeSize * n + trailerSize) (sym (told-are 3)) (sym (told-are 4)) ∙ m .nodes ∙ u .size;
-    long = sym (told-are 5) ∙ m .long ∙ u .size;
-    marked = ap (λ (l : Bytes). same l (markOf PlainBook)) (sym (tail-behind u (length s - 4) (omega (arith, within)) ∙ ap (λ (n : ℕ). drop (n - 4) t) (u .size))) ∙ m .marked;
-    starts = ap fromZero (sym bounds-are) ∙ m .starts;
-  })
+  mapped-same = told-mapped s t m u within bounds-are
 
   spans-are : (i : ℕ) → suc i < length (bounds s) → (i ≡ j → ⊥) → getD (spans s) i noSpan ≡ getD (spans t) i noSpan
   spans-are i h n =

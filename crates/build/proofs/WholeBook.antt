@@ -18,8 +18,7 @@ use borrow.Author.Tests.{le-leb, lt-leb}
 use Rattle.words.specs.Words.{Bytes, Words, pick, word}
 use Rattle.format.specs.Marks.{BookKind, markOf, ruleOf}
 use Rattle.format.specs.Book.{blockPart, book, entryPart, longestBook, nodePart, numbers, trailer}
-use Rattle.format.specs.Spans.{nodeSize}
-use Rattle.format.specs.Nodes.{table}
+use Rattle.format.specs.Nodes.{table, nodeSize}
 use Rattle.format.specs.Records.{mostNames, readList}
 use Rattle.format.proofs.Marks.{mark-length}
 use Rattle.format.proofs.Book.{book-length, book-parts, nodes-length, records, trailerAt, trailerNumbers}

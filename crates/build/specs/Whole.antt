@@ -9,10 +9,9 @@ use mathlib.Core.List.{List}
 use lib.ListN.{length}
 use Rattle.words.specs.Words.{Bytes}
 use Rattle.format.specs.Marks.{BookKind, ruleOf}
-use Rattle.format.specs.Nodes.{table}
+use Rattle.format.specs.Nodes.{table, nodeSize}
 use Rattle.format.specs.Records.{Names, mostNames, readList}
 use Rattle.format.specs.Book.{entryPart, blockPart}
-use Rattle.format.specs.Spans.{nodeSize}
 use Rattle.format.specs.Outcomes.{Written, given, refused}
 use Rattle.records.specs.Lists.{Ready, names, words}
 use Rattle.build.specs.declared.Built.{Built}

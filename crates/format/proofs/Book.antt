@@ -21,9 +21,8 @@ use Rattle.words.proofs.Lists.{all-at}
 use Rattle.words.proofs.Words.{both-true, same-refl, same-true}
 use Rattle.format.specs.Marks.{BookKind, FoldedBook, PlainBook, kindOf, markOf, ruleOf}
 use Rattle.format.specs.Book.{Book, NoBook, allFields, blockPart, book, entryPart, fits, goodBlock, longestBook, namesOf, nodePart, number, numbers, opened, told, trailer, trailerSize}
-use Rattle.format.specs.Spans.{fieldCount, nodeSize}
 use Rattle.format.specs.Entries.{decode}
-use Rattle.format.specs.Nodes.{Node, table}
+use Rattle.format.specs.Nodes.{Node, table, fieldCount, nodeSize}
 use Rattle.format.specs.Records.{sound}
 use Rattle.format.proofs.Entries.{decode-entries}
 use Rattle.format.proofs.Marks.{mark-length}

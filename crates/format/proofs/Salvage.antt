@@ -8,6 +8,7 @@
 --     Outside           bytes that differ only inside a span
 --     number-behind, tail-behind, told-same, bounds-same     what is told behind it is the same: the trailer, the block table
 --     span-before, span-behind     and so is every other span
+--     bounds-before, spans-before     the block table, and all spans, where they stand before it
 --     span-at, spans-long, bounds-rise, spans-isolated     spans by their number; those of two runs of bytes that differ only inside one of them
 -- Assumes nothing.
 use Prim.Native.Nat.{ℕ, zero, suc, _+_, _-_, _*_, _/_, _≤_, _<_, min}
@@ -19,7 +20,7 @@ use mathlib.Core.Bool.{Bool, true, false}
 use mathlib.Core.List.{List, [], _∷_}
 use lib.Dec.{eqb, ltb}
 use lib.ListN.{drop, getD, length, length-drop, take}
-use lib.Seq.{drop-drop, getD-drop, take-take}
+use lib.Seq.{drop-drop, getD-drop, getD-take, take-take}
 use borrow.Author.Tests.{eq-eqb, eqb-true, ltb-true}
 use Rattle.words.specs.Words.{Bytes, both, pick, plain, same}
 use Rattle.words.proofs.Lists.{drop-take}
@@ -173,6 +174,27 @@ module _ {lo hi : ℕ} {s t : Bytes} (u : Outside lo hi s t) where
   unfolding boundsFrom
   bounds-same h at zero l = ap (λ (n : ℕ). n ∷ []) (told-same h 2)
   bounds-same h at (suc more) l = ap₂ (λ (n : ℕ) (ns : List ℕ). n ∷ ns) (number-behind at l) (bounds-same h (at + 2) more (omega arith))
+
+  -- and where they stand before it
+  byte-before : (i : ℕ) → i < lo → getD s i 0 ≡ getD t i 0
+  byte-before i h = sym (getD-take lo s i 0 h) ∙ ap (λ (l : Bytes). getD l i 0) (u .front) ∙ getD-take lo t i 0 h
+
+  number-before : (o : ℕ) → o + 2 ≤ lo → number s o ≡ number t o
+  unfolding number
+  number-before o h = ap₂ (λ (a b : ℕ). a + 256 * b) (byte-before o (omega arith)) (byte-before (o + 1) (omega arith))
+
+  pub bounds-before : hi + trailerSize ≤ length s → (at more : ℕ) → at + 2 * more ≤ lo → boundsFrom s at more ≡ boundsFrom t at more
+  unfolding boundsFrom
+  bounds-before h at zero l = ap (λ (n : ℕ). n ∷ []) (told-same h 2)
+  bounds-before h at (suc more) l = ap₂ (λ (n : ℕ) (ns : List ℕ). n ∷ ns) (number-before at (omega arith)) (bounds-before h (at + 2) more (omega arith))
+
+  -- spans that all end before it
+  pub spans-before : (k left : ℕ) (bs : List ℕ) → ((i : ℕ) → i < length bs → getD bs i 0 ≤ lo) → spansFrom s k left bs ≡ spansFrom t k left bs
+  unfolding spansFrom
+  spans-before k left [] h = refl
+  spans-before k left (a ∷ []) h = refl
+  spans-before k left (a ∷ b ∷ l) h =
+      ap₂ (λ (p : Bytes) (ps : List (ℕ × Bytes)). (min left k, p) ∷ ps) (span-before a b (h 1 (omega arith))) (spans-before k (left - k) (b ∷ l) (λ i m. h (suc i) (omega arith)))
 
 -- ---- spans by their number
 

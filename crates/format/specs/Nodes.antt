@@ -1,8 +1,9 @@
 -- Document 01, 'Layout of a book', part 3: the node table. A node is a group of words that stand together in the list.
 --     depth, groups     the count of leading symbols that a group shares; one group for each symbol that follows there
---     Node, leaf, fork, table    a record; that of one word; that of several; the whole
+--     Node, fieldCount, nodeSize a record; how many numbers it has, and how many bytes they take
+--     leaf, fork, table          that of one word; that of several; the whole
 -- The laws are in proofs/Groups.antt and proofs/Spans.antt. Assumes nothing: these are definitions.
-use Prim.Native.Nat.{ℕ, zero, suc, _+_, min}
+use Prim.Native.Nat.{ℕ, zero, suc, _+_, _*_, min}
 use mathlib.Core.List.{List, [], _∷_, _++_}
 use lib.Dec.{eqb}
 use lib.ListN.{length}
@@ -35,6 +36,13 @@ pub record Node : Type 0 where
   pub names : ℕ
   pub nodes : ℕ
   pub width : ℕ
+
+abbrev pub fieldCount : ℕ
+fieldCount = 6
+
+-- two bytes for each of them
+abbrev pub nodeSize : ℕ
+nodeSize = 2 * fieldCount
 
 -- the node of one word, number i, to which the symbol s led
 abbrev pub leaf : ℕ → ℕ → List ℕ → Node

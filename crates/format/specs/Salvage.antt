@@ -12,7 +12,7 @@ use Rattle.format.specs.Book.{goodBlock, number, told, trailerSize}
 use Rattle.format.specs.Entries.{decode, front}
 use Rattle.format.specs.Marks.{PlainBook, markOf}
 use Rattle.format.specs.Records.{mostNames, rising}
-use Rattle.format.specs.Spans.{nodeSize}
+use Rattle.format.specs.Nodes.{nodeSize}
 
 -- k names in each, 1 to k in the last
 abbrev pub blockCount : ℕ → ℕ → ℕ

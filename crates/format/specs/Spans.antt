@@ -1,5 +1,4 @@
 -- Nodes in bytes, and groups of words as spans of a list, for contracts and laws; no public statement cites them.
---     fieldCount, nodeSize     how many numbers a node has; how many bytes they take
 --     nodeTable         a node's record, and then its row's
 --     lastOf            the last of some names, and prev where there are none
 --     wordsOf           the words of the names that bytes would be the book of
@@ -7,20 +6,13 @@
 --     rowTable          the tables of a row of children, one after the other
 --     Climbs, Ranked    symbols number d never fall from word to word; the words of a row
 -- The laws are in proofs/Groups.antt and proofs/Spans.antt. Assumes nothing: these are definitions.
-use Prim.Native.Nat.{ℕ, _*_, pred, _≤_}
+use Prim.Native.Nat.{ℕ, pred, _≤_}
 use mathlib.Core.List.{List, [], _∷_, map}
 use lib.ListN.{length}
 use Rattle.words.specs.Words.{Bytes, Rule, Words, at, shared, word}
 use Rattle.words.specs.Rising.{All, Rises, nth}
 use Rattle.format.specs.Nodes.{Node, groups, rowBy, tableWithin}
 use Rattle.format.specs.Book.{namesOf}
-
-abbrev pub fieldCount : ℕ
-fieldCount = 6
-
--- two bytes for each of them
-abbrev pub nodeSize : ℕ
-nodeSize = 2 * fieldCount
 
 unfoldable pub nodeTable : ℕ → ℕ → Words → List Node
 nodeTable i s ws = tableWithin (length ws) i s ws

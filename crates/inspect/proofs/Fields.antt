@@ -15,7 +15,7 @@ use lib.ListN.{getD}
 use borrow.Author.Tests.{eqb-true, eqb-false, leb-true, leb-false, not-false, not-true}
 use Rattle.words.specs.Words.{Bytes, at, word}
 use Rattle.format.specs.Marks.{ruleIn}
-use Rattle.format.specs.Spans.{nodeSize}
+use Rattle.format.specs.Nodes.{nodeSize}
 use Rattle.streams.specs.Streams.{restAt}
 use Rattle.standing.specs.Maps.{inRows, recordAt}
 use Rattle.inspect.specs.Check.{ForkSays, LeafSays, LedSays, OtherSays}

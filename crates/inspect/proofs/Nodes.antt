@@ -10,9 +10,9 @@ use lib.ListN.{length}
 use Rattle.words.specs.Words.{Bytes}
 use Rattle.words.specs.Rising.{nth}
 use Rattle.format.specs.Marks.{ruleIn}
-use Rattle.format.specs.Spans.{wordsOf, nodeSize}
+use Rattle.format.specs.Spans.{wordsOf}
 use Rattle.format.specs.Book.{namesOf}
-use Rattle.format.specs.Nodes.{Node, leaf}
+use Rattle.format.specs.Nodes.{Node, leaf, nodeSize}
 use Rattle.streams.specs.Streams.{Here, lengthAt}
 use Rattle.streams.proofs.Here.{here-length, words-count}
 use Rattle.standing.specs.Maps.{Roomy, inRows, recordAt}

@@ -17,7 +17,8 @@ use Rattle.words.proofs.Words.{apart, false≠true, less-parts, part-at, shared
 use Rattle.words.proofs.Rising.{nth-less, nth-positive}
 use Rattle.format.specs.Marks.{ruleIn}
 use Rattle.format.specs.Book.{namesOf, trailerSize, told}
-use Rattle.format.specs.Spans.{deep, wordsOf, nodeSize}
+use Rattle.format.specs.Spans.{deep, wordsOf}
+use Rattle.format.specs.Nodes.{nodeSize}
 use Rattle.format.specs.Records.{longest}
 use Rattle.format.specs.Widths.{widest}
 use Rattle.format.proofs.Widths.{widest-none, widest-span}

@@ -19,9 +19,9 @@ use Rattle.words.specs.Words.{Bytes, InBytes, Lawful, Rule, Words, same, word}
 use Rattle.words.proofs.Lists.{all-append, all-right}
 use Rattle.words.proofs.Words.{false≠true, same-refl, same-true}
 use Rattle.format.specs.Marks.{kindOf, ruleIn}
-use Rattle.format.specs.Spans.{wordsOf, nodeSize, nodeTable}
+use Rattle.format.specs.Spans.{wordsOf, nodeTable}
 use Rattle.format.specs.Book.{allFields, namesOf, nodePart, numbers}
-use Rattle.format.specs.Nodes.{Node, table, tableWithin}
+use Rattle.format.specs.Nodes.{Node, table, tableWithin, nodeSize}
 use Rattle.format.specs.Records.{longest}
 use Rattle.format.proofs.Marks.{kind-lawful}
 use Rattle.format.proofs.Groups.{table-root}

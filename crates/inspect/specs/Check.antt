@@ -19,9 +19,9 @@ use lib.Seq.{slice}
 use Rattle.words.specs.Rising.{span}
 use Rattle.words.specs.Words.{Bytes, at, same, word}
 use Rattle.format.specs.Marks.{ruleIn}
-use Rattle.format.specs.Spans.{wordsOf, nodeSize}
+use Rattle.format.specs.Spans.{wordsOf}
 use Rattle.format.specs.Book.{namesOf, nodePart, trailerSize, told}
-use Rattle.format.specs.Nodes.{table}
+use Rattle.format.specs.Nodes.{table, nodeSize}
 use Rattle.format.specs.Widths.{widest}
 use Rattle.format.specs.Records.{longest}
 use Rattle.streams.specs.Streams.{Here, InBlocks, Known, entryEnd, restAt}

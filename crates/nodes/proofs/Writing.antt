@@ -19,8 +19,7 @@ use Rattle.words.specs.Rising.{nth}
 use Rattle.words.proofs.Rising.{nth-less, span-all}
 use Rattle.words.proofs.Words.{at-past, less-short}
 use Rattle.format.specs.Book.{allFields, fields, nodePart, numbers}
-use Rattle.format.specs.Spans.{nodeSize}
-use Rattle.format.specs.Nodes.{Node, leaf, table}
+use Rattle.format.specs.Nodes.{Node, leaf, table, nodeSize}
 use Rattle.format.proofs.Groups.{table-empty}
 use Rattle.format.proofs.Numbers.{numbers-append, numbers-length}
 use Rattle.format.proofs.Widths.{widest-low}

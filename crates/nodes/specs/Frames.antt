@@ -19,8 +19,8 @@ use lib.ListN.{length, getD, drop, set}
 use lib.Seq.{sets}
 use Rattle.words.specs.Rising.{span, nth}
 use Rattle.words.specs.Words.{Bytes, Words, at, shared}
-use Rattle.format.specs.Spans.{deep, rowTable, nodeSize, nodeTable}
-use Rattle.format.specs.Nodes.{Node}
+use Rattle.format.specs.Spans.{deep, rowTable, nodeTable}
+use Rattle.format.specs.Nodes.{Node, nodeSize}
 use Rattle.format.specs.Widths.{widest}
 use Rattle.format.specs.Book.{nodePart, number, numbers}
 

@@ -16,11 +16,11 @@ use lib.ListN.{getD, length}
 use Rattle.words.specs.Words.{Bytes, Words, at, shared}
 use Rattle.words.specs.Rising.{nth}
 use Rattle.format.specs.Marks.{ruleIn}
-use Rattle.format.specs.Nodes.{table}
+use Rattle.format.specs.Nodes.{table, fieldCount}
 use Rattle.answers.specs.Widths.{lastKind}
 use Rattle.answers.specs.Questions.{Pair as Numbers, reached}
 use Rattle.descent.specs.Vocabulary.{Halts, Located, Reached, Searchable, Sits, Taken, asked, node}
-use Rattle.format.specs.Spans.{wordsOf, fieldCount}
+use Rattle.format.specs.Spans.{wordsOf}
 use Rattle.format.specs.Book.{told, trailerSize}
 use Rattle.standing.specs.Maps.{rowsAt}
 use Rattle.trailer.specs.declared.Trailer.{Trailer}

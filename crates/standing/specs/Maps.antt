@@ -9,8 +9,7 @@ use Prim.Native.Nat.{ℕ, pred, _+_, _*_, _≤_}
 use lib.ListN.{length}
 use Rattle.words.specs.Words.{Bytes}
 use Rattle.format.specs.Book.{number}
-use Rattle.format.specs.Spans.{fieldCount, nodeSize}
-use Rattle.format.specs.Nodes.{Node}
+use Rattle.format.specs.Nodes.{Node, fieldCount, nodeSize}
 
 pub record Map : Type 0 where
   pub start : ℕ

@@ -20,13 +20,12 @@ use lib.Dec.{eqb, leb, ltb}
 use lib.ListN.{List·getD-map, drop, getD, length, length-append, length-map, take}
 use lib.Seq.{getD-drop, take-append-seam}
 use borrow.Author.Tests.{le-leb, lt-leb}
-use Rattle.words.specs.Rising.{All, cons, nil}
 use Rattle.words.specs.Words.{Bytes, Words, begins, both, less, pick, plain, same, shared, word}
 use Rattle.words.proofs.Words.{apart, false≠true, less-irrefl, plain-injective, same-true}
 use Rattle.format.specs.Book.{Book, NoBook, Opened, allFields, blockPart, book, entryPart, fits, joined, namesOf, nodePart, number, numbers, opened, trailer, trailerSize}
 use Rattle.format.specs.Entries.{blocks, blocksFrom, decode, decodeFrom, entry, front, offsets}
 use Rattle.format.specs.Example.{text}
-use Rattle.format.specs.Marks.{BookKind, FoldedBook, PlainBook, folded, kindOf, markOf, ruleOf}
+use Rattle.format.specs.Marks.{BookKind, FoldedBook, PlainBook, capital, folded, kindOf, markOf, ruleOf}
 use Rattle.format.specs.Nodes.{depth, glue, groups, rowBy, table, tableWithin}
 use Rattle.format.specs.Outcomes.{Answer, given, numbered, over, refused}
 use Rattle.format.specs.Records.{encode, longest, readFrom, readList, rising, sound}
@@ -35,7 +34,7 @@ use Rattle.format.specs.Spans.{nodeTable}
 use Rattle.format.specs.Widths.{widest}
 use Rattle.format.proofs.Book.{body, book-split, trailerNumbers}
 use Rattle.format.proofs.Computed.{edges-computed}
-use Rattle.format.proofs.Marks.{mark-length}
+use Rattle.format.proofs.Marks.{mark-length, small-rule}
 use Rattle.answers.specs.Calls.{build, builtFrom, question, questionOf}
 use Rattle.answers.specs.Lit.{inCharacter, lit, mayEnd}
 use Rattle.answers.specs.Questions.{Pair, answer, ask, childOf, count, exact, exactFrom, nearest, place, range, reachWithin, reached}
@@ -136,13 +135,13 @@ plain-doubles room h = build-writes PlainBook 2 (text "Mar" ∷ text "mar" ∷ [
 
 -- ---- a list without capitals
 
-small-word : (x : Bytes) → NoCapitals x → word folded x ≡ word plain x
-small-word [] nil = refl
-small-word (b ∷ x) (cons h a) = ap₂ (λ (c : ℕ) (w : List ℕ). c ∷ w) (folded-other b h) (small-word x a)
+small-word : (x : Bytes) → ((j : ℕ) → capital (getD x j 0) ≡ false) → word folded x ≡ word plain x
+small-word [] h = refl
+small-word (b ∷ x) h = ap₂ (λ (c : ℕ) (w : List ℕ). c ∷ w) (small-rule FoldedBook b (h 0)) (small-word x (λ j. h (suc j)))
 
-small-words : (xs : List Bytes) → All NoCapitals xs → map (word folded) xs ≡ map (word plain) xs
-small-words [] nil = refl
-small-words (x ∷ xs) (cons h a) = ap₂ (λ (w : List ℕ) (ws : Words). w ∷ ws) (small-word x h) (small-words xs a)
+small-words : (xs : List Bytes) → NoCapitals xs → map (word folded) xs ≡ map (word plain) xs
+small-words [] h = refl
+small-words (x ∷ xs) h = ap₂ (λ (w : List ℕ) (ws : Words). w ∷ ws) (small-word x (h 0)) (small-words xs (λ i. h (suc i)))
 
 module _ (k : ℕ) (xs : List Bytes) where
   -- all but the mark, by the words of the names
@@ -161,7 +160,7 @@ module _ (k : ℕ) (xs : List Bytes) where
       let there : length (book κ k xs) - 4 ≡ length p = omega (arith, ap length (book-before κ), length-append p (markOf κ), mark-length κ) in
       ap₂ (λ (n : ℕ) (s : Bytes). take n s) there (book-before κ) ∙ take-append-seam p (markOf κ)
 
-  pub marks-apart : All NoCapitals xs → book FoldedBook k xs ≡ take (length (book PlainBook k xs) - 4) (book PlainBook k xs) ++ markOf FoldedBook
+  pub marks-apart : NoCapitals xs → book FoldedBook k xs ≡ take (length (book PlainBook k xs) - 4) (book PlainBook k xs) ++ markOf FoldedBook
   marks-apart a = book-before FoldedBook ∙ ap (λ (s : Bytes). s ++ markOf FoldedBook) (ap before (small-words xs a) ∙ sym (marked-off PlainBook))
 
 -- ---- a worn card

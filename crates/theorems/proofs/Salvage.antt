@@ -1,37 +1,38 @@
 -- Document 02, CR 5: what a salvage gives of a worn card, over the public call's own function.
 --     salvage-isolated  two inputs that differ only inside one block's span, and room for both outputs: every other block has the same row
 --                       and the same records, in the same order
+--     salvage-nodes     no node record is looked at: two cards that agree outside their node tables give the same
 --     salvage-whole     of a sound book everything is kept, and what is written is the list again
 --     salvage-faithful  nothing is made up: a kept block's names are 1 to 200 bytes long, rise, are as many as they should be, and its
 --                       span is their entries
 --     salvage-settles, kept-settle     two results that the statement allows coincide, in the answer, in every byte and in every row
 --     example-worn, example-sound, example-differs, example-apart     document 01's book by two, with one byte of its first block changed
 -- Assumes nothing.
-use Prim.Native.Nat.{ℕ, suc, _-_, _≤_, _<_}
+use Prim.Native.Nat.{ℕ, suc, _-_, _≤_, _<_, zero-le}
 use native.Mathlib.Omega.{arith}
-use mathlib.Core.Path.{_≡_, refl, sym, ap, ap₂, _∙_}
-use mathlib.Core.Bool.{true}
+use mathlib.Core.Path.{_≡_, refl, sym, ap, ap₂, _∙_, subst}
+use mathlib.Core.Bool.{Bool, false, true}
 use mathlib.Core.List.{List, [], _∷_, _++_, map, map-append, map-map}
 use lib.ListN.{drop, getD, length, length-map, replicate, take}
 use lib.Seq.{take-append-seam}
 use borrow.Author.Tests.{le-leb, leb-true}
-use Rattle.words.specs.Words.{Bytes, begins, both, less, plain, same, shared}
+use Rattle.words.specs.Words.{Bytes, begins, both, less, pick, plain, same, shared}
 use Rattle.words.proofs.Lists.{all-at}
-use Rattle.words.proofs.Words.{plain-lawful, same-refl}
+use Rattle.words.proofs.Words.{false≠true, plain-lawful, same-refl}
 use Rattle.format.specs.Marks.{PlainBook, markOf}
-use Rattle.format.specs.Book.{book, joined, number, told}
+use Rattle.format.specs.Book.{book, joined, number, told, trailerSize}
 use Rattle.format.specs.Entries.{blocksFrom, decode, decodeFrom, entry, front}
 use Rattle.format.specs.Example.{exampleBy2, text}
-use Rattle.format.specs.Outcomes.{given, over}
+use Rattle.format.specs.Outcomes.{given, over, refused}
 use Rattle.format.specs.Records.{encode, rising}
 use Rattle.format.specs.Salvage.{Block, Whole, blockCount, bounds, boundsFrom, climbs, fromZero, judgedAlone, mapped, spans, spansFrom}
 use Rattle.format.proofs.Book.{Fits, blocksAt, book-length, book-opened, fits-parts, from-mark, nodes-length, nodesAt, read-field, records}
 use Rattle.format.proofs.Entries.{joined-blocks}
 use Rattle.format.proofs.Records.{rising-less, rising-sizes, sound-few}
-use Rattle.format.proofs.Salvage.{Outside, blocks-count, bounds-long, bounds-rise, spans-long, whole-alone}
+use Rattle.format.proofs.Salvage.{Outside, blocks-count, bounds-long, bounds-rise, spans-long, told-same, whole-alone}
 use Rattle.streams.proofs.Laid.{Stood, book-stands, rest-stood, verdicts}
 use Rattle.answers.specs.Salvage.{Salvaged, cardBlocks, recordsIn, reported, salvage, salvageFrom, savedRecords}
-use Rattle.answers.proofs.Salvage.{block-at, isolated, mapped-parts, mapped-same, parts-mapped, salvage-gives, salvage-taken, saved-append, saved-whole, savedAs}
+use Rattle.answers.proofs.Salvage.{block-at, isolated, mapped-parts, mapped-same, nodes-blocks, nodes-mapped, parts-mapped, salvage-gives, salvage-taken, saved-append, saved-whole, savedAs}
 use Rattle.shapes.specs.Salvage.{keptRow}
 use Rattle.shapes.specs.declared.Kept.{Kept}
 use Rattle.shapes.proofs.Salvage.{kept-injective}
@@ -86,6 +87,34 @@ module _ (s t : Bytes) (j : ℕ) (is : mapped s ≡ true) (d : DiffersIn s t j) 
 
       records-are : (front : List Block) (x : Block) (back : List Block) {bs : List Block} → bs ≡ front ++ (x ∷ back) → savedRecords bs ≡ savedRecords front ++ (recordsIn x ++ savedRecords back)
       records-are front x back e = ap savedRecords e ∙ saved-append front (x ∷ back)
+
+-- ---- the node table
+
+-- two cards of one length that agree before the node table and in the trailer: no node record is looked at
+pub salvage-nodes : (s t : Bytes) → length s ≡ length t → take (told s 3) s ≡ take (told s 3) t → drop (length s - trailerSize) s ≡ drop (length s - trailerSize) t
+    → (room : Bytes) (rows : List (ℕ × ℕ)) → salvage s room rows ≡ salvage t room rows
+unfolding salvage
+salvage-nodes s t size front back room rows = go (mapped s) (mapped t) refl refl
+  where
+    refusal : Salvaged
+    refusal = record { answer = refused 13; room = room; rows = rows }
+
+    outside : mapped s ≡ true → Outside (told s 3) (length s - trailerSize) s t
+    outside e = record { order = omega (arith, mapped-parts s e .nodes); size = size; front = front; back = back }
+
+    -- the trailers are the same bytes, and so the cards can change places
+    other : mapped t ≡ true → Outside (told t 3) (length t - trailerSize) t s
+    other e =
+        let behind : drop (length t - trailerSize) t ≡ drop (length t - trailerSize) s = subst (λ (n : ℕ). drop (n - trailerSize) t ≡ drop (n - trailerSize) s) size (sym back) in
+        let trailers : Outside 0 (length t - trailerSize) t s = record { order = zero-le; size = sym size; front = refl; back = behind } in
+        let there : told t 3 ≡ told s 3 = told-same trailers (omega (arith, mapped-parts t e .sized)) 3 in
+        record { order = omega (arith, mapped-parts t e .nodes); size = sym size; front = subst (λ (n : ℕ). take n t ≡ take n s) (sym there) (sym front); back = behind }
+
+    go : (m n : Bool) → mapped s ≡ m → mapped t ≡ n → pick m (salvageFrom (cardBlocks s) room rows) refusal ≡ pick n (salvageFrom (cardBlocks t) room rows) refusal
+    go true true e f = ap (λ (bs : List Block). salvageFrom bs room rows) (nodes-blocks s t e (outside e))
+    go true false e f = absurd (false≠true (sym f ∙ nodes-mapped s t e (outside e)))
+    go false true e f = absurd (false≠true (sym e ∙ nodes-mapped t s f (other f)))
+    go false false e f = refl
 
 -- ---- a sound book
 

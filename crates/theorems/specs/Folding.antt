@@ -1,15 +1,16 @@
 -- Document 02, CR 7: what the theorems on folded books speak of.
 --     foldedNames, foldedBy2, foldedRows     MAR and marina; their folded book in one block of two, byte for byte; questions to it and their answers
 --     spelledTwice      lists in which one name stands in two spellings
---     NoCapitals        no byte is 65 to 90. Assumes nothing: these are definitions.
-use Prim.Native.Nat.{ℕ, _<_}
+--     NoCapitals        no byte of these names is 65 to 90. Assumes nothing: these are definitions.
+use Prim.Native.Nat.{ℕ}
 use Prim.Native.String.{String}
+use mathlib.Core.Path.{_≡_}
+use mathlib.Core.Bool.{false}
 use mathlib.Core.List.{List, [], _∷_, _++_}
-use mathlib.Core.Logic.{_⊎_}
-use Rattle.words.specs.Rising.{All}
+use lib.ListN.{getD}
 use Rattle.words.specs.Words.{Bytes}
 use Rattle.format.specs.Example.{text}
-use Rattle.format.specs.Marks.{BookKind, FoldedBook, PlainBook}
+use Rattle.format.specs.Marks.{BookKind, FoldedBook, PlainBook, capital}
 
 abbrev pub foldedNames : List Bytes
 foldedNames = text "MAR" ∷ text "marina" ∷ []
@@ -32,5 +33,5 @@ foldedRows =
 abbrev pub spelledTwice : List (BookKind × List Bytes)
 spelledTwice = (FoldedBook, text "Mar" ∷ text "mar" ∷ []) ∷ (FoldedBook, text "mar" ∷ text "Mar" ∷ []) ∷ (PlainBook, text "mar" ∷ text "Mar" ∷ []) ∷ []
 
-abbrev pub NoCapitals : Bytes → Type 0
-NoCapitals s = All (λ b. (b < 65) ⊎ (90 < b)) s
+abbrev pub NoCapitals : List Bytes → Type 0
+NoCapitals xs = (i j : ℕ) → capital (getD (getD xs i []) j 0) ≡ false

@@ -9,7 +9,7 @@ use mathlib.Core.Bool.{Bool, false, true}
 use lib.ListN.{length}
 use Rattle.words.specs.Words.{Bytes}
 use Rattle.format.specs.Book.{longestBook, told, trailerSize}
-use Rattle.format.specs.Spans.{nodeSize}
+use Rattle.format.specs.Nodes.{nodeSize}
 use Rattle.format.specs.Records.{mostNames}
 use Rattle.format.specs.Marks.{BookKind, FoldedBook, PlainBook, kindOf}
 use Rattle.symbols.specs.Rules.{byKind}
