@@ -99,7 +99,7 @@ pub extern "C" fn book_range(book: &[u8], question: &[u8]) -> Answer
     questions::ask_alone(book, 3, question)
 }
 
-// The position of a name that is as near as any, and how many leading bytes it shares with the question. Refusals: 2, 1, 10.
+// The position of a name that is as near as any, and what can be lit of the leading bytes that it shares with the question. Refusals: 2, 1, 10.
 #[no_mangle]
 pub extern "C" fn book_nearest(book: &[u8], question: &[u8]) -> Answer
     ensures { λ r. ⌜ answered r ≡ askedOf (kindOf (now (book .entry))) 4 (now (book .entry)) (now (question .entry)) ⌝ }
