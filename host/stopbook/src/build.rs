@@ -2,6 +2,7 @@
 
 use crate::args::{Shape, Words};
 use crate::book::Book;
+use crate::empty::{self, EMPTY};
 use crate::files;
 use crate::names;
 use crate::outcome::{Failure, Outcome, Status, Streams};
@@ -18,7 +19,7 @@ pub const COMMAND: Command = Command {
     name: "build",
     shape: Shape {
         valued: &["-o", "--output", "--block"],
-        flags: &["--fold", reading::TRIM, reading::AS_IS],
+        flags: &["--fold", reading::TRIM, reading::AS_IS, EMPTY],
     },
     help: help::BUILD,
     run,
@@ -46,6 +47,7 @@ fn run(words: &Words, streams: &mut Streams) -> Outcome {
     if names.len() > MOST_NAMES {
         return Err(reading::too_many(&format!("{source} has"), names.len()));
     }
+    empty::spare(names.len(), words, &format!("{source} has no names"))?;
     let book = build(kind, &names, block, source)?;
     files::write(&output, book.bytes(), streams)?;
     let summary = summary(&names, &book, &files::output_name(&output));

@@ -31,13 +31,16 @@ or a file that cannot be read or written; 3 salvaged, and some names are lost.
 
 /// The help of `build`.
 pub const BUILD: &str = "\
-stopbook build NAMES.txt [-o BOOK] [--block K] [--fold] [--trim | --as-is]
+stopbook build NAMES.txt [-o BOOK] [--block K] [--fold] [--trim | --as-is] [--empty]
 
 Makes a book from a text in UTF-8 with a name on each line, in any order. Lines end with LF
 or CR LF; empty ones are skipped. Names are sorted by their bytes; doubles are dropped, and
 told. Bad lines (over 200 bytes, not UTF-8, with a control character such as a tab) are told
 by number, and then no book is written. A book has at most 2,000 names and 65,535 bytes;
 with larger blocks it is shorter.
+
+Where the text has no names, as after an export that failed, no book is written either, and
+an old one stays as it was; with --empty a book without names is made.
 
 Names that are hardly meant so are taken and told, with their lines: those with blanks
 before or behind them, those of blanks alone, and those that look like another one, from
@@ -56,6 +59,7 @@ spellings are told. Every command takes both kinds of book, but for salvage.
                            left out. Blanks are the space, U+00A0, U+2007, U+202F, U+3000.
   --as-is                  take every line as it is, with control characters, too, and tell
                            of doubles alone; UTF-8 and 200 bytes are still asked for
+  --empty                  make the book also where there are no names
 
 Examples:
 
@@ -65,7 +69,7 @@ Examples:
 
 /// The help of `merge`.
 pub const MERGE: &str = "\
-stopbook merge A.txt B.txt [-o TEXT] [--trim | --as-is]
+stopbook merge A.txt B.txt [-o TEXT] [--trim | --as-is] [--empty]
 
 Makes one text of names from two, each with a name on each line, in any order: the names
 of both, sorted by their bytes, each once, as they are. `stopbook build` makes a book from
@@ -73,10 +77,13 @@ it. Both texts are read as `build` reads one, with doubles told and dropped, and
 wrong told; where a line is bad, nothing is written. Names of the second text that look like
 one of the first are told, too. A text may have any number of names, and both together at
 most 2,000. How many names each brought, and how many are in both, is said on standard error.
+A text without names is told, and the other's names are written; where neither has names,
+nothing is written, and an old text stays as it was.
 
   -o TEXT, --output TEXT   where the names go; without it standard output
   --trim                   take blanks off before and behind names, as `build` does
   --as-is                  take every line as it is, as `build` does
+  --empty                  write an empty text where neither has names
 
 Examples:
 
@@ -174,7 +181,7 @@ Example:
 
 /// The help of `salvage`.
 pub const SALVAGE: &str = "\
-stopbook salvage CARD [-o TEXT]
+stopbook salvage CARD [-o TEXT] [--empty]
 
 Writes the names that are left of a damaged book, such as one from a worn card, a name on
 each line, as `stopbook list` prints them; `stopbook build` makes a book from them.
@@ -182,11 +189,14 @@ Each block is judged alone, so damage in one block costs no name of another, and
 do not count. Standard error has the number of each block that is lost, from 0, how many
 names it had, and between which names they stood; and where a block is not above the one
 before it: then one of the two has other names than it had. Where the trailer or the block
-table makes no sense, and where it is marked as a folded book, nothing is written.
+table makes no sense, where it is marked as a folded book, and where no name is left,
+nothing is written, and an old text stays as it was.
 
   -o TEXT, --output TEXT   where the names go; without it standard output
+  --empty                  write an empty text where no name is left
 
-The exit status is 3 where blocks are lost, and 1 where nothing can be salvaged.
+The exit status is 3 where blocks are lost and a text is written, and 1 where none is
+written.
 
 Examples:
 

@@ -22,6 +22,7 @@
 //! | [`looks`] | control characters, blanks that cannot be seen, names that look alike |
 //! | [`accents`] | Latin letters with marks, taken apart |
 //! | [`reading`] | such a file read, and what is wrong with its lines told |
+//! | [`empty`] | outputs without names, which have to be asked for |
 //! | [`size`] | how long the book of some names will be |
 //! | [`progress`] | how far a long reading is |
 //! | [`build`], [`merge`], [`list`], [`ask`], [`check`], [`salvage`], [`tree`] | the commands |
@@ -35,6 +36,7 @@ mod ask;
 mod book;
 mod build;
 mod check;
+mod empty;
 mod files;
 mod help;
 mod layout;

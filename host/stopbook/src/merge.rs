@@ -1,6 +1,7 @@
 //! `stopbook merge`: one text of names from two.
 
 use crate::args::{Shape, Words};
+use crate::empty::{self, EMPTY};
 use crate::files;
 use crate::names::{self, Taking};
 use crate::outcome::{Failure, Outcome, Status, Streams};
@@ -15,7 +16,7 @@ pub const COMMAND: Command = Command {
     name: "merge",
     shape: Shape {
         valued: &["-o", "--output"],
-        flags: &[reading::TRIM, reading::AS_IS],
+        flags: &[reading::TRIM, reading::AS_IS, EMPTY],
     },
     help: help::MERGE,
     run,
@@ -34,9 +35,20 @@ fn run(words: &Words, streams: &mut Streams) -> Outcome {
     let shared = count_shared(&texts);
     let list = merge(&texts, shared)?;
     let merged = names::in_records(&list);
+    let [first, second] = &texts;
+    let neither = format!("neither {} nor {} has names", first.source, second.source);
+    empty::spare(merged.len(), words, &neither)?;
     files::write(output, &names::text(&merged), streams)?;
+    tell_empty(&texts, streams);
     streams.note(&summary(&texts, shared, merged.len()));
     Ok(Status::Done)
+}
+
+/// Names each text without names: it may be what a failed export has left.
+fn tell_empty(texts: &[Text; 2], streams: &mut Streams) {
+    for text in texts.iter().filter(|text| text.lines.is_empty()) {
+        streams.note(&format!("{} has no names", text.source));
+    }
 }
 
 /// The two files with names.

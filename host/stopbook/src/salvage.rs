@@ -1,6 +1,7 @@
 //! `stopbook salvage`: the names that are left of a damaged book.
 
 use crate::args::{Shape, Words};
+use crate::empty::{self, EMPTY};
 use crate::layout;
 use crate::lines::Lines;
 use crate::loss::{self, Block};
@@ -14,7 +15,7 @@ pub const COMMAND: Command = Command {
     name: "salvage",
     shape: Shape {
         valued: &["-o", "--output"],
-        flags: &[],
+        flags: &[EMPTY],
     },
     help: help::SALVAGE,
     run,
@@ -36,10 +37,15 @@ fn run(words: &Words, streams: &mut Streams) -> Outcome {
         let why = why_not(&data, refusal);
         Failure::refused(format!("{source} cannot be salvaged: {why}"))
     })?;
-    write(salvaged, output, &source, streams)?;
+    let none_left = format!("{source} has no names left");
+    let spared = empty::spare(salvaged.names().count(), words, &none_left);
+    if spared.is_ok() {
+        write(salvaged, output, &source, streams)?;
+    }
     for sentence in loss::sentences(&blocks(&data, salvaged)) {
         streams.note(&format!("{source}: {sentence}"));
     }
+    spared?;
     Ok(if salvaged.is_whole() {
         Status::Done
     } else {

@@ -62,9 +62,75 @@ fn standard_input_goes_to_standard_output() {
     assert_eq!(ran.status, 0);
     assert_eq!(ran.bytes, EXAMPLE);
     assert!(ran.err.contains("93 of 65,535 bytes"));
-    let ran = folder.run_with(&["build", "-", "--block", "2", "--output", "none"], b"\n");
+}
+
+/// Texts without names: of no bytes, of a byte order mark, of empty lines.
+const WITHOUT_NAMES: [&[u8]; 5] = [
+    b"",
+    b"\n",
+    b"\r\n\n\r\n",
+    b"\xEF\xBB\xBF",
+    b"\xEF\xBB\xBF\n",
+];
+
+#[test]
+fn a_text_without_names_leaves_the_old_book() {
+    let folder = Folder::with("good.book", EXAMPLE);
+    let sentence = "stopbook: standard input has no names, so nothing is written; \
+                    if that is meant, give --empty\n";
+    for text in WITHOUT_NAMES {
+        for option in [&[][..], &["--fold"], &["--trim"], &["--as-is"]] {
+            let words = [&["build", "-", "-o", "good.book"], option].concat();
+            let ran = folder.run_with(&words, text);
+            ran.assert_fails(1, &[]);
+            assert_eq!(ran.err, sentence);
+            assert_eq!(folder.read("good.book"), EXAMPLE);
+        }
+        // Nothing is written to standard output either, nor to a new file.
+        let ran = folder.run_with(&["build", "-"], text);
+        assert_eq!((ran.status, &ran.bytes[..]), (1, &b""[..]));
+        folder.write("none.txt", text);
+        let ran = folder.run(&["build", "none.txt"]);
+        ran.assert_fails(
+            1,
+            &["stopbook: none.txt has no names, so nothing is written"],
+        );
+        assert!(!folder.has("none.book"));
+    }
+}
+
+#[test]
+fn lines_of_blanks_are_no_names_once_they_are_trimmed() {
+    let folder = Folder::with("good.book", EXAMPLE);
+    let text = " \n\u{A0}\u{3000}\r\n\n".as_bytes();
+    let ran = folder.run_with(&["build", "-", "--trim", "-o", "good.book"], text);
+    ran.assert_fails(1, &["standard input has no names, so nothing is written"]);
+    assert_eq!(folder.read("good.book"), EXAMPLE);
+    // Without it each is a name, which is told.
+    let ran = folder.run_with(&["build", "-", "-o", "blanks.book"], text);
     assert_eq!(ran.status, 0);
-    assert_eq!(folder.read("none"), NO_NAMES);
+    assert_eq!(ran.err.matches("is a name of blanks alone").count(), 2);
+}
+
+#[test]
+fn a_book_without_names_is_built_where_it_is_asked_for() {
+    let folder = Folder::with("good.book", EXAMPLE);
+    let words = ["build", "-", "--empty", "--block", "2", "-o", "good.book"];
+    for text in WITHOUT_NAMES {
+        let ran = folder.run_with(&words, text);
+        assert_eq!((ran.status, ran.err.as_str()), (0, ""));
+        assert!(ran
+            .out()
+            .contains("full   0 of 2,000 names, 16 of 65,535 bytes"));
+        assert_eq!(folder.read("good.book"), NO_NAMES);
+    }
+    // Where there are names, it changes nothing; and bad lines are refused as ever.
+    let ran = folder.run_with(&words, b"Mar\nMarina\nMarket Square\n");
+    assert_eq!((ran.status, ran.err.as_str()), (0, ""));
+    assert_eq!(folder.read("good.book"), EXAMPLE);
+    let ran = folder.run_with(&words, b"Mar\tina\n");
+    ran.assert_fails(1, &["1 bad line, so nothing is written"]);
+    assert_eq!(folder.read("good.book"), EXAMPLE);
 }
 
 #[test]

@@ -119,7 +119,9 @@ fn the_numbers_of_random_books_are_those_of_the_plain_list() {
         let names = numbers.names(5 * round);
         let block = 1 + numbers.below(64);
         let folder = Folder::with("n.txt", names.join("\n").as_bytes());
-        let ran = folder.run(&["build", "n.txt", "--block", &block.to_string()]);
+        // In the first round there are no names.
+        let build = |text| folder.run(&["build", text, "--empty", "--block", &block.to_string()]);
+        let ran = build("n.txt");
         assert_eq!(ran.status, 0, "{}", ran.err);
         let ran = folder.run(&["list", "--long", "n.book"]);
         let mut lines = ran.out().lines();
@@ -145,7 +147,7 @@ fn the_numbers_of_random_books_are_those_of_the_plain_list() {
         // The plain list builds the same book.
         let plain = folder.run(&["list", "n.book"]);
         folder.write("again.txt", &plain.bytes);
-        folder.run(&["build", "again.txt", "--block", &block.to_string()]);
+        build("again.txt");
         assert_eq!(folder.read("again.book"), folder.read("n.book"));
     }
 }

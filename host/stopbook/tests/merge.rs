@@ -67,9 +67,33 @@ fn a_text_with_itself_or_with_none_is_that_text() {
     for words in [["merge", "a.txt", "b.txt"], ["merge", "b.txt", "a.txt"]] {
         let ran = folder.run(&words);
         assert_eq!((ran.status, ran.out()), (0, "Mar\nMarina\n"));
+        // Which one has none is told: its export may have failed.
+        assert!(ran.err.starts_with("stopbook: b.txt has no names\n"));
+        assert!(ran.err.contains("in both: 0 names; merged: 2 names"));
     }
-    let ran = folder.run(&["merge", "b.txt", "b.txt"]);
+}
+
+#[test]
+fn two_texts_without_names_leave_the_old_text() {
+    let folder = with_two(b"\n", b" \n");
+    folder.write("good.txt", b"Mar\nZoo\n");
+    let words = ["merge", "--trim", "a.txt", "b.txt", "-o", "good.txt"];
+    let ran = folder.run(&words);
+    ran.assert_fails(1, &[]);
+    let sentence = "stopbook: neither a.txt nor b.txt has names, so nothing is written; \
+                    if that is meant, give --empty\n";
+    assert_eq!(ran.err, sentence);
+    assert_eq!(folder.read("good.txt"), b"Mar\nZoo\n");
+    // Without --trim the blank is a name.
+    let ran = folder.run(&["merge", "a.txt", "b.txt"]);
+    assert_eq!((ran.status, ran.out()), (0, " \n"));
+    // Where it is asked for, an empty text is written.
+    let ran = folder.run(&[&words[..], &["--empty"]].concat());
     assert_eq!((ran.status, ran.out()), (0, ""));
+    assert_eq!(folder.read("good.txt"), b"");
+    let empty = "stopbook: a.txt has no names\nstopbook: b.txt has no names\n";
+    let counts = said("0 names", "0 names", "0 names", "0 names");
+    assert_eq!(ran.err, empty.to_string() + &counts);
 }
 
 #[test]
@@ -181,8 +205,9 @@ fn random_texts_are_merged_as_sets_are_in_either_order() {
         let folder = with_two(first.join("\n").as_bytes(), second.join("\n").as_bytes());
         let names: BTreeSet<&String> = first.iter().chain(&second).collect();
         let expected: String = names.iter().map(|name| format!("{name}\n")).collect();
-        for words in [["merge", "a.txt", "b.txt"], ["merge", "b.txt", "a.txt"]] {
-            let ran = folder.run(&words);
+        for [one, other] in [["a.txt", "b.txt"], ["b.txt", "a.txt"]] {
+            // In the first round neither has names.
+            let ran = folder.run(&["merge", one, other, "--empty"]);
             assert_eq!((ran.status, ran.out()), (0, expected.as_str()));
             let shared = first.len() + second.len() - names.len();
             assert!(ran.err.contains(&format!("in both: {shared} name")));

@@ -17,15 +17,20 @@ fn with_stops() -> Folder {
     folder
 }
 
-/// Salvages the card with these stops, where these bytes are others.
-fn salvaged(changes: &[(usize, u8)]) -> Ran {
+/// A folder with the card with these stops, where these bytes are others.
+fn with_worn(changes: &[(usize, u8)]) -> Folder {
     let folder = with_stops();
     let mut card = folder.read("sound.book");
     for &(at, byte) in changes {
         card[at] = byte;
     }
     folder.write("worn.book", &card);
-    folder.run(&["salvage", "worn.book"])
+    folder
+}
+
+/// Salvages that card.
+fn salvaged(changes: &[(usize, u8)]) -> Ran {
+    with_worn(changes).run(&["salvage", "worn.book"])
 }
 
 /// Asserts the names that are left and what is said, a line for each.
@@ -98,19 +103,44 @@ fn the_last_block_is_lost_behind_a_name() {
 }
 
 #[test]
-fn neighbours_are_told_together_and_all_may_be_lost() {
+fn neighbours_are_told_together() {
     let ran = salvaged(&[(STARTS[1], 1), (STARTS[2], 1)]);
     let said = [
         "blocks 1 to 2 are lost: 3 names, 2 in each but 1 in the last, behind Beach",
         "kept: 2 names in 1 block; lost: 3 names in 2 blocks",
     ];
     assert_left(ran, 3, &["Airport", "Beach"], &said);
-    let ran = salvaged(&STARTS.map(|start| (start, 1)));
+}
+
+/// What is said where a salvage would write no name.
+const NONE_LEFT: &str = "stopbook: worn.book has no names left, so nothing is written; \
+                         if that is meant, give --empty\n";
+
+/// Asserts that this card is salvaged over a good text only where an empty one is
+/// asked for, with this exit status, and what is said either way.
+fn assert_none_left(folder: &Folder, status: i32, said: &[&str]) {
+    let good = STOPS.join("\n");
+    folder.write("good.txt", good.as_bytes());
+    let words = ["salvage", "worn.book", "-o", "good.txt"];
+    let ran = folder.run(&words);
+    ran.assert_fails(1, said);
+    assert_eq!(ran.err.lines().count(), said.len() + 1);
+    assert!(ran.err.ends_with(NONE_LEFT), "{}", ran.err);
+    assert_eq!(folder.read("good.txt"), good.as_bytes());
+    assert_eq!(folder.run(&["salvage", "worn.book"]).err, ran.err);
+    let asked = folder.run(&[&words[..], &["--empty"]].concat());
+    assert_left(asked, status, &[], said);
+    assert_eq!(folder.read("good.txt"), b"");
+}
+
+#[test]
+fn where_all_blocks_are_lost_the_old_text_stays() {
+    let folder = with_worn(&STARTS.map(|start| (start, 1)));
     let said = [
         "blocks 0 to 2 are lost: 5 names, 2 in each but 1 in the last, all there were",
         "kept: 0 names in 0 blocks; lost: 5 names in 3 blocks",
     ];
-    assert_left(ran, 3, &[], &said);
+    assert_none_left(&folder, 3, &said);
 }
 
 #[test]
@@ -150,10 +180,9 @@ fn where_the_map_makes_no_sense_nothing_is_written() {
 }
 
 #[test]
-fn a_card_without_names_has_nothing_to_lose() {
+fn a_card_without_names_has_nothing_to_lose_and_the_old_text_stays() {
     let folder = Folder::with("worn.book", NO_NAMES);
-    let ran = folder.run(&["salvage", "worn.book"]);
-    assert_left(ran, 0, &[], &["kept: 0 names in 0 blocks; lost: nothing"]);
+    assert_none_left(&folder, 0, &["kept: 0 names in 0 blocks; lost: nothing"]);
 }
 
 #[test]
