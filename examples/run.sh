@@ -1,5 +1,6 @@
 #!/usr/bin/env bash
-# Compiles the example in C, links it with the proved library and runs it; then, where there is a C++ compiler, the one in C++.
+# Compiles the example in C, links it with the proved library and runs it; then blocks.c, which tries what the header itself computes and wants no
+# library; then, where there is a C++ compiler, blocks.c again, as C++, and the example in C++.
 #
 #   examples/run.sh [ARCHIVE]        without ARCHIVE: what `rt staticlib book` writes, made again only where sources changed
 #
@@ -59,9 +60,18 @@ with_the_kit() {
 
 if [ "$machine" = x86_64 ] && [ "${MISTROGU_KIT:-0}" != 1 ]; then with_the_system; else with_the_kit; fi
 
+# Runs blocks.c, as the compiler behind this makes it for the machine at hand.
+with_blocks() {
+    "$@" -Iinclude examples/blocks.c -o "$work/blocks" || fail "blocks.c could not be compiled by $1"
+    "$work/blocks" || fail "mistrogu_blocks_of does not tell the blocks as they are counted, by $1"
+}
+
+with_blocks "${CC:-cc}" "${strict[@]}"
+
 if command -v "${CXX:-c++}" >/dev/null; then
-    "${CXX:-c++}" -pedantic -Wall -Wextra -Werror -fsyntax-only -x c++ include/mistrogu.h || fail "mistrogu.h is not good C++"
-    "${CXX:-c++}" -pedantic -Wall -Wextra -Werror -Iinclude -c examples/empty.cpp -o "$work/empty.o" || fail "empty.cpp could not be compiled"
+    strict_cpp=(-pedantic -Wall -Wextra -Werror)
+    with_blocks "${CXX:-c++}" "${strict_cpp[@]}" -x c++
+    "${CXX:-c++}" "${strict_cpp[@]}" -Iinclude -c examples/empty.cpp -o "$work/empty.o" || fail "empty.cpp could not be compiled"
     native=${MISTROGU_ARCHIVE:-}
     [ "$machine" != x86_64 ] || native=$archive
     if [ -n "$native" ]; then

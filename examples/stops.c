@@ -393,15 +393,6 @@ static void fold(void)
          MISTROGU_NO_MAP, 0, 0);
 }
 
-/* How many report rows a salvage takes: as many as the trailer tells of blocks. */
-static size_t blocks_of(const uint8_t *data, size_t length)
-{
-    const uint8_t *trailer = data + length - 16;
-    size_t names = trailer[0] + 256u * trailer[1];
-    size_t block = trailer[2] + 256u * trailer[3];
-    return block == 0 ? 0 : (names + block - 1) / block;
-}
-
 /* Prints the names in a run of records. */
 static void print_records(const uint8_t *records, size_t length)
 {
@@ -424,7 +415,7 @@ static void salvage_one(const struct damage *damage, const uint8_t *book, size_t
 
     memcpy(card, book, sizeof card);
     card[damage->at] = damage->byte;
-    if (blocks_of(card, length) != COUNT(report)) {
+    if (mistrogu_blocks_of(card, length) != COUNT(report)) {
         printf("WRONG: there are other than two blocks\n");
         differences++;
         return;
@@ -500,11 +491,28 @@ static void be_refused(const uint8_t *list, size_t list_length, const uint8_t *b
         printf("eight calls were refused as they had to be\n");
 }
 
+/* A card that can't be salvaged, whatever rows are lent: none are asked for. */
+static void hold_no_map(const char *how, const uint8_t *card, size_t length, uint8_t *room,
+                        size_t room_length)
+{
+    struct mistrogu_kept none;
+    size_t blocks = mistrogu_blocks_of(card, length);
+
+    if (blocks != 0) {
+        printf("WRONG: %s: there are %zu blocks\n", how, blocks);
+        differences++;
+        return;
+    }
+    hold(how, book_salvage(card, length, room, room_length, &none, blocks),
+         MISTROGU_NO_MAP, 0, 0);
+}
+
 /* The same with a damaged book. */
 static void be_refused_salvage(const uint8_t *book, size_t length)
 {
     struct mistrogu_kept report[2] = {{77, 78}, {77, 78}};
     uint8_t room[24];
+    uint8_t card[93];
     int before = differences;
 
     memset(room, 0xAA, sizeof room);
@@ -516,6 +524,10 @@ static void be_refused_salvage(const uint8_t *book, size_t length)
     hold("a room one byte short",
          book_salvage(book, length, room, sizeof room, report, 2),
          MISTROGU_ROOM_TOO_SHORT, 0, 0);
+    hold_no_map("a card of 15 bytes", book + length - 15, 15, room, sizeof room);
+    memcpy(card, book, sizeof card);
+    card[length - 14] = 0;
+    hold_no_map("a card with blocks of no names", card, length, room, sizeof room);
     hold_untouched(room, sizeof room);
     if (report[0].kept != 77 || report[0].names != 78 || report[1].kept != 77 ||
         report[1].names != 78) {
@@ -523,7 +535,7 @@ static void be_refused_salvage(const uint8_t *book, size_t length)
         differences++;
     }
     if (differences == before)
-        printf("and three salvages\n");
+        printf("and five salvages\n");
 }
 
 /* The same with two lists. A refused head is the empty part of the first. */

@@ -333,6 +333,32 @@ struct mistrogu_answer book_batch(const uint8_t *book, size_t book_length,
     MISTROGU_NEVER_NULL;
 
 /*
+ * How many blocks a damaged book has, and so how many report rows book_salvage
+ * takes. Any bytes will do: a trailer is read where there is one, and nothing else.
+ * With n the number at length - 16 and k the one at length - 14, each of two bytes,
+ * the low one first, it is n / k, rounded up, at most MISTROGU_MOST_NAMES. It is 0
+ * where there are no names, and where book_salvage refuses the bytes with 13
+ * whatever rows it is lent: with under 16 bytes, with n above MISTROGU_MOST_NAMES,
+ * and with k not 1 to MISTROGU_LARGEST_BLOCK.
+ *
+ * The archive has no such call: it is compiled with what includes this header.
+ */
+static inline size_t mistrogu_blocks_of(const uint8_t *card, size_t length)
+{
+    const uint8_t *trailer;
+    size_t names, block;
+
+    if (length < 16)
+        return 0;
+    trailer = card + (length - 16);
+    names = trailer[0] + (size_t)256 * trailer[1];
+    block = trailer[2] + (size_t)256 * trailer[3];
+    if (names > MISTROGU_MOST_NAMES || block == 0 || block > MISTROGU_LARGEST_BLOCK)
+        return 0;
+    return (names + block - 1) / block;
+}
+
+/*
  * Salvages the names of a damaged book, block by block, such as one from a worn
  * card. Where the trailer and the block table make sense, each block is judged
  * alone, and by nothing but the bytes of its own span: entries have to fill it
@@ -353,10 +379,8 @@ struct mistrogu_answer book_batch(const uint8_t *book, size_t book_length,
  * starts strictly rise from 0 inside of the entries. Without names there are no
  * bytes of entries.
  *
- * There are as many report rows as blocks. With n the number at data_length - 16
- * and k the one at data_length - 14, each of two bytes, the low one first, that is
- * n / k, rounded up, and at most MISTROGU_MOST_NAMES. A room of
- * MISTROGU_MOST_SALVAGED bytes is always long enough.
+ * There are as many report rows as blocks: mistrogu_blocks_of tells how many. A
+ * room of MISTROGU_MOST_SALVAGED bytes is always long enough.
  *
  * Accepted: (0, bytes written, 0), and every report row is written.
  * Refused: 13; then 12 where there are other than as many report rows as blocks;

@@ -129,6 +129,9 @@ fn calls() {
             assert_eq!(HEADER.matches(&declared).count(), 1, "{call}");
         }
     }
+    // The one that is compiled with what includes the header.
+    let own = "static inline size_t mistrogu_blocks_of(const uint8_t *card, size_t length)";
+    assert_eq!(HEADER.matches(own).count(), 1);
     let all = HEADER.matches("(const uint8_t *").count();
-    assert_eq!(all, answers.len() + heads.len());
+    assert_eq!(all, answers.len() + heads.len() + 1);
 }

@@ -238,15 +238,17 @@ fn a_room_too_short_is_refused_with_4() {
     assert!(salvage(&card, &mut [0; 11], &mut Report::<2>::new()).is_ok());
 }
 
+/// The end of a card with these numbers.
+fn trailer(names: u16, block: u16) -> Vec<u8> {
+    let [names, block] = [names, block].map(u16::to_le_bytes);
+    let numbers = [names, block].concat();
+    [&b"before"[..], &numbers, &[0; 12]].concat()
+}
+
 #[test]
 fn blocks_are_counted_where_the_trailer_makes_sense() {
     assert_eq!(blocks_of(&[]), None);
     assert_eq!(blocks_of(&[1; 15]), None);
-    let trailer = |names: u16, block: u16| {
-        let [names, block] = [names, block].map(u16::to_le_bytes);
-        let numbers = [names, block].concat();
-        [&b"before"[..], &numbers, &[0; 12]].concat()
-    };
     for (names, block, blocks) in [
         (0, 1, Some(0)),
         (1, 64, Some(1)),
@@ -260,6 +262,29 @@ fn blocks_are_counted_where_the_trailer_makes_sense() {
     ] {
         assert_eq!(blocks_of(&trailer(names, block)), blocks);
     }
+}
+
+/// A row of the table in `examples/blocks.c`: names, names in a block, blocks.
+fn row_of_c(line: &str) -> Option<[u16; 3]> {
+    let numbers = line.trim().strip_prefix('{')?.strip_suffix("},")?;
+    let numbers = numbers.split(", ").map(|number| number.parse().ok());
+    let numbers: Option<Vec<u16>> = numbers.collect();
+    numbers?.try_into().ok()
+}
+
+#[test]
+fn blocks_are_counted_as_c_counts_them() {
+    let rows = include_str!("../../../examples/blocks.c")
+        .lines()
+        .filter_map(row_of_c);
+    let mut count = 0;
+    for [names, block, blocks] in rows {
+        // C says 0 where there is nothing to count, too.
+        let counted = blocks_of(&trailer(names, block)).unwrap_or(0);
+        assert_eq!(counted, usize::from(blocks), "{names} {block}");
+        count += 1;
+    }
+    assert_eq!(count, 31, "the rows are not found");
 }
 
 /// The list of 64 names of 200 bytes that differ in the last.
