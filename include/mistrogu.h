@@ -221,6 +221,10 @@ struct mistrogu_answer book_build_folded(const uint8_t *list, size_t list_length
  * 32, a folded one with 4E 42 46 32. One that ends with 4E 42 4B 31 was built
  * before nodes had widths, is none any more, and has to be built again.
  *
+ * A book has no checksum, and a damaged one may be another book: one wrong bit
+ * makes Marine of Marina, and the bytes are accepted. Whoever has to know that a
+ * book is the one that was built keeps a checksum of its own beside it.
+ *
  * The kind is not told beside n and k: once a book is accepted, its mark tells it.
  *
  * Accepted: (0, number of names, block size).
@@ -369,8 +373,9 @@ static inline size_t mistrogu_blocks_of(const uint8_t *card, size_t length)
  *
  * So damage inside of one block's span changes neither verdict nor names of any
  * other block, and nodes are never looked at. A damaged block that is sound with
- * other names is kept with those. Names rise inside of a block, and need not rise
- * from block to block: what is written may be no list.
+ * other names is kept with those, as one with Marine in the place of Marina: a book
+ * has no checksum. Names rise inside of a block, and need not rise from block to
+ * block: what is written may be no list.
  *
  * The trailer and the block table make sense where there are at most 2,000 names,
  * in blocks of 1 to 64; where the parts meet without gaps at the places that the

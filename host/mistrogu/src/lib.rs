@@ -252,6 +252,9 @@ fn length_of_built(answer: Answer) -> Result<usize, Refused> {
 /// writes for some list and block size. All of the bytes count, so a book with one
 /// byte more is none. The kind is that of the mark that a book ends with.
 ///
+/// A book has no checksum, and a damaged one may be another book: one wrong bit makes
+/// Marine of Marina, and the bytes are accepted.
+///
 /// Refused: [`NoBook`](Refusal::NoBook).
 ///
 /// ```

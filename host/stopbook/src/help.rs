@@ -174,9 +174,15 @@ Says whether the bytes are a book, and if so whether it is a plain or a folded o
 how many names, names in a block, nodes and bytes it has. The exit status is 1 where they
 are none.
 
-Example:
+A book has no checksum. If one letter of a name is damaged, the bytes are often another sound
+book: one wrong bit makes Marine of Marina, and check still says that it is a book. So keep a
+checksum beside each book, and compare it after a copy and before use.
+
+Examples:
 
   stopbook check stops.book
+  sha256sum stops.book > stops.sha256       (once, when the book is built)
+  sha256sum --check stops.sha256            (ever after)
 ";
 
 /// The help of `salvage`.
@@ -191,6 +197,11 @@ names it had, and between which names they stood; and where a block is not above
 before it: then one of the two has other names than it had. Where the trailer or the block
 table makes no sense, where it is marked as a folded book, and where no name is left,
 nothing is written, and an old text stays as it was.
+
+A book has no checksum, so a damaged letter may not show: if one wrong bit makes Marine of
+Marina, the block is still sound, Marine is written, and nothing is said to be lost. Read what
+was written, or compare it with an older text. `stopbook check --help` says how to keep a
+checksum.
 
   -o TEXT, --output TEXT   where the names go; without it standard output
   --empty                  write an empty text where no name is left

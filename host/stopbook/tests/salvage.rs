@@ -222,6 +222,34 @@ fn bytes_that_are_no_text_are_escaped_as_in_a_plain_list() {
 }
 
 #[test]
+fn a_damaged_letter_is_not_noticed_without_a_checksum() {
+    // One bit of one letter: Marina becomes Marine.
+    let mut card = EXAMPLE.to_vec();
+    assert_eq!(card[9], b'a');
+    card[9] ^= 1 << 2;
+    let folder = Folder::with("mar.book", &card);
+    let ran = folder.run(&["check", "mar.book"]);
+    ran.assert(
+        0,
+        "mar.book is a plain book: 3 names in blocks of 2, 4 nodes, 93 bytes\n",
+    );
+    let ran = folder.run(&["salvage", "mar.book"]);
+    assert_eq!((ran.status, ran.out()), (0, "Mar\nMarine\nMarket Square\n"));
+    assert_eq!(
+        ran.err,
+        "stopbook: mar.book: kept: 3 names in 2 blocks; lost: nothing\n"
+    );
+    // So the help of both says it, and what to do.
+    for command in ["check", "salvage"] {
+        let ran = folder.run(&[command, "--help"]);
+        assert!(ran.out().contains("A book has no checksum"), "{command}");
+        assert!(ran.out().contains("Marine of"), "{command}");
+    }
+    let ran = folder.run(&["check", "--help"]);
+    assert!(ran.out().contains("sha256sum --check"));
+}
+
+#[test]
 fn a_book_is_built_from_what_is_left() {
     let folder = with_stops();
     let ran = folder.run(&["salvage", "sound.book", "-o", "left.txt"]);
