@@ -48,6 +48,14 @@ blocks() {
 awk '/^```/ { inside = !inside; if (inside && $0 == "```") bad = 1 } !inside && /^    [^ ]/ { bad = 1 } END { exit bad }' README.md ||
     fail "README.md has a block that is not marked as sh, c, rust or toml"
 
+# Whether a command wants objcopy, or what that has made.
+wants_objcopy() {
+    case $1 in
+    objcopy* | *libtransit.a* | ./renamed*) return 0 ;;
+    *) return 1 ;;
+    esac
+}
+
 # Whether a command is only looked at.
 takes_long() {
     case $1 in
@@ -82,10 +90,13 @@ blocks sh "$work/block" .sh
 } | sed -e 's/  *#.*$//' -e '/^$/d' >"$work/commands"
 run=0
 looked=0
+left_out=0
 while IFS= read -r command; do
     if takes_long "$command"; then
         looked=$((looked + 1))
         look_at "$command" || fail "README.md has the command $command, which is not there or has no --help"
+    elif wants_objcopy "$command" && ! command -v objcopy >/dev/null; then
+        left_out=$((left_out + 1))
     elif [ "$command" = 'set -eu' ] || [ -n "$archive" ]; then
         [ "$command" = 'set -eu' ] || run=$((run + 1))
         printf 'echo %q\n%s\n' "\$ $command" "$command"
@@ -99,6 +110,7 @@ PATH=$work/kit/bin:$PATH bash "$work/walk" >"$work/log" 2>&1 || {
 left=$(git status --porcelain)
 [ -z "$left" ] || fail "README.md's commands write what git does not ignore: $left"
 echo "README.md: $run commands run, $looked looked at"
+[ "$left_out" = 0 ] || echo "README.md: $left_out commands left out, since there is no objcopy here"
 
 # The samples in C.
 blocks c "$work/sample" .c

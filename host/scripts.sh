@@ -165,7 +165,7 @@ packed() {
 unseen="./test was not seen to pass for this commit"
 mkdir -p "$clone/target"
 try "$work/cargo:$with" ./package && packed "$commit" "$unseen" "without a gate"
-for file in PACKAGE.txt SHA256SUMS CHANGELOG.md LICENSE bin/stopbook docs/FORMAT.md docs/STATEMENTS.md docs/TRUST.md examples/stops.c include/mistrogu.h lib/libbook.a; do
+for file in PACKAGE.txt SHA256SUMS CHANGELOG.md LICENSE bin/stopbook docs/FORMAT.md docs/STATEMENTS.md docs/TRUST.md examples/renamed.c examples/stops.c include/mistrogu.h lib/libbook.a; do
     [ -s "$packed/$file" ] || fail "the package has no $file"
     [ "$file" = SHA256SUMS ] || grep -qF "  $file" "$packed/SHA256SUMS" || fail "$file has no checksum"
 done

@@ -73,6 +73,21 @@
  * C++ compiler does by itself. It keeps nothing between calls, asks for no heap,
  * and calls memcpy and memset and nothing else, so several threads may call at
  * a time.
+ *
+ * OTHER NAMES FOR THE CALLS
+ *
+ * The calls have no prefix. A guest may have a function of the same name, such as a
+ * list_merge of its own, and the two can't be linked. Then make a copy of the
+ * archive in which each call has a prefix, here transit_:
+ *
+ *     sed -n 's/.* MISTROGU_CALL(\(.*\))($/\1 transit_\1/p' mistrogu.h > renames.txt
+ *     objcopy --redefine-syms=renames.txt libbook.a libtransit.a
+ *
+ * The first command writes a line for each call, with its old and its new name. Don't
+ * use --prefix-symbols: it renames memcpy and memset, too. Compile the guest with
+ * -DMISTROGU_PREFIX=transit_: this header then declares transit_list_merge in the
+ * place of list_merge, and so on, and the names without the prefix are free.
+ * examples/renamed.c is such a guest. The code stays as it was proved.
  */
 #ifndef MISTROGU_H
 #define MISTROGU_H
@@ -177,6 +192,15 @@ struct mistrogu_head {
     size_t length;
 };
 
+/* The name of a call: its own or, where MISTROGU_PREFIX is defined, behind that. */
+#if defined(MISTROGU_PREFIX)
+#define MISTROGU_GLUED(prefix, name) prefix##name
+#define MISTROGU_BEHIND(prefix, name) MISTROGU_GLUED(prefix, name)
+#define MISTROGU_CALL(name) MISTROGU_BEHIND(MISTROGU_PREFIX, name)
+#else
+#define MISTROGU_CALL(name) name
+#endif
+
 /* Lets a compiler that knows how warn of a null pointer. */
 #if defined(__GNUC__)
 #define MISTROGU_NEVER_NULL __attribute__((nonnull))
@@ -194,9 +218,9 @@ struct mistrogu_head {
  * Refused: 8; then, record by record, 5, 6, 7; then 9; then 4. Beside 5, 6 and 7
  * stands first the number of the record, counted from 0.
  */
-struct mistrogu_answer book_build(const uint8_t *list, size_t list_length,
-                                  size_t block,
-                                  uint8_t *room, size_t room_length)
+struct mistrogu_answer MISTROGU_CALL(book_build)(
+    const uint8_t *list, size_t list_length, size_t block,
+    uint8_t *room, size_t room_length)
     MISTROGU_NEVER_NULL;
 
 /*
@@ -209,9 +233,9 @@ struct mistrogu_answer book_build(const uint8_t *list, size_t list_length,
  * Accepted: (0, length of the book, 0).
  * Refused: as book_build.
  */
-struct mistrogu_answer book_build_folded(const uint8_t *list, size_t list_length,
-                                         size_t block,
-                                         uint8_t *room, size_t room_length)
+struct mistrogu_answer MISTROGU_CALL(book_build_folded)(
+    const uint8_t *list, size_t list_length, size_t block,
+    uint8_t *room, size_t room_length)
     MISTROGU_NEVER_NULL;
 
 /*
@@ -230,7 +254,8 @@ struct mistrogu_answer book_build_folded(const uint8_t *list, size_t list_length
  * Accepted: (0, number of names, block size).
  * Refused: 2.
  */
-struct mistrogu_answer book_check(const uint8_t *book, size_t book_length)
+struct mistrogu_answer MISTROGU_CALL(book_check)(
+    const uint8_t *book, size_t book_length)
     MISTROGU_NEVER_NULL;
 
 /*
@@ -241,9 +266,9 @@ struct mistrogu_answer book_check(const uint8_t *book, size_t book_length)
  * Accepted: (0, length of the name, 0).
  * Refused: 2, 3, 4.
  */
-struct mistrogu_answer book_read(const uint8_t *book, size_t book_length,
-                                 size_t position,
-                                 uint8_t *room, size_t room_length)
+struct mistrogu_answer MISTROGU_CALL(book_read)(
+    const uint8_t *book, size_t book_length, size_t position,
+    uint8_t *room, size_t room_length)
     MISTROGU_NEVER_NULL;
 
 /*
@@ -259,8 +284,9 @@ struct mistrogu_answer book_read(const uint8_t *book, size_t book_length,
  * Accepted: (0, position, 1) where there is one, else (0, 0, 0).
  * Refused: 2, 1.
  */
-struct mistrogu_answer book_exact(const uint8_t *book, size_t book_length,
-                                  const uint8_t *question, size_t question_length)
+struct mistrogu_answer MISTROGU_CALL(book_exact)(
+    const uint8_t *book, size_t book_length,
+    const uint8_t *question, size_t question_length)
     MISTROGU_NEVER_NULL;
 
 /*
@@ -269,8 +295,9 @@ struct mistrogu_answer book_exact(const uint8_t *book, size_t book_length,
  * Accepted: (0, their number, 0).
  * Refused: 2, 1.
  */
-struct mistrogu_answer book_place(const uint8_t *book, size_t book_length,
-                                  const uint8_t *question, size_t question_length)
+struct mistrogu_answer MISTROGU_CALL(book_place)(
+    const uint8_t *book, size_t book_length,
+    const uint8_t *question, size_t question_length)
     MISTROGU_NEVER_NULL;
 
 /*
@@ -280,8 +307,9 @@ struct mistrogu_answer book_place(const uint8_t *book, size_t book_length,
  * Accepted: (0, the question's place, how many names begin with it).
  * Refused: 2, 1.
  */
-struct mistrogu_answer book_range(const uint8_t *book, size_t book_length,
-                                  const uint8_t *question, size_t question_length)
+struct mistrogu_answer MISTROGU_CALL(book_range)(
+    const uint8_t *book, size_t book_length,
+    const uint8_t *question, size_t question_length)
     MISTROGU_NEVER_NULL;
 
 /*
@@ -302,8 +330,9 @@ struct mistrogu_answer book_range(const uint8_t *book, size_t book_length,
  * Accepted: (0, its position, how many leading bytes of the question to light).
  * Refused: 2, 1, 10.
  */
-struct mistrogu_answer book_nearest(const uint8_t *book, size_t book_length,
-                                    const uint8_t *question, size_t question_length)
+struct mistrogu_answer MISTROGU_CALL(book_nearest)(
+    const uint8_t *book, size_t book_length,
+    const uint8_t *question, size_t question_length)
     MISTROGU_NEVER_NULL;
 
 /*
@@ -315,8 +344,9 @@ struct mistrogu_answer book_nearest(const uint8_t *book, size_t book_length,
  * a book without names.
  * Refused: 2, 1.
  */
-struct mistrogu_answer book_width(const uint8_t *book, size_t book_length,
-                                  const uint8_t *question, size_t question_length)
+struct mistrogu_answer MISTROGU_CALL(book_width)(
+    const uint8_t *book, size_t book_length,
+    const uint8_t *question, size_t question_length)
     MISTROGU_NEVER_NULL;
 
 /*
@@ -330,10 +360,11 @@ struct mistrogu_answer book_width(const uint8_t *book, size_t book_length,
  * A row is refused: 11, 1, 10. Its answer row is then (that number, 0, 0), and
  * the other rows are answered as ever.
  */
-struct mistrogu_answer book_batch(const uint8_t *book, size_t book_length,
-                                  const uint8_t *questions, size_t questions_length,
-                                  const struct mistrogu_row *rows, size_t row_count,
-                                  struct mistrogu_answer *answers, size_t answer_count)
+struct mistrogu_answer MISTROGU_CALL(book_batch)(
+    const uint8_t *book, size_t book_length,
+    const uint8_t *questions, size_t questions_length,
+    const struct mistrogu_row *rows, size_t row_count,
+    struct mistrogu_answer *answers, size_t answer_count)
     MISTROGU_NEVER_NULL;
 
 /*
@@ -391,9 +422,10 @@ static inline size_t mistrogu_blocks_of(const uint8_t *card, size_t length)
  * Refused: 13; then 12 where there are other than as many report rows as blocks;
  * then 4. Neither the room nor a row is written to then.
  */
-struct mistrogu_answer book_salvage(const uint8_t *data, size_t data_length,
-                                    uint8_t *room, size_t room_length,
-                                    struct mistrogu_kept *report, size_t report_count)
+struct mistrogu_answer MISTROGU_CALL(book_salvage)(
+    const uint8_t *data, size_t data_length,
+    uint8_t *room, size_t room_length,
+    struct mistrogu_kept *report, size_t report_count)
     MISTROGU_NEVER_NULL;
 
 /*
@@ -412,9 +444,10 @@ struct mistrogu_answer book_salvage(const uint8_t *data, size_t data_length,
  * Refused: 5, 6 of the lists; then (7, 2000, 0) where the merged list would have
  * over 2,000 names; then 4.
  */
-struct mistrogu_answer list_merge(const uint8_t *first, size_t first_length,
-                                  const uint8_t *second, size_t second_length,
-                                  uint8_t *room, size_t room_length)
+struct mistrogu_answer MISTROGU_CALL(list_merge)(
+    const uint8_t *first, size_t first_length,
+    const uint8_t *second, size_t second_length,
+    uint8_t *room, size_t room_length)
     MISTROGU_NEVER_NULL;
 
 /*
@@ -424,8 +457,9 @@ struct mistrogu_answer list_merge(const uint8_t *first, size_t first_length,
  * Accepted: (0, 0, 0).
  * Refused: 5, 6 of the lists.
  */
-struct mistrogu_answer list_judge(const uint8_t *first, size_t first_length,
-                                  const uint8_t *second, size_t second_length)
+struct mistrogu_answer MISTROGU_CALL(list_judge)(
+    const uint8_t *first, size_t first_length,
+    const uint8_t *second, size_t second_length)
     MISTROGU_NEVER_NULL;
 
 /*
@@ -442,12 +476,16 @@ struct mistrogu_answer list_judge(const uint8_t *first, size_t first_length,
  * over them from their start, so it takes time as their bytes together do, and
  * to follow a merge to its end takes as many such calls as both have records.
  */
-struct mistrogu_head list_head(const uint8_t *first, size_t first_length,
-                               const uint8_t *second, size_t second_length,
-                               size_t passed_first, size_t passed_second)
+struct mistrogu_head MISTROGU_CALL(list_head)(
+    const uint8_t *first, size_t first_length,
+    const uint8_t *second, size_t second_length,
+    size_t passed_first, size_t passed_second)
     MISTROGU_NEVER_NULL;
 
 #undef MISTROGU_NEVER_NULL
+#undef MISTROGU_CALL
+#undef MISTROGU_BEHIND
+#undef MISTROGU_GLUED
 
 #ifdef __cplusplus
 }

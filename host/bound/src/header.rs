@@ -72,12 +72,13 @@ fn number(header: &str, name: &str) -> Result<u64, String> {
     value.parse().map_err(|error| format!("{name}: {error}"))
 }
 
-/// The calls that the header declares: each gives one of its structs.
+/// The calls that the header declares: each gives one of its structs, and has its
+/// name in a macro, which may put a prefix before it.
 fn declared(header: &str) -> Vec<&str> {
     let lines = header.lines();
     let structs = lines.filter_map(|line| line.strip_prefix("struct mistrogu_"));
     structs
-        .filter_map(|rest| Some(rest.split_once('(')?.0.split_once(' ')?.1))
+        .filter_map(|rest| Some(rest.split_once(" MISTROGU_CALL(")?.1.split_once(')')?.0))
         .collect()
 }
 
@@ -89,11 +90,12 @@ mod tests {
 #define MISTROGU_BUILD_STACK 1600
 #define MISTROGU_STACK 3200
 struct mistrogu_answer {
-struct mistrogu_answer book_build(const uint8_t *list, size_t list_length,
-struct mistrogu_answer book_build_folded(const uint8_t *list, size_t list_length,
-struct mistrogu_answer book_check(const uint8_t *book, size_t book_length)
-struct mistrogu_head list_head(const uint8_t *first, size_t first_length,
-                               const uint8_t *second, size_t second_length)
+struct mistrogu_answer MISTROGU_CALL(book_build)(
+    const uint8_t *list, size_t list_length,
+struct mistrogu_answer MISTROGU_CALL(book_build_folded)(
+struct mistrogu_answer MISTROGU_CALL(book_check)(
+struct mistrogu_head MISTROGU_CALL(list_head)(
+    const uint8_t *first, size_t first_length,
 ";
 
     /// What is said of bounds of the calls, of which both builds have one.

@@ -65,8 +65,9 @@ list_head:
 fn header(build: u64, others: u64) -> String {
     format!(
         "#define MISTROGU_BUILD_STACK {build}\n#define MISTROGU_STACK {others}\n\
-         struct mistrogu_answer book_build(void);\nstruct mistrogu_answer book_check(void);\n\
-         struct mistrogu_head list_head(void);\n"
+         struct mistrogu_answer MISTROGU_CALL(book_build)(void);\n\
+         struct mistrogu_answer MISTROGU_CALL(book_check)(void);\n\
+         struct mistrogu_head MISTROGU_CALL(list_head)(void);\n"
     )
 }
 
