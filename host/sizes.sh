@@ -7,7 +7,7 @@
 # Each call is linked alone, without what it does not reach (--gc-sections). Code is .text and .rodata; there is nothing in .data or .bss, and
 # the script fails where there is, or where something else than memcpy and memset is wanted. SSE counts the instructions that use xmm
 # registers. Aligned says whether some store or load of 16 bytes stops the processor where the stack pointer was no multiple of 16
-# when the call was made.
+# when the call was made. Red zone says whether something is kept below the stack pointer, where System V grants 128 bytes.
 #
 # Needs a linker and an objdump that know x86-64: those of binutils or LLVM, or what LD and OBJDUMP name.
 set -eu
@@ -93,13 +93,17 @@ row() {
         /%xmm/ { sse++ }
         /%[yz]mm/ { other++ }
         /(movaps|movapd|movdqa)[ \t].*\(%r/ { aligned++ }
-        END { printf "| %s | %s | %d | %s |\n", name, grouped(bytes), sse, aligned ? "yes" : "no"; exit other > 0 }' "$work/code" ||
+        /-(0x)?[0-9a-f]+\(%rsp/ { below++ }
+        END {
+            printf "| %s | %s | %d | %s | %s |\n", name, grouped(bytes), sse, aligned ? "yes" : "no", below ? "yes" : "no"
+            exit other > 0
+        }' "$work/code" ||
         fail "$name uses more than SSE"
 }
 
 table() {
-    echo "| Call | Code, bytes | SSE | Aligned |"
-    echo "|---|---:|---:|---|"
+    echo "| Call | Code, bytes | SSE | Aligned | Red zone |"
+    echo "|---|---:|---:|---|---|"
     local call
     for call in $calls; do
         row "\`$call\`" "$call"

@@ -67,6 +67,10 @@
  *   that are made to look so, take the most, 128 bytes for each level.
  *   docs/BENCHMARKS.md says which guest can call what. The numbers are read out of
  *   the compiled code, by `host/bound`, for all inputs.
+ * - An interrupt or signal handler that runs in the midst of a call leaves the 128
+ *   bytes below the stack pointer alone, the red zone of System V, gives back all
+ *   registers as they were, also xmm, and writes to nothing that is lent. In kernel
+ *   mode that takes a stack of its own for interrupts (docs/TRUST.md).
  *
  * The code is for x86-64 with the calling convention of System V (Linux and its
  * kin); there a struct of three words comes back through memory, which a C or
