@@ -1,4 +1,4 @@
--- `questions::ask` meets its contract: a law for each way out.
+-- `questions::ask` meets its contract: a law for each way out. Those of nearest are given their places, so that another test or number shows.
 -- Assumes nothing.
 use Prim.Native.Nat.{_≤_}
 use native.Mathlib.Omega.{arith}
@@ -12,6 +12,23 @@ use Rattle.questions.proofs.ask.Tie as tie
 short : (c : tie.Else1) → length (c .before .before .before .args .question .now) ≤ 200
 short c = omega arith
 
+-- nearest is asked of a book without names
+returns-2 : tie.Need-returns-2
+returns-2 c =
+    let none = c .before .before in
+    let shorter = none .before .before in
+    let known = shorter .before .before in
+    nearest-none _ _ _ _ (known .shared-slice-known .given) (known .before .pre) (short shorter) _ (c .refuse2 .ensures) (none .if2 .taken) (c .before .if3 .taken)
+
+-- nearest is answered
+returns-4 : tie.Need-returns-4
+returns-4 c =
+    let answer = c .before .before in
+    let some = answer .before in
+    let shorter = some .before .before in
+    let known = shorter .before .before in
+    ask-lit _ _ _ _ (known .shared-slice-known .given) (known .before .pre) (short shorter) (some .if2 .left) (answer .answer .ensures) (c .before .if4 .taken) (c .lit-part .ensures)
+
 pub ask-spec : {M : Type 1} → statement M
 ask-spec =
     tie.close
@@ -19,10 +36,10 @@ ask-spec =
     (λ c κs. search needs)
     (λ c. search ask-long)
     (λ c κs. search needs)
-    (λ c. search nearest-none)
+    returns-2
     (λ c κs. search needs)
     (λ c. search ask-none)
     (λ c κs. search askable)
     (λ c κs. search needs)
-    (λ c. search (ask-lit, short (c .before .before .before .before .before)))
+    returns-4
     (λ c. search (ask-some, short (c .before .before .before .before))))
