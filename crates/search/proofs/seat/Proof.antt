@@ -1,4 +1,4 @@
--- `search::seat` meets its contract: a law for each way out.
+-- `search::seat` meets its contract: a law for each way out. The first is given its places, so that a wrong rule shows.
 -- Assumes nothing.
 use Prim.Native.Nat.{_<_}
 use native.Mathlib.Omega.{arith}
@@ -9,7 +9,15 @@ use Rattle.search.proofs.seat.Tie as tie
 
 -- the question is greater
 returns : tie.Need-returns
-returns c = let below : c .before .before .before .before .before .before .before .before .before .before .args .spot .symbol < c .before .before .before .before .before .before .symbol-at .result = omega arith in search seat-before
+returns c =
+    let edge = c .before .before in
+    let names = edge .before .before in
+    let symbol = names .before .before in
+    let ruled = symbol .before in
+    let start = ruled .before .before .before in
+    let below : start .args .spot .symbol < symbol .symbol-at .result = omega arith in
+    seat-before (ruled .rule .result) (ruled .rule .ensures) (start .pre) (edge .before .depth-of .ensures) (names .before .first-of .ensures) (names .names-of .ensures) (edge .if1 .taken)
+    (symbol .symbol-at .ensures) below
 
 pub seat-spec : {M : Type 1} → statement M
 seat-spec =
