@@ -14,4 +14,8 @@ is-above-spec =
     (λ c. search needs)
     (λ c. search needs)
     (λ c κs. search needs)
-    (λ c. search below-by))
+    (λ c.
+    let long = c .before .before .before in
+    let start = long .before .before .before .before in
+    let a = start .args in
+    below-by (a .rule) (a .prev .now) (a .name .now) (a .shares) (start .pre) (long .before .if1 .left) (long .if2 .left) _ (c .is-higher .ensures)))
