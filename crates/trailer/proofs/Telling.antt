@@ -2,6 +2,7 @@
 --     trailer-told      the numbers that were read are those that the trailer tells
 --     rule-folded, rule-plain     the third byte of the mark tells the rule
 --     mark-kind, mark-own, unmarked     the back of the mark tells the kind; a kind's own; none of them
+--     mark-by           the back of the mark, by the rule that the code has
 --     trailer-is        eight numbers, the last two of which are the mark
 -- Assumes nothing.
 use Prim.Native.Nat.{ℕ, _+_, _-_, _*_, _≤_}
@@ -15,7 +16,7 @@ use Rattle.words.specs.Words.{Bytes, InBytes}
 use Rattle.format.specs.Book.{number, numbers, told, trailer, trailerSize}
 use Rattle.format.specs.Marks.{BookKind, FoldedBook, PlainBook, kindOf}
 use Rattle.numbers.proofs.Parts.{Held, held-bytes}
-use Rattle.symbols.specs.Rules.{byKind}
+use Rattle.symbols.specs.Rules.{byKind, kindBy}
 use Rattle.symbols.specs.declared.Rule.{Rule}
 use Rattle.symbols.specs.declared.Rule.the-variants.{Folded, Plain}
 use Rattle.trailer.specs.Trailer.{Trail, markBack, markFront, trailerIn}
@@ -54,6 +55,9 @@ unmarked b x e n m t = go (kindOf b) (e ∙ t .back)
     go : (κ : BookKind) → x ≡ markBack κ → ⊥
     go PlainBook h = n h
     go FoldedBook h = m h
+
+pub mark-by : (r arm : Rule) → r ≡ arm → markBack (kindBy arm) ≡ markBack (kindBy r)
+mark-by r arm e = ap (λ (x : Rule). markBack (kindBy x)) (sym e)
 
 pub trailer-is : (κ : BookKind) (part : Bytes) (n k s u m total back : ℕ) → back ≡ markBack κ
     → part ≡ numbers (n ∷ k ∷ s ∷ u ∷ m ∷ total ∷ markFront ∷ back ∷ []) → part ≡ trailer κ n k s u m total
