@@ -43,6 +43,6 @@ is-mapped-spec =
     (λ c. search needs)
     (λ c. search needs)
     (λ c κs. search needs)
-    (λ c. not-met (five (c .before)) (c .if3 .taken))
-    (λ c κs. table-ask (five (c .before)) (c .if3 .left))
+    (λ c. not-met (five (c .before)) (omega (arith, c .if3)))
+    (λ c κs. table-ask (five (c .before)) (omega (arith, c .if3)))
     (λ c. map-climbs (five (c .before .before)) (c .before .if3 .left) (search needs) (c .starts-rise .ensures)))

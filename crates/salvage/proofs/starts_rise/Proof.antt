@@ -25,12 +25,12 @@ bound-requires-2 c κs = let start = c .before .before .before .before .before i
 returns-2 : tie.Need-returns-2 Inv-loop μ-loop
 returns-2 c =
     let turn = c .before .before in
-    climbing-falls (turn .before .loop .inv) (turn .loop-test .taken) (c .before .bound2 .ensures) (c .if2 .taken)
+    climbing-falls (turn .before .loop .inv) (turn .loop-test .taken) (c .before .bound2 .ensures) (omega (arith, c .if2))
 
 loop-again : tie.Need-loop-again Inv-loop μ-loop
 loop-again c =
     let turn = c .before .before in
-    climbing-more (turn .before .loop .inv) (turn .loop-test .taken) (c .before .bound2 .ensures) (c .if2 .left)
+    climbing-more (turn .before .loop .inv) (turn .loop-test .taken) (c .before .bound2 .ensures) (omega (arith, c .if2))
 
 returns-3 : tie.Need-returns-3 Inv-loop μ-loop
 returns-3 c = climbing-done (c .before .loop .inv) (c .loop-test .left)
