@@ -1,5 +1,6 @@
 -- `inspect::is_leaf` meets its contract.
 -- Assumes nothing.
+use native.Mathlib.Omega.{arith}
 use borrow.Author.Needs.{needs}
 use Rattle.inspect.proofs.Fields.{leaf-depth, leaf-nodes, leaf-width}
 use Rattle.inspect.proofs.is_leaf.Statement.{statement}
@@ -12,8 +13,8 @@ is-leaf-spec =
     (λ c κs. search needs)
     (λ c κs. search needs)
     (λ c. search needs)
-    (λ c. leaf-depth _ _ _ _ _ (c .before .depth .ensures .0) (c .before .before .length-of .ensures .0) (c .if1 .taken))
+    (λ c. leaf-depth _ _ _ _ _ (c .before .depth .ensures .0) (c .before .before .length-of .ensures .0) (omega (arith, c .if1)))
     (λ c κs. search needs)
-    (λ c. leaf-width _ _ _ _ _ (c .before .before .before .depth .ensures .0) (c .before .before .before .before .length-of .ensures .0) _ (c .before .width .ensures .0) (c .if2 .taken))
+    (λ c. leaf-width _ _ _ _ _ (c .before .before .before .depth .ensures .0) (c .before .before .before .before .length-of .ensures .0) _ (c .before .width .ensures .0) (omega (arith, c .if2)))
     (λ c κs. search needs)
-    (λ c. leaf-nodes _ _ _ _ _ (c .before .before .before .before .depth .ensures .0) (c .before .before .before .before .before .length-of .ensures .0) _ (c .before .before .width .ensures .0) (c .before .before .before .if1 .left) (c .before .if2 .left) _ (c .nodes .ensures .0)))
+    (λ c. leaf-nodes _ _ _ _ _ (c .before .before .before .before .depth .ensures .0) (c .before .before .before .before .before .length-of .ensures .0) _ (c .before .before .width .ensures .0) (omega (arith, c .before .before .before .if1)) (omega (arith, c .before .if2)) _ (c .nodes .ensures .0)))
