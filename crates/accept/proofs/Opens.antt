@@ -5,16 +5,17 @@
 use Prim.Native.Nat.{ℕ, zero, suc, _*_, _+_, _-_, _<_, _≤_}
 use native.Mathlib.Omega.{arith}
 use mathlib.Core.Path.{_≡_, _∙_, ap, ap₂, refl, subst, sym}
-use mathlib.Core.List.{List, [], _++_, _∷_, map}
+use mathlib.Core.List.{List, [], _++_, _∷_}
 use lib.ListN.{drop, getD, length, length-append, take, take-append-drop}
 use lib.Seq.{drop-append-le, getD-drop, length-take-le, slice, take-at, take-length}
-use Rattle.words.specs.Words.{Bytes, InBytes, Rule, same, word}
+use Rattle.words.specs.Words.{Bytes, InBytes, Rule, same}
 use Rattle.words.proofs.Words.{same-refl, same-true}
-use Rattle.format.specs.Spans.{wordsOf}
-use Rattle.format.specs.Marks.{BookKind, FoldedBook, PlainBook, kindOf, markOf, ruleIn, ruleOf}
-use Rattle.format.specs.Book.{Book, blockPart, book, entryPart, nodePart, number, numbers, opened, trailer, trailerSize, namesOf, told}
-use Rattle.format.specs.Nodes.{Node, table}
-use Rattle.format.proofs.Book.{Fits, blocksAt, book-length, book-opened, fits-parts, from-nodes, from-trailer, kind-of-book, nodes-length, nodesAt, opened-book, parts-fits, read-field, records, trailerAt, trailerNumbers}
+use Rattle.format.specs.Spans.{isTable}
+use Rattle.format.specs.Kinds.{BookKind, FoldedBook, PlainBook, countIn, formOf, kindOf, markOf, ruleIn, ruleOf, tableIn}
+use Rattle.format.specs.Layout.{Layout}
+use Rattle.format.specs.Book.{Book, blockPart, book, entryPart, number, numbers, opened, trailer, trailerSize, namesOf, told}
+use Rattle.format.proofs.Book.{Fits, blocksAt, book-length, book-opened, fits-parts, from-nodes, from-trailer, kind-of-book, full-count, full-length, nodesAt, opened-book, parts-fits, read-field, trailerAt, trailerNumbers}
+use Rattle.format.proofs.BookKinds.{kind-layout}
 use Rattle.format.proofs.Book as layout
 use Rattle.format.proofs.Records.{sound-few}
 use Rattle.format.proofs.Numbers.{numbers-are}
@@ -23,7 +24,6 @@ use Rattle.trailer.proofs.Telling.{trailer-is as numbers-trailer}
 use Rattle.streams.specs.Runs.{Has}
 use Rattle.streams.proofs.Laid.{book-stands}
 use Rattle.streams.proofs.Walks.{ends-at, has-length, has-names, has-sound}
-use Rattle.inspect.specs.Check.{isTable}
 use Rattle.accept.specs.Parts.{Parts}
 
 slice-drop : (b : Bytes) (u e : ℕ) → u ≤ e → e ≤ length b → drop u b ≡ slice u e b ++ drop e b
@@ -34,7 +34,7 @@ slice-drop b u e h k =
 
 -- the mark is two numbers more
 trailer-is : (b : Bytes) → InBytes b → (n k s u m t : ℕ) → Trail b → told b 0 ≡ n → told b 1 ≡ k → told b 2 ≡ s → told b 3 ≡ u → told b 4 ≡ m → told b 5 ≡ t
-    → drop (length b - trailerSize) b ≡ trailer (kindOf b) n k s u m t
+    → drop (length b - trailerSize) b ≡ trailer (markOf (kindOf b)) n k s u m t
 trailer-is b bytes n k s u m t h en ek es eu em et =
     ap (drop (length b - trailerSize)) (sym (take-length b))
     ∙ numbers-trailer (kindOf b) _ n k s u m t _ refl
@@ -54,57 +54,67 @@ trailer-is b bytes n k s u m t h en ek es eu em et =
 -- ---- parts that pass
 
 module _ (b : Bytes) (bytes : InBytes b) (p : Parts b) where
+  abbrev trail : Trail b
+  trail = p .framed .trail
+
+  abbrev stand : Has (ruleIn b) b (told b 1) (told b 2) (told b 3) (told b 0) (told b 2) 0 []
+  stand = p .framed .entries
+
+  y : Layout (ruleIn b) (formOf (kindOf b)) (markOf (kindOf b))
+  y = kind-layout (kindOf b)
+
   abbrev k : ℕ
   k = told b 1
 
   abbrev xs : List Bytes
-  xs = p .entries .names
+  xs = p .framed .entries .names
 
-  abbrev rs : List Node
-  rs = table (map (word (ruleIn b)) xs)
+  abbrev ns : Bytes
+  ns = numbers (tableIn (formOf (kindOf b)) (ruleIn b) xs)
 
   abbrev inside : told b 2 ≤ length b
-  inside = omega (arith, p .trail .total, p .trail .order)
+  inside = omega (arith, p .framed .trail .total, p .framed .trail .order)
 
   names-here : namesOf b ≡ xs
-  names-here = has-names (ruleIn b) b k (told b 2) (told b 3) (told b 0) inside (p .entries) (p .trail .low) refl
+  names-here = has-names (ruleIn b) b k (told b 2) (told b 3) (told b 0) inside (p .framed .entries) (p .framed .trail .low) refl
 
-  nodes-are : nodePart rs ≡ slice (told b 3) (length b - trailerSize) b
-  unfolding isTable wordsOf
+  nodes-are : ns ≡ slice (told b 3) (length b - trailerSize) b
+  unfolding isTable
   nodes-are =
-      ap (λ (ys : List Bytes). nodePart (table (map (word (ruleIn b)) ys))) (sym names-here)
-      ∙ same-true (nodePart (table (wordsOf (ruleIn b) b))) (slice (told b 3) (length b - trailerSize) b) (p .nodes)
+      ap (λ (zs : List Bytes). numbers (tableIn (formOf (kindOf b)) (ruleIn b) zs)) (sym names-here)
+      ∙ same-true (numbers (tableIn (formOf (kindOf b)) (ruleIn b) (namesOf b))) (slice (told b 3) (length b - trailerSize) b) (p .nodes)
 
-  table-is : drop (told b 3) b ≡ nodePart rs ++ drop (length b - trailerSize) b
+  table-is : drop (told b 3) b ≡ ns ++ drop (length b - trailerSize) b
   table-is =
-      slice-drop b (told b 3) (length b - trailerSize) (omega (arith, p .trail .total)) (omega arith)
-      ∙ ap (λ (y : Bytes). y ++ drop (length b - trailerSize) b) (sym nodes-are)
+      slice-drop b (told b 3) (length b - trailerSize) (omega (arith, p .framed .trail .total)) (omega arith)
+      ∙ ap (λ (z : Bytes). z ++ drop (length b - trailerSize) b) (sym nodes-are)
 
   pub parts-book : book (kindOf b) k xs ≡ b
   unfolding blockPart trailer
   parts-book =
-      let l1 : blocksAt (kindOf b) k xs ≡ told b 2 = has-length (ruleIn b) b k (told b 2) (told b 3) (told b 0) inside (p .entries) in
+      let l1 : blocksAt y k xs ≡ told b 2 = has-length (ruleIn b) b k (told b 2) (told b 3) (told b 0) inside stand in
       let l2 : told b 2 + length (blockPart k xs) ≡ told b 3 =
-      ends-at b (blockPart k xs) (told b 2) (told b 3) inside (omega (arith, p .trail .total)) (p .entries .rest .places) in
-      let l3 : told b 3 + length (nodePart rs) ≡ length b - trailerSize =
-      ends-at b (nodePart rs) (told b 3) (length b - trailerSize) (omega (arith, p .trail .total)) (omega arith) table-is in
-      let t : drop (length b - trailerSize) b ≡ numbers (trailerNumbers (kindOf b) k xs) ++ markOf (kindOf b) =
-      trailer-is b bytes (length xs) k (blocksAt (kindOf b) k xs) (nodesAt (kindOf b) k xs) (length rs) (trailerAt (kindOf b) k xs + trailerSize) (p .trail)
-      (sym (p .entries .count)) refl (sym l1) (omega arith) (omega (arith, nodes-length rs, p .trail .total))
-      (omega (arith, p .trail .whole, p .trail .long)) in
-      layout.book-parts (kindOf b) k xs
-      ∙ sym (p .entries .rest .entries ∙ ap (λ (y : Bytes). entryPart k xs ++ y) (p .entries .rest .places
-      ∙ ap (λ (y : Bytes). blockPart k xs ++ y) (table-is ∙ ap (λ (y : Bytes). nodePart rs ++ y) t)))
+      ends-at b (blockPart k xs) (told b 2) (told b 3) inside (omega (arith, trail .total)) (stand .rest .places) in
+      let l3 : told b 3 + length ns ≡ length b - trailerSize =
+      ends-at b ns (told b 3) (length b - trailerSize) (omega (arith, trail .total)) (omega arith) table-is in
+      let count : told b 4 ≡ countIn (formOf (kindOf b)) (ruleIn b) xs = full-count (kindOf b) (ruleIn b) xs (told b 4) (omega (arith, trail .total)) in
+      let t : drop (length b - trailerSize) b ≡ numbers (trailerNumbers y k xs) ++ markOf (kindOf b) =
+      trailer-is b bytes (length xs) k (blocksAt y k xs) (nodesAt y k xs) (countIn (formOf (kindOf b)) (ruleIn b) xs) (trailerAt y k xs + trailerSize) trail
+      (sym (stand .count)) refl (sym l1) (omega arith) count
+      (omega (arith, trail .whole, trail .long)) in
+      layout.book-parts y k xs
+      ∙ sym (stand .rest .entries ∙ ap (λ (z : Bytes). entryPart k xs ++ z) (stand .rest .places
+      ∙ ap (λ (z : Bytes). blockPart k xs ++ z) (table-is ∙ ap (λ (z : Bytes). ns ++ z) t)))
 
-  pub parts-opened : opened (kindOf b) b ≡ Book k (namesOf b)
+  pub parts-opened : opened b ≡ Book (kindOf b) k (namesOf b)
   parts-opened =
       let f : Fits (kindOf b) k xs = record {
-        low = p .trail .low;
-        high = p .trail .high;
-        sound = has-sound (ruleIn b) b k (told b 2) (told b 3) (told b 0) inside (p .entries) (p .trail .few);
-        short = omega (arith, ap length parts-book, p .trail .short);
+        low = trail .low;
+        high = trail .high;
+        sound = has-sound (ruleIn b) b k (told b 2) (told b 3) (told b 0) inside stand (trail .few);
+        short = omega (arith, ap length parts-book, trail .short);
       } in
-      ap (opened (kindOf b)) (sym parts-book) ∙ opened-book (kindOf b) k xs (parts-fits (kindOf b) k xs f) ∙ ap (Book k) (sym names-here)
+      ap opened (sym parts-book) ∙ opened-book (kindOf b) k xs (parts-fits k xs f) ∙ ap (Book (kindOf b) k) (sym names-here)
 
 -- ---- a book's parts
 
@@ -133,59 +143,64 @@ mark-numbers PlainBook n k s u m t = (refl, refl)
 mark-numbers FoldedBook n k s u m t = (refl, refl)
 
 module _ (κ : BookKind) (k : ℕ) (xs : List Bytes) (f : Fits κ k xs) where
+  z : Layout (ruleOf κ) (formOf κ) (markOf κ)
+  z = kind-layout κ
+
   abbrev B : Bytes
   B = book κ k xs
 
-  abbrev ns : Bytes
-  ns = nodePart (records κ k xs)
+  abbrev table : Bytes
+  table = numbers (tableIn (formOf κ) (ruleOf κ) xs)
 
   abbrev end : Bytes
-  end = numbers (trailerNumbers κ k xs) ++ markOf κ
+  end = numbers (trailerNumbers z k xs) ++ markOf κ
 
-  at-end : length B - trailerSize ≡ trailerAt κ k xs
-  at-end = omega (arith, book-length κ k xs)
+  at-end : length B - trailerSize ≡ trailerAt z k xs
+  at-end = omega (arith, book-length z k xs)
 
   -- number j of the trailer, the mark's two among them
   marked : (j : ℕ) → told B j ≡ number end (2 * j)
-  marked j = number-at B (length B - trailerSize) (2 * j) ∙ ap (λ (s : Bytes). number s (2 * j)) (ap (λ (x : ℕ). drop x B) at-end ∙ from-trailer κ k xs)
+  marked j = number-at B (length B - trailerSize) (2 * j) ∙ ap (λ (s : Bytes). number s (2 * j)) (ap (λ (x : ℕ). drop x B) at-end ∙ from-trailer z k xs)
 
-  here : Has (ruleOf κ) B k (blocksAt κ k xs) (nodesAt κ k xs) (length xs) (blocksAt κ k xs) 0 []
-  here = record { names = xs; count = refl; rest = book-stands κ k xs f }
+  here : Has (ruleOf κ) B k (blocksAt z k xs) (nodesAt z k xs) (length xs) (blocksAt z k xs) 0 []
+  here = record { names = xs; count = refl; rest = book-stands z k xs f }
 
   pub book-passes : Parts B
-  unfolding isTable wordsOf here
+  unfolding isTable here
   book-passes =
       let own : kindOf B ≡ κ = kind-of-book κ k xs in
-      let marks = mark-numbers κ (length xs) k (blocksAt κ k xs) (nodesAt κ k xs) (length (records κ k xs)) (trailerAt κ k xs + trailerSize) in
-      let tn : told B 0 ≡ length xs = read-field κ k xs f 0 (omega arith) in
-      let tk : told B 1 ≡ k = read-field κ k xs f 1 (omega arith) in
-      let ts : told B 2 ≡ blocksAt κ k xs = read-field κ k xs f 2 (omega arith) in
-      let tu : told B 3 ≡ nodesAt κ k xs = read-field κ k xs f 3 (omega arith) in
-      let tm : told B 4 ≡ length (records κ k xs) = read-field κ k xs f 4 (omega arith) in
-      let tt : told B 5 ≡ trailerAt κ k xs + trailerSize = read-field κ k xs f 5 (omega arith) in
-      let l : length B ≡ trailerAt κ k xs + trailerSize = book-length κ k xs in
-      let nm : namesOf B ≡ xs = has-names (ruleOf κ) B k (blocksAt κ k xs) (nodesAt κ k xs) (length xs) (omega arith) here (f .low) ts in
+      let marks = mark-numbers κ (length xs) k (blocksAt z k xs) (nodesAt z k xs) (countIn (formOf κ) (ruleOf κ) xs) (trailerAt z k xs + trailerSize) in
+      let tn : told B 0 ≡ length xs = read-field z k xs f 0 (omega arith) in
+      let tk : told B 1 ≡ k = read-field z k xs f 1 (omega arith) in
+      let ts : told B 2 ≡ blocksAt z k xs = read-field z k xs f 2 (omega arith) in
+      let tu : told B 3 ≡ nodesAt z k xs = read-field z k xs f 3 (omega arith) in
+      let tm : told B 4 ≡ countIn (formOf κ) (ruleOf κ) xs = read-field z k xs f 4 (omega arith) in
+      let tt : told B 5 ≡ trailerAt z k xs + trailerSize = read-field z k xs f 5 (omega arith) in
+      let l : length B ≡ trailerAt z k xs + trailerSize = book-length z k xs in
+      let nm : namesOf B ≡ xs = has-names (ruleOf κ) B k (blocksAt z k xs) (nodesAt z k xs) (length xs) (omega arith) here (f .low) ts in
       record {
-        trail = record {
-          long = omega arith;
-          short = f .short;
-          few = omega (arith, tn, sound-few (ruleOf κ) xs (f .sound));
-          low = omega (arith, tk, f .low);
-          high = omega (arith, tk, f .high);
-          order = omega (arith, ts, tu);
-          total = omega (arith, tu, tm, l, nodes-length (records κ k xs));
-          whole = omega (arith, tt, l);
-          front = marked 6 ∙ marks .0;
-          back = marked 7 ∙ marks .1 ∙ ap markBack (sym own);
+        framed = record {
+          trail = record {
+            long = omega arith;
+            short = f .short;
+            few = omega (arith, tn, sound-few (ruleOf κ) xs (f .sound));
+            low = omega (arith, tk, f .low);
+            high = omega (arith, tk, f .high);
+            order = omega (arith, ts, tu);
+            total = omega (arith, tu, tm, l, full-length κ (ruleOf κ) xs);
+            whole = omega (arith, tt, l);
+            front = marked 6 ∙ marks .0;
+            back = marked 7 ∙ marks .1 ∙ ap markBack (sym own);
+          };
+          entries = subst (λ (μ : BookKind). Has (ruleOf μ) B (told B 1) (told B 2) (told B 3) (told B 0) (told B 2) 0 []) (sym own)
+              (has-at (ruleOf κ) B k (told B 1) (blocksAt z k xs) (told B 2) (nodesAt z k xs) (told B 3) (length xs) (told B 0) (sym tk) (sym ts) (sym tu) (sym tn) here);
         };
-        entries = subst (λ (z : BookKind). Has (ruleOf z) B (told B 1) (told B 2) (told B 3) (told B 0) (told B 2) 0 []) (sym own)
-            (has-at (ruleOf κ) B k (told B 1) (blocksAt κ k xs) (told B 2) (nodesAt κ k xs) (told B 3) (length xs) (told B 0) (sym tk) (sym ts) (sym tu) (sym tn) here);
         nodes =
-            ap₂ (λ (y z : Bytes). same y z) (ap₂ (λ (z : BookKind) (ys : List Bytes). nodePart (table (map (word (ruleOf z)) ys))) own nm)
+            ap₂ (λ (v w : Bytes). same v w) (ap₂ (λ (μ : BookKind) (ys : List Bytes). numbers (tableIn (formOf μ) (ruleOf μ) ys)) own nm)
             (ap (λ (x : ℕ). slice x (length B - trailerSize) B) tu
-            ∙ cut-slice B ns end (nodesAt κ k xs) (length B - trailerSize) (omega arith) (omega arith) (from-nodes κ k xs) (ap (λ (x : ℕ). drop x B) at-end ∙ from-trailer κ k xs))
-            ∙ same-refl ns;
+            ∙ cut-slice B table end (nodesAt z k xs) (length B - trailerSize) (omega arith) (omega arith) (from-nodes z k xs) (ap (λ (x : ℕ). drop x B) at-end ∙ from-trailer z k xs))
+            ∙ same-refl table;
       }
 
-pub opened-parts : (κ : BookKind) (b : Bytes) (k : ℕ) (xs : List Bytes) → opened κ b ≡ Book k xs → Parts b
-opened-parts κ b k xs e = let o = book-opened κ b k xs e in subst Parts (o .1) (book-passes κ k xs (fits-parts κ k xs (o .0)))
+pub opened-parts : (κ : BookKind) (b : Bytes) (k : ℕ) (xs : List Bytes) → opened b ≡ Book κ k xs → Parts b
+opened-parts κ b k xs e = let o = book-opened κ b k xs e in subst Parts (o .1) (book-passes κ k xs (fits-parts k xs (o .0)))

@@ -2,7 +2,6 @@
 // table.
 ghost use mathlib.Core.Path.{_≡_};
 ghost use Rattle.format.specs.Book.{opened};
-ghost use Rattle.format.specs.Marks.{kindOf};
 ghost use Rattle.format.specs.Outcomes.{checkOf};
 ghost use Rattle.trailer.specs.Trailer.{Trail};
 ghost use Rattle.accept.specs.Parts.{PartsSay, checkOn, checkedAs};
@@ -49,7 +48,7 @@ pub fn is_book(book: &[u8]) -> bool
 
 // Whether bytes are a book; then its trailer is read once for all who go on.
 pub fn check_book(book: &[u8]) -> Checked
-    ensures { λ r. ⌜ (checkedAs r ≡ checkOf (opened (kindOf (now (book .entry))) (now (book .entry)))) × (r ≡ checkOn (now (book .entry)) (opened (kindOf (now (book .entry))) (now (book .entry)))) ⌝ }
+    ensures { λ r. ⌜ (checkedAs r ≡ checkOf (opened (now (book .entry)))) × (r ≡ checkOn (now (book .entry)) (opened (now (book .entry)))) ⌝ }
 {
     if is_book(book) {
         Checked::Sound(trailer::read(book))

@@ -13,18 +13,18 @@ use mathlib.Core.Path.{_≡_, refl}
 use mathlib.Core.List.{List, [], _∷_, _++_, map}
 use lib.ListN.{drop, length, replicate, set, take}
 use Rattle.words.specs.Words.{Bytes, begins, less, same, shared}
-use Rattle.format.specs.Book.{allFields, blockPart, book, entryPart, fits, joined, namesOf, nodePart, number, numbers, opened, trailer}
+use Rattle.format.specs.Book.{blockPart, bookBy, entryPart, fitsBy, isBookBy, joined, namesOf, number, numbers, opened, trailer}
 use Rattle.format.specs.Entries.{blocks, blocksFrom, decode, decodeFrom, entry, front, offsets}
 use Rattle.format.specs.Example.{exampleBy2, exampleBy4, text}
-use Rattle.format.specs.Marks.{PlainBook, kindOf}
+use Rattle.format.specs.Kinds.{PlainBook}
 use Rattle.format.specs.Merging.{kept, merged}
-use Rattle.format.specs.Nodes.{depth, glue, groups, rowBy, table, tableWithin}
+use Rattle.format.specs.Nodes.{allFields, depth, glue, groups, rowBy, table, tableWithin}
 use Rattle.format.specs.Outcomes.{Answer, Written, checkOf, given, numbered, refused}
 use Rattle.format.specs.Records.{encode, readFrom, readList, rising, sound}
 use Rattle.format.specs.Salvage.{boundsFrom, climbs, judgedAlone, mapped, spansFrom}
 use Rattle.format.specs.Spans.{nodeTable}
 use Rattle.format.specs.Widths.{widest}
-use Rattle.answers.specs.Calls.{Batched, Row, batch, batchOf, build, builtFrom, check, question, questionOf, readBack, readBackOf, rowAnswer}
+use Rattle.answers.specs.Calls.{Batched, Row, batch, batchOf, build, buildBy, builtFrom, check, namesAnswer, question, questionOf, readBack, readBackOf, rowAnswer}
 use Rattle.answers.specs.Heads.{Head, headOf, lesserHead}
 use Rattle.answers.specs.Lit.{lit, mayEnd}
 use Rattle.answers.specs.Merging.{judgeLists, mergeLists, ofReadings, putNames}
@@ -72,14 +72,14 @@ builds =
     ∷ (mar ++ (marina ++ market), 2, 92, (4, 0)) ∷ []
 
 pub build-refusals : map (λ (c : BuildRow). build PlainBook (c .0) (c .1) (lent (c .2))) builds ≡ map (λ (c : BuildRow). record { answer = numbered (c .3 .0) (c .3 .1); room = lent (c .2) }) builds
-unfolding shared less depth glue groups widest rowBy tableWithin nodeTable table numbers joined entry blocksFrom front blocks offsets entryPart blockPart allFields nodePart trailer book encode readFrom readList builtFrom build
+unfolding shared less depth glue groups widest rowBy tableWithin nodeTable table numbers joined entry blocksFrom front blocks offsets entryPart blockPart allFields trailer bookBy encode readFrom readList builtFrom buildBy
 build-refusals = refl
 
 -- ---- check: 2
 
-pub check-refusals : map (λ (s : Bytes). check (kindOf s) s) (broken ∷ [] ∷ take 92 exampleBy2 ∷ drop 1 exampleBy2 ∷ (exampleBy2 ++ (0 ∷ [])) ∷ set noNames 2 0 ∷ set noNames 2 65 ∷ noNames ∷ exampleBy2 ∷ exampleBy4 ∷ [])
+pub check-refusals : map (λ (s : Bytes). check s) (broken ∷ [] ∷ take 92 exampleBy2 ∷ drop 1 exampleBy2 ∷ (exampleBy2 ++ (0 ∷ [])) ∷ set noNames 2 0 ∷ set noNames 2 65 ∷ noNames ∷ exampleBy2 ∷ exampleBy4 ∷ [])
     ≡ refused 2 ∷ refused 2 ∷ refused 2 ∷ refused 2 ∷ refused 2 ∷ refused 2 ∷ refused 2 ∷ given 0 2 ∷ given 3 2 ∷ given 3 4 ∷ []
-unfolding shared less begins same depth glue groups widest rowBy tableWithin nodeTable table numbers joined entry blocksFrom front blocks offsets entryPart blockPart allFields nodePart trailer book decodeFrom decode number rising sound fits namesOf opened checkOf check
+unfolding shared less begins same depth glue groups widest rowBy tableWithin nodeTable table numbers joined entry blocksFrom front blocks offsets entryPart blockPart allFields trailer bookBy decodeFrom decode number rising sound fitsBy namesOf isBookBy opened checkOf check
 check-refusals = refl
 
 -- ---- read back: 2, 3, 4
@@ -93,8 +93,8 @@ reads =
     (broken, 0, 99, 2) ∷ (broken, 3, 99, 2) ∷ (broken, 0, 0, 2) ∷ (exampleBy2, 3, 99, 3) ∷ (exampleBy2, 70000, 99, 3) ∷ (exampleBy2, 3, 0, 3) ∷ (noNames, 0, 99, 3)
     ∷ (exampleBy2, 2, 12, 4) ∷ (exampleBy2, 0, 0, 4) ∷ []
 
-pub read-refusals : map (λ (c : ReadRow). readBack (kindOf (c .0)) (c .0) (c .1) (lent (c .2))) reads ≡ map (λ (c : ReadRow). record { answer = refused (c .3); room = lent (c .2) }) reads
-unfolding shared less begins same depth glue groups widest rowBy tableWithin nodeTable table numbers joined entry blocksFrom front blocks offsets entryPart blockPart allFields nodePart trailer book decodeFrom decode number rising sound fits namesOf opened readBackOf readBack
+pub read-refusals : map (λ (c : ReadRow). readBack (c .0) (c .1) (lent (c .2))) reads ≡ map (λ (c : ReadRow). record { answer = refused (c .3); room = lent (c .2) }) reads
+unfolding shared less begins same depth glue groups widest rowBy tableWithin nodeTable table numbers joined entry blocksFrom front blocks offsets entryPart blockPart allFields trailer bookBy decodeFrom decode number rising sound fitsBy namesOf isBookBy opened readBackOf readBack
 read-refusals = refl
 
 -- ---- a question: 2, 1, 10
@@ -112,8 +112,8 @@ asks =
     ∷ ((1, noNames, text "Mar"), given 0 0) ∷ ((2, noNames, text "Mar"), given 0 0) ∷ ((3, noNames, text "Mar"), given 0 0) ∷ ((5, noNames, text "Mar"), given 0 0)
     ∷ ((2, exampleBy2, replicate 200 77), given 0 0) ∷ []
 
-pub question-refusals : map (λ (c : QuestionRow × Answer). question (kindOf (c .0 .1)) (c .0 .0) (c .0 .1) (c .0 .2)) asks ≡ map (λ (c : QuestionRow × Answer). c .1) asks
-unfolding shared less begins same depth glue groups widest rowBy tableWithin nodeTable table numbers joined entry blocksFrom front blocks offsets entryPart blockPart allFields nodePart trailer book decodeFrom decode number rising sound fits namesOf opened childOf reachWithin reached count exactFrom exact place range width nearest ask mayEnd lit answer questionOf question
+pub question-refusals : map (λ (c : QuestionRow × Answer). question (c .0 .0) (c .0 .1) (c .0 .2)) asks ≡ map (λ (c : QuestionRow × Answer). c .1) asks
+unfolding shared less begins same depth glue groups widest rowBy tableWithin nodeTable table numbers joined entry blocksFrom front blocks offsets entryPart blockPart allFields trailer bookBy decodeFrom decode number rising sound fitsBy namesOf isBookBy opened childOf reachWithin reached count exactFrom exact place range width nearest ask mayEnd lit answer namesAnswer questionOf question
 question-refusals = refl
 
 -- ---- batch: 12, 2; then for each row 11, 1, 10
@@ -136,13 +136,13 @@ BatchRow = Bytes × ℕ × ℕ × ℕ
 abbrev pub batches : List BatchRow
 batches = (exampleBy2, 65, 65, 12) ∷ (exampleBy2, 2, 1, 12) ∷ (exampleBy2, 1, 2, 12) ∷ (exampleBy2, 0, 1, 12) ∷ (broken, 65, 65, 12) ∷ (broken, 2, 1, 12) ∷ (broken, 1, 1, 2) ∷ (broken, 0, 0, 2) ∷ (broken, 64, 64, 2) ∷ []
 
-pub batch-refusals : map (λ (c : BatchRow). batch (kindOf (c .0)) (c .0) buffer (replicate (c .1) (row 1 0 6)) (leftRows (c .2))) batches ≡ map (λ (c : BatchRow). record { answer = refused (c .3); rows = leftRows (c .2) }) batches
-unfolding shared less begins same depth glue groups widest rowBy tableWithin nodeTable table numbers joined entry blocksFrom front blocks offsets entryPart blockPart allFields nodePart trailer book decodeFrom decode number rising sound fits namesOf opened batchOf batch
+pub batch-refusals : map (λ (c : BatchRow). batch (c .0) buffer (replicate (c .1) (row 1 0 6)) (leftRows (c .2))) batches ≡ map (λ (c : BatchRow). record { answer = refused (c .3); rows = leftRows (c .2) }) batches
+unfolding shared less begins same depth glue groups widest rowBy tableWithin nodeTable table numbers joined entry blocksFrom front blocks offsets entryPart blockPart allFields trailer bookBy decodeFrom decode number rising sound fitsBy namesOf isBookBy opened batchOf batch
 batch-refusals = refl
 
 -- 64 rows are taken, and no rows
-pub batch-taken : map (λ (n : ℕ). batch PlainBook exampleBy2 buffer (replicate n (row 1 0 6)) (leftRows n)) (0 ∷ 64 ∷ []) ≡ map (λ (n : ℕ). record { answer = given n 0; rows = replicate n (given 1 1) }) (0 ∷ 64 ∷ [])
-unfolding shared less begins same depth glue groups widest rowBy tableWithin nodeTable table numbers joined entry blocksFrom front blocks offsets entryPart blockPart allFields nodePart trailer book decodeFrom decode number rising sound fits namesOf opened exactFrom exact ask mayEnd lit answer questionOf rowAnswer batchOf batch
+pub batch-taken : map (λ (n : ℕ). batch exampleBy2 buffer (replicate n (row 1 0 6)) (leftRows n)) (0 ∷ 64 ∷ []) ≡ map (λ (n : ℕ). record { answer = given n 0; rows = replicate n (given 1 1) }) (0 ∷ 64 ∷ [])
+unfolding shared less begins same depth glue groups widest rowBy tableWithin nodeTable table numbers joined entry blocksFrom front blocks offsets entryPart blockPart allFields trailer bookBy decodeFrom decode number rising sound fitsBy namesOf isBookBy opened exactFrom exact ask mayEnd lit answer namesAnswer questionOf rowAnswer batchOf batch
 batch-taken = refl
 
 -- each row, and what it gets: kinds 0 to 7; spans that end at the buffer's end, past it, or begin past it; 11 before 1
@@ -152,14 +152,14 @@ asked =
     ∷ (row 3 213 1, given 0 3) ∷ (row 3 213 2, refused 11) ∷ (row 3 214 0, given 0 3) ∷ (row 3 214 1, refused 11) ∷ (row 3 215 0, refused 11)
     ∷ (row 3 6 201, refused 1) ∷ (row 0 6 201, refused 11) ∷ (row 6 6 201, refused 11) ∷ (row 3 14 201, refused 11) ∷ (row 3 6 200, given 0 0) ∷ []
 
-pub batch-rows-alone : batch PlainBook exampleBy2 buffer (map (λ (c : Row × Answer). c .0) asked) (leftRows 18) ≡ record { answer = given 18 0; rows = map (λ (c : Row × Answer). c .1) asked }
-unfolding shared less begins same depth glue groups widest rowBy tableWithin nodeTable table numbers joined entry blocksFrom front blocks offsets entryPart blockPart allFields nodePart trailer book decodeFrom decode number rising sound fits namesOf opened childOf reachWithin reached count exactFrom exact place range width nearest ask mayEnd lit answer questionOf rowAnswer batchOf batch
+pub batch-rows-alone : batch exampleBy2 buffer (map (λ (c : Row × Answer). c .0) asked) (leftRows 18) ≡ record { answer = given 18 0; rows = map (λ (c : Row × Answer). c .1) asked }
+unfolding shared less begins same depth glue groups widest rowBy tableWithin nodeTable table numbers joined entry blocksFrom front blocks offsets entryPart blockPart allFields trailer bookBy decodeFrom decode number rising sound fitsBy namesOf isBookBy opened childOf reachWithin reached count exactFrom exact place range width nearest ask mayEnd lit answer namesAnswer questionOf rowAnswer batchOf batch
 batch-rows-alone = refl
 
 -- of the book without names: 11 before 1, 1 before 10, 10 for nearest alone
-pub batch-rows-none : batch PlainBook noNames buffer (row 6 0 6 ∷ row 4 6 201 ∷ row 4 0 6 ∷ row 1 0 6 ∷ row 2 0 6 ∷ row 3 0 6 ∷ row 5 0 6 ∷ []) (leftRows 7)
+pub batch-rows-none : batch noNames buffer (row 6 0 6 ∷ row 4 6 201 ∷ row 4 0 6 ∷ row 1 0 6 ∷ row 2 0 6 ∷ row 3 0 6 ∷ row 5 0 6 ∷ []) (leftRows 7)
     ≡ record { answer = given 7 0; rows = refused 11 ∷ refused 1 ∷ refused 10 ∷ given 0 0 ∷ given 0 0 ∷ given 0 0 ∷ given 0 0 ∷ [] }
-unfolding shared less begins same depth glue groups widest rowBy tableWithin nodeTable table numbers joined entry blocksFrom front blocks offsets entryPart blockPart allFields nodePart trailer book decodeFrom decode number rising sound fits namesOf opened count exactFrom exact place range width nearest ask mayEnd lit answer questionOf rowAnswer batchOf batch
+unfolding shared less begins same depth glue groups widest rowBy tableWithin nodeTable table numbers joined entry blocksFrom front blocks offsets entryPart blockPart allFields trailer bookBy decodeFrom decode number rising sound fitsBy namesOf isBookBy opened count exactFrom exact place range width nearest ask mayEnd lit answer namesAnswer questionOf rowAnswer batchOf batch
 batch-rows-none = refl
 
 -- ---- two lists: 5 and 6 of the first, then of the second; a merge then 7, then 4

@@ -15,7 +15,7 @@ use lib.Dec.{eqb}
 use lib.ListN.{drop, drop-of-length-le, getD, length, length-drop}
 use lib.Seq.{drop-drop, getD-drop}
 use Rattle.words.specs.Words.{Bytes, less, pick, plain, same, word}
-use Rattle.words.proofs.Words.{Ordered, equal, false≠true, greater, less-asym, less-irrefl, lesser, ordered, plain-injective, plain-lawful, same-refl, same-true, word-injective, word-positive}
+use Rattle.words.proofs.Words.{Ordered, equal, false≠true, greater, less-asym, less-irrefl, lesser, ordered, plain-injective, plain-sure, same-refl, same-true, word-injective, word-positive}
 use Rattle.format.specs.Alone.{Reads}
 use Rattle.format.specs.Merging.{merged}
 use Rattle.format.specs.Records.{rising}
@@ -163,7 +163,7 @@ onward (x ∷ xs) [] r = record {
 }
 onward [] (y ∷ ys) r = record { is = refl; others = rw (same-refl y, drop-none (passed [] y)) refl }
 onward (x ∷ xs) (y ∷ ys) r =
-    let h = two-heads x y xs ys (rising-first plain [] y ys r .rest) (ordered (word plain x) (word plain y) (word-positive plain plain-lawful x) (word-positive plain plain-lawful y)) in
+    let h = two-heads x y xs ys (rising-first plain [] y ys r .rest) (ordered (word plain x) (word plain y) (word-positive plain plain-sure x) (word-positive plain plain-sure y)) in
     record { is = h .0; others = h .1 }
 
 module _ {s t : Bytes} {xs ys : List Bytes} (p : Reads s xs) (q : Reads t ys) where
@@ -185,7 +185,7 @@ module _ {s t : Bytes} {xs ys : List Bytes} (p : Reads s xs) (q : Reads t ys) wh
       alone (z ∷ zs) = refl
 
   next : (i j : ℕ) → Onward (drop i xs) (drop j ys)
-  next i j = onward (drop i xs) (drop j ys) (rising-drop plain plain-lawful j ys (read-names plain (length t) t ys (q .names) .rises))
+  next i j = onward (drop i xs) (drop j ys) (rising-drop plain plain-sure j ys (read-names plain (length t) t ys (q .names) .rises))
 
   pub screen-shows : (turns i j n : ℕ) → n < turns → getD (screen turns s t i j) n [] ≡ getD (merged plain (drop i xs) (drop j ys)) n []
   unfolding screen

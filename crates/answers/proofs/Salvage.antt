@@ -19,7 +19,7 @@ use lib.Seq.{ext-getD, getD-drop, getD-take, length-take-le, split-at}
 use borrow.Author.Tests.{eq-eqb, eqb-true, le-leb, leb-true}
 use Rattle.words.specs.Words.{Bytes, pick, same}
 use Rattle.words.proofs.Words.{both-true}
-use Rattle.format.specs.Marks.{PlainBook, markOf}
+use Rattle.format.specs.Kinds.{PlainBook, markOf}
 use Rattle.format.specs.Book.{goodBlock, joined, told, trailerSize}
 use Rattle.format.specs.Outcomes.{Answer, given, over, refused}
 use Rattle.format.specs.Records.{encode, mostNames}

@@ -13,7 +13,7 @@ use lib.ListN.{getD, length}
 use borrow.Author.Tests.{le-ltb, lt-ltb, not-false, not-true}
 use Rattle.words.specs.Words.{Bytes}
 use Rattle.words.proofs.Lists.{all-at}
-use Rattle.format.specs.Marks.{kindOf, ruleIn}
+use Rattle.format.specs.Kinds.{kindOf, ruleIn}
 use Rattle.format.specs.Book.{Book, namesOf, opened, trailerSize}
 use Rattle.format.proofs.Book.{book-opened, fits-parts}
 use Rattle.format.proofs.Records.{rising-sizes, sound-rising}
@@ -35,7 +35,7 @@ use Rattle.questions.proofs.Checks.{no-book}
 
 -- r is whether the parts stand
 module _ (b : Bytes) (r : Bool) (says : PartsSay b r) where
-  pub check-unsound : not r ≡ true → (a : Answer) → answered a ≡ refused 2 → answered a ≡ check (kindOf b) b
+  pub check-unsound : not r ≡ true → (a : Answer) → answered a ≡ refused 2 → answered a ≡ check b
   unfolding check checkOf
   check-unsound h a e = e ∙ sym (ap checkOf (no-book b Unsound (parts-unsound b r (not-true r h) says) refl))
 
@@ -43,7 +43,7 @@ module _ (b : Bytes) (r : Bool) (says : PartsSay b r) where
   check-long h = parts-long b r (not-false r h) says
 
   -- n and k are the trailer's numbers
-  pub check-sound : not r ≡ false → Held b → (t : Trailer) → t ≡ trailerIn b → (n k : ℕ) → n ≡ t .names → k ≡ t .block → given n k ≡ check (kindOf b) b
+  pub check-sound : not r ≡ false → Held b → (t : Trailer) → t ≡ trailerIn b → (n k : ℕ) → n ≡ t .names → k ≡ t .block → given n k ≡ check b
   unfolding check checkOf
   check-sound h held t e n k ne ke =
       let f = sound-book b t (held-bytes b held) (parts-sound b held r (not-false r h) says t e) in
@@ -54,24 +54,24 @@ module _ (b : Bytes) (r : Bool) (says : PartsSay b r) where
 abbrev ended : Bytes → Numbers → Written
 ended room a = record { answer = a; room = room }
 
-pub read-unsound : (b room : Bytes) (i : ℕ) (r : Answer) → answered r ≡ refused 2 → (v : Checked) → v ≡ checkOn b (opened (kindOf b) b) → v ≡ Unsound
-    → written r room ≡ readBack (kindOf b) b i room
+pub read-unsound : (b room : Bytes) (i : ℕ) (r : Answer) → answered r ≡ refused 2 → (v : Checked) → v ≡ checkOn b (opened b) → v ≡ Unsound
+    → written r room ≡ readBack b i room
 unfolding readBack readBackOf
 read-unsound b room i r e v s u = ap (ended room) e ∙ sym (ap (readBackOf i room) (no-book b v s u))
 
-module _ (b room : Bytes) (i : ℕ) (t : Trailer) (held : Held b) (v : Checked) (s : v ≡ checkOn b (opened (kindOf b) b)) (u : v ≡ Sound t) where
+module _ (b room : Bytes) (i : ℕ) (t : Trailer) (held : Held b) (v : Checked) (s : v ≡ checkOn b (opened b)) (u : v ≡ Sound t) where
   shown : SoundBook b t
   shown = checked-sound b t held v s u
 
   abbrev name : Bytes
   name = getD (namesOf b) i []
 
-  asked : readBack (kindOf b) b i room ≡ readBackOf i room (Book (t .block) (namesOf b))
+  asked : readBack b i room ≡ readBackOf i room (Book (kindOf b) (t .block) (namesOf b))
   unfolding readBack
   asked = ap (readBackOf i room) (shown .book)
 
   -- n is the number of names that the trailer tells
-  pub read-past : (r : Answer) → answered r ≡ refused 3 → (n : ℕ) → n ≡ t .names → n ≤ i → written r room ≡ readBack (kindOf b) b i room
+  pub read-past : (r : Answer) → answered r ≡ refused 3 → (n : ℕ) → n ≡ t .names → n ≤ i → written r room ≡ readBack b i room
   unfolding readBackOf
   read-past r e n ne h = ap (ended room) e ∙ sym (asked ∙ rw (le-ltb i (length (namesOf b)) (omega (arith, shown .count))) refl)
 
@@ -79,29 +79,29 @@ module _ (b room : Bytes) (i : ℕ) (t : Trailer) (held : Held b) (v : Checked) 
     within : i < length (namesOf b)
     within = omega (arith, shown .count)
 
-    writes : readBack (kindOf b) b i room ≡ write name room
+    writes : readBack b i room ≡ write name room
     unfolding readBackOf
     writes = asked ∙ rw (lt-ltb i (length (namesOf b)) within) refl
 
     some : 1 ≤ length name
     some =
         let o = book-opened (kindOf b) b (t .block) (namesOf b) (shown .book) in
-        all-at [] (namesOf b) (rising-sizes (ruleIn b) [] (namesOf b) (sound-rising (ruleIn b) (namesOf b) (fits-parts (kindOf b) (t .block) (namesOf b) (o .0) .sound))) i within .0
+        all-at [] (namesOf b) (rising-sizes (ruleIn b) [] (namesOf b) (sound-rising (ruleIn b) (namesOf b) (fits-parts (t .block) (namesOf b) (o .0) .sound))) i within .0
 
     module _ (len : ℕ) (after : Bytes) (p : Put name room len after) where
-      pub read-short : (r : Answer) → answered r ≡ refused 4 → len ≡ 0 → written r after ≡ readBack (kindOf b) b i room
+      pub read-short : (r : Answer) → answered r ≡ refused 4 → len ≡ 0 → written r after ≡ readBack b i room
       read-short r e z = go (leb (length name) (length room)) refl
         where
-          go : (x : Bool) → leb (length name) (length room) ≡ x → written r after ≡ readBack (kindOf b) b i room
+          go : (x : Bool) → leb (length name) (length room) ≡ x → written r after ≡ readBack b i room
           go true q = absurd (let y : len ≡ length name = p .answer ∙ rw q refl in omega (arith, some))
           go false q =
               let kept : after ≡ room = p .bytes ∙ rw q refl in
               ap₂ (λ (a : Numbers) (m : Bytes). ended m a) e kept ∙ sym (writes ∙ rw q refl)
 
-      pub read-put : (len ≡ 0 → ⊥) → ended after (given len 0) ≡ readBack (kindOf b) b i room
+      pub read-put : (len ≡ 0 → ⊥) → ended after (given len 0) ≡ readBack b i room
       read-put z = go (leb (length name) (length room)) refl
         where
-          go : (x : Bool) → leb (length name) (length room) ≡ x → ended after (given len 0) ≡ readBack (kindOf b) b i room
+          go : (x : Bool) → leb (length name) (length room) ≡ x → ended after (given len 0) ≡ readBack b i room
           go true q =
               let size : len ≡ length name = p .answer ∙ rw q refl in
               let put : after ≡ over name room = p .bytes ∙ rw q refl in

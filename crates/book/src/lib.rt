@@ -9,7 +9,7 @@ pub use shapes::Row;
 use symbols::Rule;
 ghost use mathlib.Core.Path.{_≡_};
 ghost use mathlib.Core.List.{map};
-ghost use Rattle.format.specs.Marks.{FoldedBook, PlainBook, kindOf};
+ghost use Rattle.format.specs.Kinds.{FoldedBook, PlainBook};
 ghost use Rattle.answers.specs.Calls.{batch, build, check, question as askedOf, readBack};
 ghost use Rattle.answers.specs.Heads.{headOf, partOf};
 ghost use Rattle.answers.specs.Merging.{judgeLists, mergeLists};
@@ -37,7 +37,7 @@ pub extern "C" fn book_build_folded(list: &[u8], block: usize, room: &mut [u8]) 
 // Whether bytes are a book: then how many names it has, in blocks of how many. Refusal: 2.
 #[no_mangle]
 pub extern "C" fn book_check(book: &[u8]) -> Answer
-    ensures { λ r. ⌜ answered r ≡ check (kindOf (now (book .entry))) (now (book .entry)) ⌝ }
+    ensures { λ r. ⌜ answered r ≡ check (now (book .entry)) ⌝ }
 {
     if !accept::is_book(book) {
         return shapes::refuse(2, 0);
@@ -53,7 +53,7 @@ pub extern "C" fn book_check(book: &[u8]) -> Answer
 // The name at a position of a book, at the front of the room. Refusals: 2, 3, 4.
 #[no_mangle]
 pub extern "C" fn book_read(book: &[u8], position: usize, room: &mut [u8]) -> Answer
-    ensures { λ r. ⌜ written r (now (room .exit)) ≡ readBack (kindOf (now (book .entry))) (now (book .entry)) position (now (room .entry)) ⌝ }
+    ensures { λ r. ⌜ written r (now (room .exit)) ≡ readBack (now (book .entry)) position (now (room .entry)) ⌝ }
 {
     let checked = accept::check_book(book);
     match checked {
@@ -78,7 +78,7 @@ pub extern "C" fn book_read(book: &[u8], position: usize, room: &mut [u8]) -> An
 // The position of the name that equals the question, and 1; or 0 and 0. Refusals: 2, 1.
 #[no_mangle]
 pub extern "C" fn book_exact(book: &[u8], question: &[u8]) -> Answer
-    ensures { λ r. ⌜ answered r ≡ askedOf (kindOf (now (book .entry))) 1 (now (book .entry)) (now (question .entry)) ⌝ }
+    ensures { λ r. ⌜ answered r ≡ askedOf 1 (now (book .entry)) (now (question .entry)) ⌝ }
 {
     questions::ask_alone(book, 1, question)
 }
@@ -86,7 +86,7 @@ pub extern "C" fn book_exact(book: &[u8], question: &[u8]) -> Answer
 // How many names are less than the question. Refusals: 2, 1.
 #[no_mangle]
 pub extern "C" fn book_place(book: &[u8], question: &[u8]) -> Answer
-    ensures { λ r. ⌜ answered r ≡ askedOf (kindOf (now (book .entry))) 2 (now (book .entry)) (now (question .entry)) ⌝ }
+    ensures { λ r. ⌜ answered r ≡ askedOf 2 (now (book .entry)) (now (question .entry)) ⌝ }
 {
     questions::ask_alone(book, 2, question)
 }
@@ -94,7 +94,7 @@ pub extern "C" fn book_place(book: &[u8], question: &[u8]) -> Answer
 // The question's place, and how many names begin with it. Refusals: 2, 1.
 #[no_mangle]
 pub extern "C" fn book_range(book: &[u8], question: &[u8]) -> Answer
-    ensures { λ r. ⌜ answered r ≡ askedOf (kindOf (now (book .entry))) 3 (now (book .entry)) (now (question .entry)) ⌝ }
+    ensures { λ r. ⌜ answered r ≡ askedOf 3 (now (book .entry)) (now (question .entry)) ⌝ }
 {
     questions::ask_alone(book, 3, question)
 }
@@ -102,7 +102,7 @@ pub extern "C" fn book_range(book: &[u8], question: &[u8]) -> Answer
 // The position of a name that is as near as any, and what can be lit of the leading bytes that it shares with the question. Refusals: 2, 1, 10.
 #[no_mangle]
 pub extern "C" fn book_nearest(book: &[u8], question: &[u8]) -> Answer
-    ensures { λ r. ⌜ answered r ≡ askedOf (kindOf (now (book .entry))) 4 (now (book .entry)) (now (question .entry)) ⌝ }
+    ensures { λ r. ⌜ answered r ≡ askedOf 4 (now (book .entry)) (now (question .entry)) ⌝ }
 {
     questions::ask_alone(book, 4, question)
 }
@@ -110,7 +110,7 @@ pub extern "C" fn book_nearest(book: &[u8], question: &[u8]) -> Answer
 // The greatest length of the names that begin with the question; 0 where none does. Refusals: 2, 1.
 #[no_mangle]
 pub extern "C" fn book_width(book: &[u8], question: &[u8]) -> Answer
-    ensures { λ r. ⌜ answered r ≡ askedOf (kindOf (now (book .entry))) 5 (now (book .entry)) (now (question .entry)) ⌝ }
+    ensures { λ r. ⌜ answered r ≡ askedOf 5 (now (book .entry)) (now (question .entry)) ⌝ }
 {
     questions::ask_alone(book, 5, question)
 }
@@ -123,7 +123,7 @@ pub extern "C" fn book_batch(
     rows: &[Row],
     answers: &mut [Answer],
 ) -> Answer
-    ensures { λ r. ⌜ batched r (now (answers .exit)) ≡ batch (kindOf (now (book .entry))) (now (book .entry)) (now (questions .entry)) (map rowOf (now (rows .entry))) (map answered (now (answers .entry))) ⌝ }
+    ensures { λ r. ⌜ batched r (now (answers .exit)) ≡ batch (now (book .entry)) (now (questions .entry)) (map rowOf (now (rows .entry))) (map answered (now (answers .entry))) ⌝ }
 {
     let opening = questions::open_batch(book, rows.len(), answers.len());
     if opening.answer.code != 0 {

@@ -6,7 +6,6 @@ ghost use mathlib.Core.Path.{_≡_};
 ghost use mathlib.Core.List.{map};
 ghost use Prim.Native.Nat.{_≤_};
 ghost use lib.ListN.{drop, take};
-ghost use Rattle.format.specs.Marks.{kindOf};
 ghost use Rattle.answers.specs.Calls.{batch};
 ghost use Rattle.shapes.specs.Shapes.{answered, rowOf, batched};
 
@@ -26,7 +25,7 @@ pub fn run(
     m: usize,
 ) -> Ran
     requires { ⌜ (n ≤ 65) × (m ≤ 65) ⌝ }
-    ensures { λ r. ⌜ (batched (r .answer) (take m (r .answers)) ≡ batch (kindOf (now (book .entry))) (now (book .entry)) (now (questions .entry)) (map rowOf (take n rows)) (map answered (take m answers))) × (drop m (r .answers) ≡ drop m answers) ⌝ }
+    ensures { λ r. ⌜ (batched (r .answer) (take m (r .answers)) ≡ batch (now (book .entry)) (now (questions .entry)) (map rowOf (take n rows)) (map answered (take m answers))) × (drop m (r .answers) ≡ drop m answers) ⌝ }
 {
     let answer = book::book_batch(book, questions, &rows[..n], &mut answers[..m]);
     Ran {

@@ -11,16 +11,16 @@ use mathlib.Core.List.{List}
 use lib.ListN.{length}
 use borrow.Author.Tests.{le-leb, lt-leb}
 use Rattle.words.specs.Words.{Bytes, pick}
-use Rattle.format.specs.Marks.{BookKind, ruleOf}
-use Rattle.format.proofs.Marks.{kind-lawful}
+use Rattle.format.specs.Kinds.{BookKind, ruleOf}
+use Rattle.format.proofs.BookKinds.{kind-sure}
 use Rattle.format.specs.Book.{goodBlock}
 use Rattle.format.specs.Records.{Names, Reading, Refused, mostNames, readList, sound}
 use Rattle.format.proofs.Records.{read-refused, read-sound, sound-few}
 use Rattle.format.specs.Outcomes.{Answer as Numbers, Written, given, numbered, refused}
-use Rattle.answers.specs.Calls.{build, builtFrom}
+use Rattle.answers.specs.Calls.{build, buildBy, builtFrom}
 use Rattle.records.specs.Lists.{Judged, Noted, names, namesIn, verdictNumbers, readingOf}
 use Rattle.records.proofs.Names.{names-are}
-use Rattle.build.specs.Whole.{BuildAsk, shownBuilt}
+use Rattle.build.specs.Whole.{BuildAsk, builtOf, shownBuilt}
 use Rattle.build.specs.declared.Built.{Built}
 use Rattle.build.specs.declared.Built.the-variants.{Refused as Stopped, Written as Wrote}
 use Rattle.records.specs.declared.Verdict.{Verdict}
@@ -29,8 +29,8 @@ use Rattle.shapes.specs.Shapes.{answered, written}
 use Rattle.shapes.specs.declared.Answer.{Answer}
 
 module _ (κ : BookKind) (s : Bytes) (k : ℕ) (room : Bytes) where
-  gate : (t : Bool) → goodBlock k ≡ t → build κ s k room ≡ pick t (builtFrom κ k room (readList (ruleOf κ) mostNames s)) (record { answer = refused 8; room = room })
-  unfolding build
+  gate : (t : Bool) → goodBlock k ≡ t → build κ s k room ≡ pick t (builtOf κ k room (readList (ruleOf κ) mostNames s)) (record { answer = refused 8; room = room })
+  unfolding buildBy
   gate t p = rw p refl
 
   -- an answer with these numbers, and the room as it was
@@ -44,7 +44,7 @@ module _ (κ : BookKind) (s : Bytes) (k : ℕ) (room : Bytes) where
   build-high r e h = ap (λ (a : Numbers). record { answer = a; room = room }) e ∙ sym (gate false (rw (le-leb 1 k (omega arith), lt-leb k 64 h) refl))
 
   module _ (z : k ≡ 0 → ⊥) (h : k ≤ 64) where
-    build-good : (w : Written) → w ≡ builtFrom κ k room (readList (ruleOf κ) mostNames s) → w ≡ build κ s k room
+    build-good : (w : Written) → w ≡ builtOf κ k room (readList (ruleOf κ) mostNames s) → w ≡ build κ s k room
     build-good w p = p ∙ sym (gate true (rw (le-leb 1 k (omega arith), le-leb k 64 h) refl))
 
     pub build-bad : (r : Answer) (code i : ℕ) → Ends r code i → {most : ℕ} {lens counts shares : List ℕ} {v : Verdict} → Judged (ruleOf κ) s most lens counts shares v → most ≡ mostNames → v ≡ Bad code i
@@ -54,7 +54,7 @@ module _ (κ : BookKind) (s : Bytes) (k : ℕ) (room : Bytes) where
         build-good (written r room) (ap (λ (a : Numbers). record { answer = a; room = room }) e ∙ go (readList (ruleOf κ) mostNames s)
         (ap verdictNumbers (sym u) ∙ j .verdict ∙ ap (λ (m : ℕ). readingOf (readList (ruleOf κ) m s)) limit))
       where
-        go : (x : Reading) → numbered code i ≡ readingOf x → record { answer = numbered code i; room = room } ≡ builtFrom κ k room x
+        go : (x : Reading) → numbered code i ≡ readingOf x → record { answer = numbered code i; room = room } ≡ builtOf κ k room x
         go (Names xs) f = absurd (let y : code ≡ 0 = ap (λ (a : Numbers). a .code) f in omega (arith, j .refuses code i u))
         go (Refused c j) f = ap (λ (a : Numbers). record { answer = a; room = room }) f
 
@@ -72,7 +72,7 @@ module _ (κ : BookKind) (s : Bytes) (k : ℕ) (room : Bytes) where
             record {
               read = p ∙ ap Names (sym all);
               ready = record {
-                lawful = kind-lawful κ;
+                lawful = kind-sure κ;
                 bytes = b .0;
                 total = size;
                 few = omega (arith, sound-few (ruleOf κ) (names s) (b .1));
@@ -84,10 +84,10 @@ module _ (κ : BookKind) (s : Bytes) (k : ℕ) (room : Bytes) where
             }
 
     -- what building a judged list gave, as the call's own answer
-    module _ (new : Bytes) (v : Built) (p : shownBuilt v new ≡ builtFrom κ k room (readList (ruleOf κ) mostNames s)) where
+    module _ (new : Bytes) (v : Built) (p : shownBuilt v new ≡ builtOf κ k room (readList (ruleOf κ) mostNames s)) where
       pub build-refused : (r : Answer) (code : ℕ) → Ends r code 0 → v ≡ Stopped code → written r new ≡ build κ s k room
       build-refused r code e u =
-          build-good (written r new) (ap (λ (a : Numbers). record { answer = a; room = new }) e ∙ subst (λ (w : Built). shownBuilt w new ≡ builtFrom κ k room (readList (ruleOf κ) mostNames s)) u p)
+          build-good (written r new) (ap (λ (a : Numbers). record { answer = a; room = new }) e ∙ subst (λ (w : Built). shownBuilt w new ≡ builtOf κ k room (readList (ruleOf κ) mostNames s)) u p)
 
       pub build-written : (total : ℕ) → v ≡ Wrote total → record { answer = given total 0; room = new } ≡ build κ s k room
-      build-written total u = build-good (shownBuilt (Wrote total) new) (subst (λ (w : Built). shownBuilt w new ≡ builtFrom κ k room (readList (ruleOf κ) mostNames s)) u p)
+      build-written total u = build-good (shownBuilt (Wrote total) new) (subst (λ (w : Built). shownBuilt w new ≡ builtOf κ k room (readList (ruleOf κ) mostNames s)) u p)

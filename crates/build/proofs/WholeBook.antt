@@ -16,12 +16,13 @@ use mir.Val.{Fits}
 use mir.Syntax.{w64}
 use borrow.Author.Tests.{le-leb, lt-leb}
 use Rattle.words.specs.Words.{Bytes, Words, pick, word}
-use Rattle.format.specs.Marks.{BookKind, markOf, ruleOf}
-use Rattle.format.specs.Book.{blockPart, book, entryPart, longestBook, nodePart, numbers, trailer}
+use Rattle.format.specs.Kinds.{BookKind, formOf, markOf, ruleOf, tableIn}
+use Rattle.format.specs.Book.{blockPart, book, entryPart, longestBook, numbers, trailer}
+use Rattle.format.specs.Spans.{nodePart}
 use Rattle.format.specs.Nodes.{table, nodeSize}
 use Rattle.format.specs.Records.{mostNames, readList}
-use Rattle.format.proofs.Marks.{mark-length}
-use Rattle.format.proofs.Book.{book-length, book-parts, nodes-length, records, trailerAt, trailerNumbers}
+use Rattle.format.proofs.BookKinds.{kind-layout, mark-length}
+use Rattle.format.proofs.Book.{book-length, book-parts, full-length, full-nodes, full-number, nodes-length, trailerAt, trailerNumbers}
 use Rattle.format.proofs.Numbers.{numbers-length}
 use Rattle.format.proofs.Groups.{table-empty}
 use Rattle.format.proofs.Spans.{table-few}
@@ -33,7 +34,7 @@ use Rattle.records.proofs.Starts.{ready-rises, words-length}
 use Rattle.nodes.specs.Writing.{NodesPut}
 use Rattle.nodes.specs.Counting.{NodeCount}
 use Rattle.blocks.specs.Writing.{SumsAre, Surveyed}
-use Rattle.build.specs.Whole.{BuildAsk, Sized}
+use Rattle.build.specs.Whole.{builtOf, BuildAsk, Sized}
 
 -- a room with a part of it lent and filled
 abbrev pub put : Bytes → ℕ → ℕ → Bytes → Bytes
@@ -76,19 +77,19 @@ module _ {κ : BookKind} {s : Bytes} {n : ℕ} {lens counts shares : List ℕ} {
   names-words = refl
 
   module _ {blocks nodes count total : ℕ} (z : Sized κ s k blocks nodes count total) where
-    trailer-at : trailerAt κ k (names s) ≡ total - 16
+    trailer-at : trailerAt (kind-layout κ) k (names s) ≡ total - 16
     trailer-at =
-        omega (arith, z .blocks-start, z .nodes-start, z .whole, z .number, nodes-length (records κ k (names s)), ap (λ (ws : Words). length (table ws)) names-words)
+        omega (arith, z .blocks-start, z .nodes-start, z .whole, z .number, full-length κ (ruleOf κ) (names s), full-number κ (ruleOf κ) (names s), ap (λ (ws : Words). length (table ws)) names-words)
 
     pub book-size : length (book κ k (names s)) ≡ total
-    book-size = book-length κ k (names s) ∙ omega (arith, trailer-at, z .whole)
+    book-size = book-length (kind-layout κ) k (names s) ∙ omega (arith, trailer-at, z .whole)
 
-    trailer-is : trailer κ n k blocks nodes count total ≡ numbers (trailerNumbers κ k (names s)) ++ markOf κ
+    trailer-is : trailer (markOf κ) n k blocks nodes count total ≡ numbers (trailerNumbers (kind-layout κ) k (names s)) ++ markOf κ
     unfolding trailer
     trailer-is =
         ap (λ (l : List ℕ). numbers l ++ markOf κ)
         (six (a .ready .total) (z .blocks-start) (omega (arith, z .nodes-start, z .blocks-start))
-        (z .number ∙ ap (λ (ws : Words). length (table ws)) (sym names-words)) (omega (arith, trailer-at, z .whole)))
+        (z .number ∙ ap (λ (ws : Words). length (table ws)) (sym names-words) ∙ sym (full-number κ (ruleOf κ) (names s))) (omega (arith, trailer-at, z .whole)))
       where
         six : {a₁ a₂ b₁ b₂ c₁ c₂ d₁ d₂ e₁ e₂ : ℕ} → a₁ ≡ a₂ → b₁ ≡ b₂ → c₁ ≡ c₂ → d₁ ≡ d₂ → e₁ ≡ e₂
             → _≡_ {A = List ℕ} (a₁ ∷ k ∷ b₁ ∷ c₁ ∷ d₁ ∷ e₁ ∷ []) (a₂ ∷ k ∷ b₂ ∷ c₂ ∷ d₂ ∷ e₂ ∷ [])
@@ -128,7 +129,7 @@ module _ {κ : BookKind} {s : Bytes} {n : ℕ} {lens counts shares : List ℕ} {
       nodes-part =
           part-length r₂ nodes (total - 16 - nodes) (omega (arith, ap length p₂ ∙ over-length (x ++ y) room (omega (arith, l₁₂, z .whole)), z .whole)) ∙ omega (arith, z .whole)
 
-      module _ (w v : Bytes) {m : ℕ} (q : NodesPut (ruleOf κ) s (take (total - 16 - nodes) (drop nodes (put (put room 0 blocks x) blocks nodes y))) w m) (v-is : v ≡ trailer κ n k blocks nodes count total) where
+      module _ (w v : Bytes) {m : ℕ} (q : NodesPut (ruleOf κ) s (take (total - 16 - nodes) (drop nodes (put (put room 0 blocks x) blocks nodes y))) w m) (v-is : v ≡ trailer (markOf κ) n k blocks nodes count total) where
         abbrev r₃ : Bytes
         r₃ = put r₂ nodes (total - 16) w
 
@@ -140,8 +141,8 @@ module _ {κ : BookKind} {s : Bytes} {n : ℕ} {lens counts shares : List ℕ} {
 
         l₄ : length v ≡ 16
         l₄ =
-            ap length (v-is ∙ trailer-is) ∙ length-append (numbers (trailerNumbers κ k (names s))) (markOf κ)
-            ∙ omega (arith, numbers-length (trailerNumbers κ k (names s)), mark-length κ)
+            ap length (v-is ∙ trailer-is) ∙ length-append (numbers (trailerNumbers (kind-layout κ) k (names s))) (markOf κ)
+            ∙ omega (arith, numbers-length (trailerNumbers (kind-layout κ) k (names s)), mark-length κ)
 
         p₃ : r₃ ≡ over ((x ++ y) ++ w) room
         p₃ = lent (x ++ y) room r₂ w nodes (total - 16 - nodes) p₂ l₁₂ (omega (arith, z .whole)) l₃
@@ -150,12 +151,12 @@ module _ {κ : BookKind} {s : Bytes} {n : ℕ} {lens counts shares : List ℕ} {
         parts =
             let es : Bytes = entryPart k (names s) in
             let bs : Bytes = blockPart k (names s) in
-            let ns : Bytes = nodePart (records κ k (names s)) in
-            let end : Bytes = numbers (trailerNumbers κ k (names s)) ++ markOf κ in
+            let ns : Bytes = numbers (tableIn (formOf κ) (ruleOf κ) (names s)) in
+            let end : Bytes = numbers (trailerNumbers (kind-layout κ) k (names s)) ++ markOf κ in
             let grouped : ((es ++ bs) ++ ns) ++ end ≡ es ++ (bs ++ (ns ++ end)) = simp append-assoc in
             ap₂ (λ (i j : Bytes). ((i ++ y) ++ w) ++ j) x-is (v-is ∙ trailer-is)
-            ∙ ap₂ (λ (i j : Bytes). ((es ++ i) ++ j) ++ end) y-is (w-is ∙ ap (λ (ws : Words). nodePart (table ws)) (sym names-words))
-            ∙ grouped ∙ sym (book-parts κ k (names s))
+            ∙ ap₂ (λ (i j : Bytes). ((es ++ i) ++ j) ++ end) y-is (w-is ∙ ap (λ (ws : Words). nodePart (table ws)) (sym names-words) ∙ sym (full-nodes κ (ruleOf κ) (names s)))
+            ∙ grouped ∙ sym (book-parts (kind-layout κ) k (names s))
 
         pub book-lent : put (put (put (put room 0 blocks x) blocks nodes y) nodes (total - 16) w) (total - 16) total v ≡ over (book κ k (names s)) room
         book-lent =
@@ -167,21 +168,21 @@ module _ {κ : BookKind} {s : Bytes} {n : ℕ} {lens counts shares : List ℕ} {
 
     module _ (room : Bytes) where
       chosen : (f d : Bool) → leb (length (book κ k (names s))) longestBook ≡ f → leb (length (book κ k (names s))) (length room) ≡ d
-          → builtFrom κ k room (readList (ruleOf κ) mostNames s)
+          → builtOf κ k room (readList (ruleOf κ) mostNames s)
           ≡ pick f (pick d (record { answer = given (length (book κ k (names s))) 0; room = over (book κ k (names s)) room }) (record { answer = refused 4; room = room }))
           (record { answer = refused 9; room = room })
       unfolding builtFrom
-      chosen f d p q = ap (builtFrom κ k room) (a .read) ∙ rw (p, q) refl
+      chosen f d p q = ap (builtOf κ k room) (a .read) ∙ rw (p, q) refl
 
-      pub ends-nine : 65535 < total → record { answer = refused 9; room = room } ≡ builtFrom κ k room (readList (ruleOf κ) mostNames s)
+      pub ends-nine : 65535 < total → record { answer = refused 9; room = room } ≡ builtOf κ k room (readList (ruleOf κ) mostNames s)
       ends-nine h = sym (chosen false _ (lt-leb (length (book κ k (names s))) longestBook (omega (arith, book-size))) refl)
 
-      pub ends-four : total ≤ 65535 → length room < total → record { answer = refused 4; room = room } ≡ builtFrom κ k room (readList (ruleOf κ) mostNames s)
+      pub ends-four : total ≤ 65535 → length room < total → record { answer = refused 4; room = room } ≡ builtOf κ k room (readList (ruleOf κ) mostNames s)
       ends-four h l =
           sym (chosen true false (le-leb (length (book κ k (names s))) longestBook (omega (arith, book-size))) (lt-leb (length (book κ k (names s))) (length room) (omega (arith, book-size))))
 
       pub ends-done : (new : Bytes) → total ≤ 65535 → total ≤ length room → new ≡ over (book κ k (names s)) room
-          → record { answer = given total 0; room = new } ≡ builtFrom κ k room (readList (ruleOf κ) mostNames s)
+          → record { answer = given total 0; room = new } ≡ builtOf κ k room (readList (ruleOf κ) mostNames s)
       ends-done new h l w =
           ap₂ (λ (i : ℕ) (r : Bytes). record { answer = given i 0; room = r }) (sym book-size) w
           ∙ sym (chosen true true (le-leb (length (book κ k (names s))) longestBook (omega (arith, book-size))) (le-leb (length (book κ k (names s))) (length room) (omega (arith, book-size))))

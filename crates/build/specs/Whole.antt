@@ -1,6 +1,7 @@
 -- What building a judged list asks and gives.
 --     BuildAsk          a judged list, and a block size 1 to 64
 --     Sized             where the tables begin, the number of nodes, the length
+--     builtOf           what a list that was read comes to
 --     shownBuilt        how it ended, with the room that it left, as document 01's numbers
 -- The laws are in proofs/. Assumes nothing: these are definitions.
 use Prim.Native.Nat.{ℕ, _+_, _*_, _≤_}
@@ -8,11 +9,12 @@ use mathlib.Core.Path.{_≡_}
 use mathlib.Core.List.{List}
 use lib.ListN.{length}
 use Rattle.words.specs.Words.{Bytes}
-use Rattle.format.specs.Marks.{BookKind, ruleOf}
+use Rattle.format.specs.Kinds.{BookKind, formOf, markOf, ruleOf}
 use Rattle.format.specs.Nodes.{table, nodeSize}
-use Rattle.format.specs.Records.{Names, mostNames, readList}
+use Rattle.format.specs.Records.{Names, Reading, mostNames, readList}
 use Rattle.format.specs.Book.{entryPart, blockPart}
 use Rattle.format.specs.Outcomes.{Written, given, refused}
+use Rattle.answers.specs.Calls.{builtFrom}
 use Rattle.records.specs.Lists.{Ready, names, words}
 use Rattle.build.specs.declared.Built.{Built}
 use Rattle.build.specs.declared.Built.the-variants.{Written as Wrote, Refused}
@@ -29,6 +31,10 @@ pub record Sized (κ : BookKind) (s : Bytes) (k blocks nodes count total : ℕ) 
   pub number : count ≡ length (table (words (ruleOf κ) s))
   pub whole : total ≡ nodes + count * nodeSize + 16
   pub few : total ≤ 1000000
+
+-- what a list that was read comes to, by a kind of book
+abbrev pub builtOf : BookKind → ℕ → Bytes → Reading → Written
+builtOf κ k room r = builtFrom (ruleOf κ) (formOf κ) (markOf κ) k room r
 
 abbrev pub shownBuilt : Built → Bytes → Written
 shownBuilt (Wrote total) room = record { answer = given total 0; room = room }

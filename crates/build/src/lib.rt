@@ -6,11 +6,11 @@ ghost use lib.ListN.{length};
 ghost use Rattle.format.specs.Records.{mostNames, readList};
 ghost use Rattle.format.specs.Book.{book};
 ghost use Rattle.format.specs.Outcomes.{over};
-ghost use Rattle.answers.specs.Calls.{build, builtFrom};
+ghost use Rattle.answers.specs.Calls.{build};
 ghost use Rattle.symbols.specs.Rules.{kindBy, ruleBy};
 ghost use Rattle.records.specs.Lists.{names};
 ghost use Rattle.shapes.specs.Shapes.{written};
-ghost use Rattle.build.specs.Whole.{BuildAsk, Sized, shownBuilt};
+ghost use Rattle.build.specs.Whole.{BuildAsk, Sized, builtOf, shownBuilt};
 use symbols::Rule;
 
 // Where the tables of a book begin, its number of nodes, and its length.
@@ -100,7 +100,7 @@ pub fn build_judged(
     room: &mut [u8],
 ) -> Built
     requires { ⌜ BuildAsk (kindBy rule) (now list) n (now lens) (now counts) (now shares) k ⌝ }
-    ensures { λ r. ⌜ shownBuilt r (now (room .exit)) ≡ builtFrom (kindBy rule) k (now (room .entry)) (readList (ruleBy rule) mostNames (now (list .entry))) ⌝ }
+    ensures { λ r. ⌜ shownBuilt r (now (room .exit)) ≡ builtOf (kindBy rule) k (now (room .entry)) (readList (ruleBy rule) mostNames (now (list .entry))) ⌝ }
 {
     let s = sizes_of(rule, list, n, lens, counts, shares, k);
     let total = s.total;

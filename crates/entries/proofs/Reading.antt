@@ -15,9 +15,10 @@ use lib.Dec.{ltb}
 use lib.ListN.{length, getD, take, drop, length-append, length-take, length-drop, drop-of-length-le}
 use lib.Seq.{drop-drop, getD-drop, getD-take, length-take-le, take-all, take-at, take-take}
 use borrow.Author.Tests.{not-false, not-true}
-use Rattle.words.specs.Words.{Bytes, Lawful, Rule, less, plain, word}
+use Rattle.words.specs.Words.{Bytes, Rule, less, plain, word}
+use Rattle.words.specs.Rising.{Sure}
 use Rattle.words.proofs.Words.{false≠true}
-use Rattle.format.specs.Marks.{folded}
+use Rattle.format.specs.Folded.{folded}
 use Rattle.format.specs.Outcomes.{over}
 use Rattle.numbers.proofs.Parts.{Copied, copied-behind, over-length, part-length}
 use Rattle.symbols.specs.Rules.{ruleBy}
@@ -41,7 +42,7 @@ pub record Fitting (b prev : Bytes) (o e : ℕ) : Type 0 where
   pub short : getD b o 0 + getD b (o + 1) 0 ≤ 200
 
 module _ (ρ : Rule) (b prev : Bytes) (o e : ℕ) (k : Fitting b prev o e) where
-  pub entry-whole : Lawful ρ → length prev ≡ getD b o 0 → Step ρ b o e prev
+  pub entry-whole : Sure ρ → length prev ≡ getD b o 0 → Step ρ b o e prev
   entry-whole lw end =
       let none : drop (getD b o 0) prev ≡ [] = drop-of-length-le prev {i = getD b o 0} (omega arith) in
       step-is ρ b prev o e (getD b o 0) (getD b (o + 1) 0) refl refl (k .fits) (k .some) (k .shares) (k .short) (λ l. absurd (lt-irrefl (length prev) (omega arith)))

@@ -11,19 +11,20 @@ use mathlib.Core.List.{[]}
 use lib.Dec.{eqb}
 use lib.ListN.{length, replicate, take, length-replicate}
 use borrow.Author.Tests.{eqb-false, eqb-true}
-use Rattle.words.specs.Words.{Bytes, Lawful, Rule}
+use Rattle.words.specs.Words.{Bytes, Rule}
+use Rattle.words.specs.Rising.{Sure}
 use Rattle.words.proofs.Words.{false≠true}
 use Rattle.format.specs.Book.{number}
 use Rattle.numbers.proofs.Parts.{Held, held-bytes}
 use Rattle.symbols.specs.Rules.{ruleBy}
 use Rattle.symbols.specs.declared.Rule.{Rule as ByRule}
-use Rattle.symbols.proofs.Symbols.{rule-lawful}
+use Rattle.symbols.proofs.Symbols.{rule-sure}
 use Rattle.streams.specs.Runs.{Frame, endOf}
 use Rattle.streams.proofs.Walks.{Walked, walked-bad, walked-done, walked-more, walked-past, walked-place, walked-room, walked-short, walked-start, walked-table}
 use Rattle.entries.specs.Judging.{NextSays, WalkSays}
 
 pub record Walking (ρ : Rule) (b : Bytes) (k s u n t o : ℕ) (name : Bytes) (len i : ℕ) : Type 0 where
-  pub lawful : Lawful ρ
+  pub lawful : Sure ρ
   pub size : length name ≡ 200
   pub room : len ≤ 200
   pub walked : Walked ρ b k s u n t o (take len name) (n - i)
@@ -32,10 +33,10 @@ pub walking-start : (r : ByRule) (b : Bytes) (k s u n : ℕ) → Frame b k s u �
 walking-start r b k s u n a held =
     let z : n ≡ n - 0 = omega arith in
     record {
-      lawful = rule-lawful r;
+      lawful = rule-sure r;
       size = length-replicate {A = ℕ} 200 0;
       room = omega arith;
-      walked = subst (Walked (ruleBy r) b k s u n s 0 []) z (walked-start (ruleBy r) (rule-lawful r) b k s u n a (held-bytes b held));
+      walked = subst (Walked (ruleBy r) b k s u n s 0 []) z (walked-start (ruleBy r) (rule-sure r) b k s u n a (held-bytes b held));
     }
 
 -- all that the record tells is left to it

@@ -3,8 +3,8 @@
 ghost use mathlib.Core.Path.{_≡_};
 ghost use Prim.Native.Nat.{_<_};
 ghost use lib.ListN.{getD, length};
-ghost use Rattle.format.specs.Book.{fields, numbers};
-ghost use Rattle.format.specs.Nodes.{fieldCount, nodeSize};
+ghost use Rattle.format.specs.Book.{numbers};
+ghost use Rattle.format.specs.Nodes.{fieldCount, nodeSize, fields};
 ghost use Rattle.standing.specs.Maps.{Roomy, inRows, recordAt};
 ghost use Rattle.fields.specs.Node.{nodeOf};
 

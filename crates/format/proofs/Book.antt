@@ -1,31 +1,38 @@
 -- A book tells its parts, its block size and its names; and `opened` says just what bytes are a book.
---     book-parts, book-split, book-length    a book is its parts, its body and its trailer; how long it is
+-- All but the last part holds over any rule, form and mark of four bytes; the kinds are instances.
+--     table-length, count-low    the table's bytes are so many records
+--     full-length, full-count, full-nodes, full-number     of a full book they are nodes, and so many
+--     FitsBy, Fits, fits-parts, parts-fits     what `fits` asks
+--     book-parts, book-split, book-length      a book is its parts, its body and its trailer; how long it is
 --     from-blocks, from-nodes, from-trailer, from-mark     what stands from each part on
 --     read-field                 what the trailer says: names, block size, starts, nodes, length
 --     read-names                 the names, out of a book's bytes
---     opened-book, book-opened   `opened` gives k and xs just where those fit and the bytes are their book
+--     book-is, is-book           the book of what fits is a book, and a book is that of the block size and the names that it tells
 --     kind-of-book               a book's mark tells its kind
+--     opened-book, book-opened, opened-kind    `opened` gives κ, k and xs just where those fit and the bytes are their book
 -- Assumes nothing.
 use Prim.Native.Nat.{ℕ, _+_, _-_, _*_, _≤_, _<_}
 use native.Mathlib.Omega.{arith}
-use mathlib.Core.Path.{_≡_, refl, sym, ap, ap₂, _∙_}
+use mathlib.Core.Path.{_≡_, refl, sym, ap, ap₂, _∙_, subst}
 use mathlib.Core.Bool.{Bool, true, false}
 use mathlib.Core.List.{List, [], _∷_, _++_, map, append-assoc}
-use lib.Dec.{eqb, leb}
+use lib.Dec.{leb}
 use lib.ListN.{length, getD, take, drop, length-append}
 use lib.Seq.{drop-append-seam, drop-drop, getD-drop, take-append-seam}
 use borrow.Author.Tests.{leb-true, le-leb}
 use Rattle.words.specs.Rising.{All, cons, nil}
-use Rattle.words.specs.Words.{Bytes, both, pick, same, word}
+use Rattle.words.specs.Words.{Bytes, Rule, both, pick, same, word}
 use Rattle.words.proofs.Lists.{all-at}
 use Rattle.words.proofs.Words.{both-true, same-refl, same-true}
-use Rattle.format.specs.Marks.{BookKind, FoldedBook, PlainBook, kindOf, markOf, ruleOf}
-use Rattle.format.specs.Book.{Book, NoBook, allFields, blockPart, book, entryPart, fits, goodBlock, longestBook, namesOf, nodePart, number, numbers, opened, told, trailer, trailerSize}
+use Rattle.format.specs.Kinds.{BookKind, Form, Rows, allKinds, countIn, formOf, kindOf, markOf, markedAs, recordSize, ruleOf, tableIn}
+use Rattle.format.specs.Layout.{Layout}
+use Rattle.format.specs.Book.{Book, NoBook, blockPart, book, bookBy, entryPart, fits, fitsBy, goodBlock, isBook, isBookBy, longestBook, namesOf, number, numbers, opened, told, trailer, trailerSize}
+use Rattle.format.specs.Spans.{nodePart}
 use Rattle.format.specs.Entries.{decode}
-use Rattle.format.specs.Nodes.{Node, table, fieldCount, nodeSize}
+use Rattle.format.specs.Nodes.{Node, allFields, fieldCount, nodeSize, table}
 use Rattle.format.specs.Records.{sound}
 use Rattle.format.proofs.Entries.{decode-entries}
-use Rattle.format.proofs.Marks.{mark-length}
+use Rattle.format.proofs.BookKinds.{full-rows, kind-layout, third-tells}
 use Rattle.format.proofs.Numbers.{number-past, numbers-at, numbers-length}
 use Rattle.format.proofs.Records.{sound-few}
 
@@ -38,28 +45,54 @@ pub nodes-length : (rs : List Node) → length (nodePart rs) ≡ nodeSize * leng
 unfolding nodePart
 nodes-length rs = omega (arith, numbers-length (allFields rs), fields-length rs)
 
+-- the table's bytes are so many records
+pub table-length : (f : Form) (ρ : Rule) (xs : List Bytes) → length (numbers (tableIn f ρ xs)) ≡ countIn f ρ xs * recordSize f
+table-length Rows ρ xs = let rs : List Node = table (map (word ρ) xs) in omega (arith, numbers-length (allFields rs), fields-length rs)
+
+pub count-low : (f : Form) (ρ : Rule) (xs : List Bytes) → countIn f ρ xs ≤ length (numbers (tableIn f ρ xs))
+count-low Rows ρ xs = omega (arith, table-length Rows ρ xs)
+
+-- of a full book, by the size of a node
+pub full-length : (κ : BookKind) (ρ : Rule) (xs : List Bytes) → length (numbers (tableIn (formOf κ) ρ xs)) ≡ countIn (formOf κ) ρ xs * nodeSize
+full-length κ ρ xs = subst (λ (f : Form). length (numbers (tableIn f ρ xs)) ≡ countIn f ρ xs * nodeSize) (sym (full-rows κ)) (table-length Rows ρ xs)
+
+pub full-count : (κ : BookKind) (ρ : Rule) (xs : List Bytes) (m : ℕ) → m * nodeSize ≡ length (numbers (tableIn (formOf κ) ρ xs)) → m ≡ countIn (formOf κ) ρ xs
+full-count κ ρ xs m e = omega (arith, full-length κ ρ xs)
+
+pub full-nodes : (κ : BookKind) (ρ : Rule) (xs : List Bytes) → numbers (tableIn (formOf κ) ρ xs) ≡ nodePart (table (map (word ρ) xs))
+unfolding nodePart
+full-nodes κ ρ xs = ap (λ (f : Form). numbers (tableIn f ρ xs)) (full-rows κ)
+
+pub full-number : (κ : BookKind) (ρ : Rule) (xs : List Bytes) → countIn (formOf κ) ρ xs ≡ length (table (map (word ρ) xs))
+full-number κ ρ xs = ap (λ (f : Form). countIn f ρ xs) (full-rows κ)
+
 -- what `fits` asks
-pub record Fits (κ : BookKind) (k : ℕ) (xs : List Bytes) : Type 0 where
+pub record FitsBy (ρ : Rule) (f : Form) (mark : Bytes) (k : ℕ) (xs : List Bytes) : Type 0 where
   pub low : 1 ≤ k
   pub high : k ≤ 64
-  pub sound : sound (ruleOf κ) xs ≡ true
-  pub short : length (book κ k xs) ≤ longestBook
+  pub sound : sound ρ xs ≡ true
+  pub short : length (bookBy ρ f mark k xs) ≤ longestBook
 
-pub fits-parts : (κ : BookKind) (k : ℕ) (xs : List Bytes) → fits κ k xs ≡ true → Fits κ k xs
-unfolding fits
-fits-parts κ k xs h =
-    let a = both-true (goodBlock k) (both (sound (ruleOf κ) xs) (leb (length (book κ k xs)) longestBook)) h in
-    let b = both-true (sound (ruleOf κ) xs) (leb (length (book κ k xs)) longestBook) (a .1) in
-    let c = both-true (leb 1 k) (leb k 64) (a .0) in
-    record { low = leb-true 1 k (c .0); high = leb-true k 64 (c .1); sound = b .0; short = leb-true (length (book κ k xs)) longestBook (b .1) }
+abbrev pub Fits : BookKind → ℕ → List Bytes → Type 0
+Fits κ k xs = FitsBy (ruleOf κ) (formOf κ) (markOf κ) k xs
 
-pub parts-fits : (κ : BookKind) (k : ℕ) (xs : List Bytes) → Fits κ k xs → fits κ k xs ≡ true
-unfolding fits
-parts-fits κ k xs f = rw (le-leb 1 k (f .low), le-leb k 64 (f .high), f .sound, le-leb (length (book κ k xs)) longestBook (f .short)) refl
+module _ {ρ : Rule} {f : Form} {mark : Bytes} (k : ℕ) (xs : List Bytes) where
+  pub fits-parts : fitsBy ρ f mark k xs ≡ true → FitsBy ρ f mark k xs
+  unfolding fitsBy
+  fits-parts h =
+      let a = both-true (goodBlock k) (both (sound ρ xs) (leb (length (bookBy ρ f mark k xs)) longestBook)) h in
+      let b = both-true (sound ρ xs) (leb (length (bookBy ρ f mark k xs)) longestBook) (a .1) in
+      let c = both-true (leb 1 k) (leb k 64) (a .0) in
+      record { low = leb-true 1 k (c .0); high = leb-true k 64 (c .1); sound = b .0; short = leb-true (length (bookBy ρ f mark k xs)) longestBook (b .1) }
 
-module _ (κ : BookKind) (k : ℕ) (xs : List Bytes) where
-  abbrev pub records : List Node
-  records = table (map (word (ruleOf κ)) xs)
+  pub parts-fits : FitsBy ρ f mark k xs → fitsBy ρ f mark k xs ≡ true
+  unfolding fitsBy
+  parts-fits h = rw (le-leb 1 k (h .low), le-leb k 64 (h .high), h .sound, le-leb (length (bookBy ρ f mark k xs)) longestBook (h .short)) refl
+
+module _ {ρ : Rule} {f : Form} {mark : Bytes} (y : Layout ρ f mark) (k : ℕ) (xs : List Bytes) where
+  -- the table's bytes
+  abbrev pub tablePart : Bytes
+  tablePart = numbers (tableIn f ρ xs)
 
   -- where the block table, the node table and the trailer start
   abbrev pub blocksAt : ℕ
@@ -69,110 +102,125 @@ module _ (κ : BookKind) (k : ℕ) (xs : List Bytes) where
   nodesAt = blocksAt + length (blockPart k xs)
 
   abbrev pub trailerAt : ℕ
-  trailerAt = nodesAt + length (nodePart records)
+  trailerAt = nodesAt + length tablePart
 
   abbrev pub trailerNumbers : List ℕ
-  trailerNumbers = length xs ∷ k ∷ blocksAt ∷ nodesAt ∷ length records ∷ (trailerAt + trailerSize) ∷ []
+  trailerNumbers = length xs ∷ k ∷ blocksAt ∷ nodesAt ∷ countIn f ρ xs ∷ (trailerAt + trailerSize) ∷ []
 
   -- all but the trailer
   abbrev pub body : Bytes
-  body = entryPart k xs ++ (blockPart k xs ++ nodePart records)
+  body = entryPart k xs ++ (blockPart k xs ++ tablePart)
 
-  pub book-parts : book κ k xs ≡ entryPart k xs ++ (blockPart k xs ++ (nodePart records ++ (numbers trailerNumbers ++ markOf κ)))
-  unfolding book trailer
+  pub book-parts : bookBy ρ f mark k xs ≡ entryPart k xs ++ (blockPart k xs ++ (tablePart ++ (numbers trailerNumbers ++ mark)))
+  unfolding bookBy trailer
   book-parts = refl
 
-  pub book-split : book κ k xs ≡ body ++ (numbers trailerNumbers ++ markOf κ)
+  pub book-split : bookBy ρ f mark k xs ≡ body ++ (numbers trailerNumbers ++ mark)
   book-split = book-parts ∙ simp append-assoc
 
   body-length : length body ≡ trailerAt
-  body-length = omega (arith, length-append (entryPart k xs) (blockPart k xs ++ nodePart records), length-append (blockPart k xs) (nodePart records))
+  body-length = omega (arith, length-append (entryPart k xs) (blockPart k xs ++ tablePart), length-append (blockPart k xs) tablePart)
 
-  pub book-length : length (book κ k xs) ≡ trailerAt + trailerSize
+  pub book-length : length (bookBy ρ f mark k xs) ≡ trailerAt + trailerSize
   book-length =
-      ap length book-split ∙ length-append body (numbers trailerNumbers ++ markOf κ)
-      ∙ omega (arith, body-length, length-append (numbers trailerNumbers) (markOf κ), mark-length κ, numbers-length trailerNumbers)
+      ap length book-split ∙ length-append body (numbers trailerNumbers ++ mark)
+      ∙ omega (arith, body-length, length-append (numbers trailerNumbers) mark, y .four, numbers-length trailerNumbers)
 
   -- what stands from each part on
-  pub from-blocks : drop blocksAt (book κ k xs) ≡ blockPart k xs ++ (nodePart records ++ (numbers trailerNumbers ++ markOf κ))
+  pub from-blocks : drop blocksAt (bookBy ρ f mark k xs) ≡ blockPart k xs ++ (tablePart ++ (numbers trailerNumbers ++ mark))
   from-blocks = ap (drop blocksAt) book-parts ∙ drop-append-seam (entryPart k xs) _
 
-  pub from-nodes : drop nodesAt (book κ k xs) ≡ nodePart records ++ (numbers trailerNumbers ++ markOf κ)
-  from-nodes = sym (drop-drop (length (blockPart k xs)) blocksAt (book κ k xs)) ∙ ap (drop (length (blockPart k xs))) from-blocks ∙ drop-append-seam (blockPart k xs) _
+  pub from-nodes : drop nodesAt (bookBy ρ f mark k xs) ≡ tablePart ++ (numbers trailerNumbers ++ mark)
+  from-nodes = sym (drop-drop (length (blockPart k xs)) blocksAt (bookBy ρ f mark k xs)) ∙ ap (drop (length (blockPart k xs))) from-blocks ∙ drop-append-seam (blockPart k xs) _
 
-  pub from-trailer : drop trailerAt (book κ k xs) ≡ numbers trailerNumbers ++ markOf κ
-  from-trailer = sym (drop-drop (length (nodePart records)) nodesAt (book κ k xs)) ∙ ap (drop (length (nodePart records))) from-nodes ∙ drop-append-seam (nodePart records) (numbers trailerNumbers ++ markOf κ)
+  pub from-trailer : drop trailerAt (bookBy ρ f mark k xs) ≡ numbers trailerNumbers ++ mark
+  from-trailer = sym (drop-drop (length tablePart) nodesAt (bookBy ρ f mark k xs)) ∙ ap (drop (length tablePart)) from-nodes ∙ drop-append-seam tablePart (numbers trailerNumbers ++ mark)
 
-  pub from-mark : drop (length (book κ k xs) - 4) (book κ k xs) ≡ markOf κ
+  pub from-mark : drop (length (bookBy ρ f mark k xs) - 4) (bookBy ρ f mark k xs) ≡ mark
   from-mark =
-      let there : length (book κ k xs) - 4 ≡ trailerAt + length (numbers trailerNumbers) = omega (arith, book-length, numbers-length trailerNumbers) in
-      ap (λ (n : ℕ). drop n (book κ k xs)) there ∙ sym (drop-drop (length (numbers trailerNumbers)) trailerAt (book κ k xs)) ∙ ap (drop (length (numbers trailerNumbers))) from-trailer ∙ drop-append-seam (numbers trailerNumbers) (markOf κ)
+      let there : length (bookBy ρ f mark k xs) - 4 ≡ trailerAt + length (numbers trailerNumbers) = omega (arith, book-length, numbers-length trailerNumbers) in
+      ap (λ (n : ℕ). drop n (bookBy ρ f mark k xs)) there ∙ sym (drop-drop (length (numbers trailerNumbers)) trailerAt (bookBy ρ f mark k xs)) ∙ ap (drop (length (numbers trailerNumbers))) from-trailer ∙ drop-append-seam (numbers trailerNumbers) mark
 
-  module _ (f : Fits κ k xs) where
+  module _ (h : FitsBy ρ f mark k xs) where
     numbers-few : All (λ n. n < 65536) trailerNumbers
     numbers-few =
-        cons {a = length xs} (omega (arith, sound-few (ruleOf κ) xs (f .sound)))
-        (cons {a = k} (omega (arith, f .high))
-        (cons {a = blocksAt} (omega (arith, book-length, f .short))
-        (cons {a = nodesAt} (omega (arith, book-length, f .short))
-        (cons {a = length records} (omega (arith, book-length, f .short, nodes-length records))
-        (cons {a = trailerAt + trailerSize} (omega (arith, book-length, f .short)) nil)))))
+        cons {a = length xs} (omega (arith, sound-few ρ xs (h .sound)))
+        (cons {a = k} (omega (arith, h .high))
+        (cons {a = blocksAt} (omega (arith, book-length, h .short))
+        (cons {a = nodesAt} (omega (arith, book-length, h .short))
+        (cons {a = countIn f ρ xs} (omega (arith, book-length, h .short, count-low f ρ xs))
+        (cons {a = trailerAt + trailerSize} (omega (arith, book-length, h .short)) nil)))))
 
     -- number j of the trailer
-    pub read-field : (j : ℕ) → j < 6 → told (book κ k xs) j ≡ getD trailerNumbers j 0
-    read-field j h =
-        let o : length (book κ k xs) - trailerSize + 2 * j ≡ length body + 2 * j = omega (arith, book-length, body-length) in
-        ap₂ number book-split o ∙ number-past body (numbers trailerNumbers ++ markOf κ) (2 * j)
-        ∙ numbers-at trailerNumbers (markOf κ) j h (all-at 0 trailerNumbers numbers-few j h)
+    pub read-field : (j : ℕ) → j < 6 → told (bookBy ρ f mark k xs) j ≡ getD trailerNumbers j 0
+    read-field j l =
+        let o : length (bookBy ρ f mark k xs) - trailerSize + 2 * j ≡ length body + 2 * j = omega (arith, book-length, body-length) in
+        ap₂ number book-split o ∙ number-past body (numbers trailerNumbers ++ mark) (2 * j)
+        ∙ numbers-at trailerNumbers mark j l (all-at 0 trailerNumbers numbers-few j l)
 
     -- the names, out of the bytes before the block table
-    pub read-names : namesOf (book κ k xs) ≡ xs
-    unfolding namesOf book
+    pub read-names : namesOf (bookBy ρ f mark k xs) ≡ xs
+    unfolding namesOf bookBy
     read-names =
-        ap (λ (n : ℕ). decode (take n (book κ k xs))) (read-field 2 (omega arith))
-        ∙ ap decode (take-append-seam (entryPart k xs) _) ∙ decode-entries k xs (f .low)
+        ap (λ (n : ℕ). decode (take n (bookBy ρ f mark k xs))) (read-field 2 (omega arith))
+        ∙ ap decode (take-append-seam (entryPart k xs) _) ∙ decode-entries k xs (h .low)
 
 -- ---- what bytes are a book
 
-pub opened-book : (κ : BookKind) (k : ℕ) (xs : List Bytes) → fits κ k xs ≡ true → opened κ (book κ k xs) ≡ Book k xs
-unfolding opened
-opened-book κ k xs h =
-    let f = fits-parts κ k xs h in
-    ap₂ (λ (j : ℕ) (ys : List Bytes). pick (both (fits κ j ys) (same (book κ j ys) (book κ k xs))) (Book j ys) NoBook)
-    (read-field κ k xs f 1 (omega arith)) (read-names κ k xs f)
-    ∙ rw (h, same-refl (book κ k xs)) refl
+module _ {ρ : Rule} {f : Form} {mark : Bytes} (k : ℕ) (xs : List Bytes) where
+  -- the book of a block size and names that fit
+  pub book-is : Layout ρ f mark → fitsBy ρ f mark k xs ≡ true → isBookBy ρ f mark (bookBy ρ f mark k xs) ≡ true
+  unfolding isBookBy
+  book-is y h =
+      let fit = fits-parts k xs h in
+      ap₂ (λ (j : ℕ) (ys : List Bytes). both (fitsBy ρ f mark j ys) (same (bookBy ρ f mark j ys) (bookBy ρ f mark k xs))) (read-field y k xs fit 1 (omega arith)) (read-names y k xs fit)
+      ∙ rw (h, same-refl (bookBy ρ f mark k xs)) refl
 
-pub book-opened : (κ : BookKind) (s : Bytes) (k : ℕ) (xs : List Bytes) → opened κ s ≡ Book k xs → (fits κ k xs ≡ true) × (book κ k xs ≡ s)
-unfolding opened
-book-opened κ s k xs e = go (both (fits κ j ys) (same (book κ j ys) s)) refl e
-  where
-    j : ℕ
-    j = told s 1
-
-    ys : List Bytes
-    ys = namesOf s
-
-    go : (t : Bool) → both (fits κ j ys) (same (book κ j ys) s) ≡ t → pick t (Book j ys) NoBook ≡ Book k xs → (fits κ k xs ≡ true) × (book κ k xs ≡ s)
-    go true p q =
-        let jk : j ≡ k = cc in
-        let yx : ys ≡ xs = cc in
-        let b = both-true (fits κ j ys) (same (book κ j ys) s) p in (
-          sym (ap₂ (λ (a : ℕ) (zs : List Bytes). fits κ a zs) jk yx) ∙ b .0,
-          sym (ap₂ (λ (a : ℕ) (zs : List Bytes). book κ a zs) jk yx) ∙ same-true (book κ j ys) s (b .1),
-        )
-    go false p q = let z : _≡_ {A = ℕ} 0 1 = cc in absurd (omega arith)
+-- and no others
+pub is-book : {ρ : Rule} {f : Form} {mark : Bytes} → Layout ρ f mark → (s : Bytes) → isBookBy ρ f mark s ≡ true → (fitsBy ρ f mark (told s 1) (namesOf s) ≡ true) × (bookBy ρ f mark (told s 1) (namesOf s) ≡ s)
+unfolding isBookBy
+is-book {ρ} {f} {mark} y s e =
+    let b = both-true (fitsBy ρ f mark (told s 1) (namesOf s)) (same (bookBy ρ f mark (told s 1) (namesOf s)) s) e in
+    (b .0, same-true (bookBy ρ f mark (told s 1) (namesOf s)) s (b .1))
 
 -- ---- the mark
 
 pub kind-of-book : (κ : BookKind) (k : ℕ) (xs : List Bytes) → kindOf (book κ k xs) ≡ κ
-kind-of-book κ k xs = ap (λ (b : ℕ). pick (eqb b 0x46) FoldedBook PlainBook) third ∙ told-by κ
+kind-of-book κ k xs = ap (λ (b : ℕ). markedAs b allKinds) third ∙ third-tells κ
   where
+    y : Layout (ruleOf κ) (formOf κ) (markOf κ)
+    y = kind-layout κ
+
     -- the mark's third byte
     third : getD (book κ k xs) (length (book κ k xs) - 2) 0 ≡ getD (markOf κ) 2 0
     third =
-        let there : length (book κ k xs) - 2 ≡ length (book κ k xs) - 4 + 2 = omega (arith, book-length κ k xs) in
-        ap (λ (i : ℕ). getD (book κ k xs) i 0) there ∙ sym (getD-drop (length (book κ k xs) - 4) (book κ k xs) 2 0) ∙ ap (λ (s : Bytes). getD s 2 0) (from-mark κ k xs)
+        let there : length (book κ k xs) - 2 ≡ length (book κ k xs) - 4 + 2 = omega (arith, book-length y k xs) in
+        ap (λ (i : ℕ). getD (book κ k xs) i 0) there ∙ sym (getD-drop (length (book κ k xs) - 4) (book κ k xs) 2 0) ∙ ap (λ (s : Bytes). getD s 2 0) (from-mark y k xs)
 
-    told-by : (κ : BookKind) → pick (eqb (getD (markOf κ) 2 0) 0x46) FoldedBook PlainBook ≡ κ
-    told-by PlainBook = refl
-    told-by FoldedBook = refl
+-- ---- by the bytes' own mark
+
+pub opened-book : (κ : BookKind) (k : ℕ) (xs : List Bytes) → fits κ k xs ≡ true → opened (book κ k xs) ≡ Book κ k xs
+unfolding opened
+opened-book κ k xs h =
+    let fit = fits-parts k xs h in
+    ap (λ (μ : BookKind). pick (isBook μ (book κ k xs)) (Book μ (told (book κ k xs) 1) (namesOf (book κ k xs))) NoBook) (kind-of-book κ k xs)
+    ∙ ap (λ (t : Bool). pick t (Book κ (told (book κ k xs) 1) (namesOf (book κ k xs))) NoBook) (book-is k xs (kind-layout κ) h)
+    ∙ ap₂ (λ (j : ℕ) (ys : List Bytes). Book κ j ys) (read-field (kind-layout κ) k xs fit 1 (omega arith)) (read-names (kind-layout κ) k xs fit)
+
+pub book-opened : (κ : BookKind) (s : Bytes) (k : ℕ) (xs : List Bytes) → opened s ≡ Book κ k xs → (fits κ k xs ≡ true) × (book κ k xs ≡ s)
+unfolding opened
+book-opened κ s k xs e = go (isBook (kindOf s) s) refl e
+  where
+    go : (t : Bool) → isBook (kindOf s) s ≡ t → pick t (Book (kindOf s) (told s 1) (namesOf s)) NoBook ≡ Book κ k xs → (fits κ k xs ≡ true) × (book κ k xs ≡ s)
+    go true p q =
+        let mark : kindOf s ≡ κ = cc in
+        let jk : told s 1 ≡ k = cc in
+        let yx : namesOf s ≡ xs = cc in
+        subst (λ (ys : List Bytes). (fits κ k ys ≡ true) × (book κ k ys ≡ s)) yx
+        (subst (λ (j : ℕ). (fits κ j (namesOf s) ≡ true) × (book κ j (namesOf s) ≡ s)) jk
+        (subst (λ (μ : BookKind). (fits μ (told s 1) (namesOf s) ≡ true) × (book μ (told s 1) (namesOf s) ≡ s)) mark (is-book (kind-layout (kindOf s)) s p)))
+    go false p q = let z : _≡_ {A = ℕ} 0 1 = cc in absurd (omega arith)
+
+-- a book opens as the kind that its mark tells
+pub opened-kind : (κ : BookKind) (s : Bytes) (k : ℕ) (xs : List Bytes) → opened s ≡ Book κ k xs → kindOf s ≡ κ
+opened-kind κ s k xs e = subst (λ (t : Bytes). kindOf t ≡ κ) (book-opened κ s k xs e .1) (kind-of-book κ k xs)

@@ -14,7 +14,7 @@ use Rattle.format.specs.Book.{number, numbers}
 use Rattle.format.specs.Distinct.{distinct}
 use Rattle.format.specs.Example.{exampleBy2, exampleBy4, text}
 use Rattle.format.specs.Entries.{decode, decodeFrom, entry, front}
-use Rattle.format.specs.Marks.{folded}
+use Rattle.format.specs.Folded.{folded}
 use Rattle.format.specs.Merging.{kept, merged}
 use Rattle.format.specs.Records.{rising}
 use Rattle.format.specs.Salvage.{Broken, Whole, boundsFrom, climbs, judgedAlone, mapped}

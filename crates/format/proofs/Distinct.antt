@@ -11,7 +11,8 @@ use mathlib.Core.Logic.{⊎-elim}
 use mathlib.Core.Bool.{Bool, true, false, not}
 use mathlib.Core.List.{List, List·Memᴰ as Among, List·Memᴰ·head as here, List·Memᴰ·tail as there, [], _∷_, map}
 use lib.ListN.{length, length-append}
-use Rattle.words.specs.Words.{Bytes, Lawful, Rule, less, pick, same, word}
+use Rattle.words.specs.Words.{Bytes, Rule, less, pick, same, word}
+use Rattle.words.specs.Rising.{Sure}
 use Rattle.words.proofs.Members.{Distinct, distinct-few, mapped, more, none, rising-distinct}
 use Rattle.words.proofs.Words.{less-asym, same-true}
 use Rattle.format.specs.Distinct.{distinct}
@@ -34,7 +35,7 @@ names-distinct : (ρ : Rule) (xs : List Bytes) → Distinct (map (word ρ) xs) �
 names-distinct ρ [] d = none
 names-distinct ρ (x ∷ xs) (more n d) = more (λ m. n (mapped (word ρ) m)) (names-distinct ρ xs d)
 
-module _ (ρ : Rule) (ok : Lawful ρ) where
+module _ (ρ : Rule) (ok : Sure ρ) where
   pub rising-few : (xs : List Bytes) → rising ρ [] xs ≡ true → (all : List Bytes) → ((z : Bytes) → Among z xs → Among z all) → length xs ≤ length (distinct all)
   rising-few xs r all f = distinct-few xs (distinct all) (names-distinct ρ xs (rising-distinct (rising-rises ρ ok [] xs r .1))) (λ z m. distinct-has all (f z m))
 

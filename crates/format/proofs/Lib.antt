@@ -10,7 +10,7 @@ pub mod Groups
 pub mod Widths
 pub mod Spans
 pub mod Numbers
-pub mod Marks
+pub mod BookKinds
 pub mod Book
 pub mod Small
 pub mod Example

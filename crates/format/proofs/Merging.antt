@@ -13,8 +13,8 @@ use mathlib.Core.Bool.{Bool, true, false}
 use mathlib.Core.List.{List, List·Memᴰ as Among, List·Memᴰ·append-cases, List·Memᴰ·head as here, List·Memᴰ·tail as there, Memᴰ·append-left, Memᴰ·append-right, Memᴰ·cast, [], _∷_, _++_}
 use lib.ListN.{drop, length}
 use borrow.Author.Tests.{lt-ltb}
-use Rattle.words.specs.Rising.{All, cons, nil}
-use Rattle.words.specs.Words.{Bytes, Lawful, Rule, less, pick, word}
+use Rattle.words.specs.Rising.{All, cons, nil, Sure}
+use Rattle.words.specs.Words.{Bytes, Rule, less, pick, word}
 use Rattle.words.proofs.Lists.{all-map}
 use Rattle.words.proofs.Members.{From}
 use Rattle.words.proofs.Words.{Ordered, equal, greater, less-asym, less-irrefl, less-start, less-trans, lesser, ordered, word-positive}
@@ -78,7 +78,7 @@ module _ (ρ : Rule) where
   not-below x ys a = all-map (λ y k. less-asym (word ρ x) (word ρ y) k) a
 
   -- names that rise from one on rise from the empty word on
-  pub rising-only : Lawful ρ → (x : Bytes) (ys : List Bytes) → rising ρ x ys ≡ true → rising ρ [] ys ≡ true
+  pub rising-only : Sure ρ → (x : Bytes) (ys : List Bytes) → rising ρ x ys ≡ true → rising ρ [] ys ≡ true
   unfolding rising
   rising-only ok x [] r = refl
   rising-only ok x (y ∷ ys) r = let f = rising-first ρ x y ys r in rw (f .size, first-above y (f .size), f .rest) refl
@@ -87,7 +87,7 @@ module _ (ρ : Rule) where
       first-above [] g = absurd (lt-irrefl 0 (good-length 0 g .0))
       first-above (c ∷ z) g = less-start (ρ c) (word ρ z) ∙ lt-ltb 0 (ρ c) (ok .low c)
 
-  pub rising-drop : Lawful ρ → (i : ℕ) (xs : List Bytes) → rising ρ [] xs ≡ true → rising ρ [] (drop i xs) ≡ true
+  pub rising-drop : Sure ρ → (i : ℕ) (xs : List Bytes) → rising ρ [] xs ≡ true → rising ρ [] (drop i xs) ≡ true
   unfolding rising
   rising-drop ok zero xs r = r
   rising-drop ok (suc i) [] r = r
@@ -125,7 +125,7 @@ module _ (ρ : Rule) where
   unfolding rising
   rises-cons prev x xs g l r = rw (g, l, r) refl
 
-  module _ (ok : Lawful ρ) where
+  module _ (ok : Sure ρ) where
     -- f bounds how many names there are in both
     rises-within : (f : ℕ) (prev : Bytes) (xs ys : List Bytes) → length xs + length ys ≤ f → rising ρ prev xs ≡ true → rising ρ prev ys ≡ true → rising ρ prev (merged ρ xs ys) ≡ true
     unfolding merged rising
@@ -174,7 +174,7 @@ module _ (ρ : Rule) where
   among-left (x ∷ xs) ys (here e) = Memᴰ·append-right (below ρ x ys) (here e)
   among-left (x ∷ xs) ys (there m) = Memᴰ·append-right (below ρ x ys) (there (among-left xs (above ρ x ys) m))
 
-  module _ (ok : Lawful ρ) where
+  module _ (ok : Sure ρ) where
     -- of a name of the second list the union has one with its word
     pub among-word : {z : Bytes} (xs ys : List Bytes) → Among z ys → From (word ρ) (word ρ z) (merged ρ xs ys)
     unfolding merged

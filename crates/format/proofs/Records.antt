@@ -6,6 +6,7 @@
 --     read-encode, read-names, read-sound   the round trip, both ways; for any number of names, and for as many as a book has
 --     read-refused, alone-refused   a list that is not read is refused with 5, 6 or 7; judged by its own length, never with 7
 --     sound-few, sound-rising, rising-sizes, sound-rises, rising-less, word-short    what a sound list's names are; their words rise
+--     Symbols, sure-symbols, lawful-symbols, symbols-rises    names of which no symbol is the end symbol: by a sure rule all, by a lawful one those of bytes
 --     from-rising, from-sound                and back
 -- Assumes nothing.
 use Prim.Native.Nat.{ℕ, suc-le-suc, zero, suc, _+_, _-_, _≤_, _<_, zero-le}
@@ -18,11 +19,11 @@ use lib.Dec.{leb, ltb}
 use lib.ListN.{length, length-drop, length-map, getD, take, drop, length-append, take-append-drop}
 use lib.Seq.{drop-append-seam, drop-cons, drop-drop, length-take-le, take-append-seam}
 use borrow.Author.Tests.{lt-ltb, ltb-true, leb-true, le-leb}
-use Rattle.words.specs.Rising.{All, Rises, cons, nil, rise, start, nth}
+use Rattle.words.specs.Rising.{All, Positive, Rises, Sure, cons, nil, nth, rise, start}
 use Rattle.words.specs.Words.{Bytes, Lawful, Rule, both, less, pick, word}
 use Rattle.words.proofs.Lists.{all-map}
 use Rattle.words.proofs.Rising.{Above, nth-less, nth-word}
-use Rattle.words.proofs.Words.{both-true, false≠true, less-start, less-trans, word-positive}
+use Rattle.words.proofs.Words.{both-true, false≠true, less-start, less-trans, letters-positive, word-positive}
 use Rattle.format.specs.Records.{Names, Reading, Refused, after, encode, goodLength, longest, mostNames, readFrom, readList, rising, sound}
 
 -- the records of two lists of names are the records of both
@@ -224,23 +225,41 @@ rising-sizes ρ prev (x ∷ xs) h =
     let f = rising-first ρ prev x xs h in
     cons (good-length (length x) (f .size)) (rising-sizes ρ x xs (f .rest))
 
+-- no symbol of a name is the end symbol: by a rule that is sure, and of names of bytes by a lawful one
+abbrev pub Symbols : Rule → List Bytes → Type 0
+Symbols ρ xs = All (λ x. Positive (word ρ x)) xs
+
+pub sure-symbols : (ρ : Rule) → Sure ρ → (xs : List Bytes) → Symbols ρ xs
+sure-symbols ρ ok [] = nil
+sure-symbols ρ ok (x ∷ xs) = cons (word-positive ρ ok x) (sure-symbols ρ ok xs)
+
+pub lawful-symbols : (ρ : Rule) → Lawful ρ → (xs : List Bytes) → All (λ x. All (λ b. b < 256) x) xs → Symbols ρ xs
+lawful-symbols ρ ok [] nil = nil
+lawful-symbols ρ ok (x ∷ xs) (cons h a) = cons (letters-positive ρ ok x h) (lawful-symbols ρ ok xs a)
+
 -- a sound list's words: each above the one before it is each above all before it
-pub rising-rises : (ρ : Rule) → Lawful ρ → (prev : Bytes) (xs : List Bytes) → rising ρ prev xs ≡ true
-    → Above (word ρ prev) (map (word ρ) xs) × Rises (map (word ρ) xs)
+symbols-rise : (ρ : Rule) (prev : Bytes) (xs : List Bytes) → Symbols ρ xs → rising ρ prev xs ≡ true → Above (word ρ prev) (map (word ρ) xs) × Rises (map (word ρ) xs)
 unfolding rising
-rising-rises ρ ok prev [] h = (nil, start)
-rising-rises ρ ok prev (x ∷ xs) h =
+symbols-rise ρ prev [] a h = (nil, start)
+symbols-rise ρ prev (x ∷ xs) (cons p a) h =
     let b = both-true (goodLength (length x)) (both (less (word ρ prev) (word ρ x)) (rising ρ x xs)) h in
     let c = both-true (less (word ρ prev) (word ρ x)) (rising ρ x xs) (b .1) in
-    let r = rising-rises ρ ok x xs (c .1) in
-    (cons (c .0) (all-map (λ v k. less-trans (word ρ prev) (word ρ x) v (c .0) k) (r .0)), rise (word-positive ρ ok x) (r .0) (r .1))
+    let r = symbols-rise ρ x xs a (c .1) in
+    (cons (c .0) (all-map (λ v k. less-trans (word ρ prev) (word ρ x) v (c .0) k) (r .0)), rise p (r .0) (r .1))
 
-pub sound-rises : (ρ : Rule) → Lawful ρ → (xs : List Bytes) → sound ρ xs ≡ true → Rises (map (word ρ) xs)
+pub symbols-rises : (ρ : Rule) (xs : List Bytes) → Symbols ρ xs → rising ρ [] xs ≡ true → Rises (map (word ρ) xs)
+symbols-rises ρ xs a h = symbols-rise ρ [] xs a h .1
+
+pub rising-rises : (ρ : Rule) → Sure ρ → (prev : Bytes) (xs : List Bytes) → rising ρ prev xs ≡ true
+    → Above (word ρ prev) (map (word ρ) xs) × Rises (map (word ρ) xs)
+rising-rises ρ ok prev xs h = symbols-rise ρ prev xs (sure-symbols ρ ok xs) h
+
+pub sound-rises : (ρ : Rule) → Sure ρ → (xs : List Bytes) → sound ρ xs ≡ true → Rises (map (word ρ) xs)
 sound-rises ρ ok xs h = rising-rises ρ ok [] xs (sound-rising ρ xs h) .1
 
 -- by two positions
-pub rising-less : (ρ : Rule) → Lawful ρ → (xs : List Bytes) → rising ρ [] xs ≡ true → (i j : ℕ) → i < j → j < length xs → less (word ρ (getD xs i [])) (word ρ (getD xs j [])) ≡ true
-rising-less ρ ok xs h i j l m = rw (← nth-word ρ xs i, ← nth-word ρ xs j) (nth-less (map (word ρ) xs) i j (rising-rises ρ ok [] xs h .1) l (omega (arith, length-map xs (word ρ))))
+pub rising-less : (ρ : Rule) (xs : List Bytes) → Symbols ρ xs → rising ρ [] xs ≡ true → (i j : ℕ) → i < j → j < length xs → less (word ρ (getD xs i [])) (word ρ (getD xs j [])) ≡ true
+rising-less ρ xs a h i j l m = rw (← nth-word ρ xs i, ← nth-word ρ xs j) (nth-less (map (word ρ) xs) i j (symbols-rises ρ xs a h) l (omega (arith, length-map xs (word ρ))))
 
 pub word-short : (ρ : Rule) (xs : List Bytes) → sound ρ xs ≡ true → (i : ℕ) → length (nth (map (word ρ) xs) i) ≤ longest
 word-short ρ xs is i = go xs i (rising-sizes ρ [] xs (sound-rising ρ xs is))
@@ -263,12 +282,12 @@ from-rising ρ prev (x ∷ xs) (cons h a) l m =
     rw (lt-ltb 0 (length x) (h .0), le-leb (length x) longest (h .1), l (suc-le-suc zero-le))
     (from-rising ρ x xs a (λ k. m 0 (suc-le-suc k)) (λ i k. m (suc i) (suc-le-suc k)))
 
-pub from-sound : (ρ : Rule) → Lawful ρ → (xs : List Bytes) → length xs ≤ mostNames → All (λ x. (1 ≤ length x) × (length x ≤ longest)) xs
+pub from-sound : (ρ : Rule) (xs : List Bytes) → Symbols ρ xs → length xs ≤ mostNames → All (λ x. (1 ≤ length x) × (length x ≤ longest)) xs
     → ((i : ℕ) → suc i < length xs → less (word ρ (getD xs i [])) (word ρ (getD xs (suc i) [])) ≡ true) → sound ρ xs ≡ true
 unfolding sound
-from-sound ρ ok xs few a m = rw (le-leb (length xs) mostNames few) (from-rising ρ [] xs a (λ h. first-above xs a h) m)
+from-sound ρ xs p few a m = rw (le-leb (length xs) mostNames few) (from-rising ρ [] xs a (λ h. first-above xs p a h) m)
   where
-    first-above : (ys : List Bytes) → All (λ x. (1 ≤ length x) × (length x ≤ longest)) ys → 0 < length ys → less [] (word ρ (getD ys 0 [])) ≡ true
-    first-above [] b h = absurd (not-suc-le-zero h)
-    first-above ([] ∷ ys) (cons k b) h = absurd (not-suc-le-zero (k .0))
-    first-above ((c ∷ y) ∷ ys) (cons k b) h = less-start (ρ c) (word ρ y) ∙ lt-ltb 0 (ρ c) (ok .low c)
+    first-above : (ys : List Bytes) → Symbols ρ ys → All (λ x. (1 ≤ length x) × (length x ≤ longest)) ys → 0 < length ys → less [] (word ρ (getD ys 0 [])) ≡ true
+    first-above [] r b h = absurd (not-suc-le-zero h)
+    first-above ([] ∷ ys) r (cons k b) h = absurd (not-suc-le-zero (k .0))
+    first-above ((c ∷ y) ∷ ys) (cons r rs) (cons k b) h = less-start (ρ c) (word ρ y) ∙ lt-ltb 0 (ρ c) (r .0)

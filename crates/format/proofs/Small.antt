@@ -10,19 +10,18 @@ use mathlib.Core.Path.{_≡_, refl, sym, ap, subst}
 use mathlib.Core.List.{List, [], _∷_, _++_}
 use lib.ListN.{length, take, drop, length-append, length-drop, take-append-drop}
 use Rattle.words.specs.Rising.{All, Rises, cons, nil}
-use Rattle.words.specs.Words.{Bytes, InBytes, Words, at, shared}
+use Rattle.words.specs.Words.{Bytes, InBytes, Rule, Words, at, shared}
 use Rattle.words.proofs.Lists.{all-append, all-head, all-left, all-map, all-right}
 use Rattle.words.proofs.Rising.{rises-left, rises-right}
 use Rattle.words.proofs.Words.{shared-comm, shared-le}
-use Rattle.format.specs.Marks.{BookKind}
-use Rattle.format.specs.Book.{allFields, blockPart, book, entryPart, fields, joined, namesOf, nodePart, number, trailer, trailerSize}
+use Rattle.format.specs.Kinds.{Form}
+use Rattle.format.specs.Layout.{Layout}
+use Rattle.format.specs.Book.{blockPart, bookBy, entryPart, joined, namesOf, number, trailer, trailerSize}
 use Rattle.format.specs.Entries.{blocks, blocksFrom, decode, decodeFrom, entry, front}
-use Rattle.format.specs.Nodes.{Node, depth, groups, rowBy, table, tableWithin}
+use Rattle.format.specs.Nodes.{Node, allFields, depth, fields, groups, rowBy, table, tableWithin}
 use Rattle.format.specs.Spans.{nodeTable}
 use Rattle.format.specs.Widths.{widest}
 use Rattle.format.specs.Records.{longest}
-use Rattle.format.proofs.Book.{Fits, read-names}
-use Rattle.format.proofs.Marks.{mark-bytes}
 use Rattle.format.proofs.Entries.{by-blocks, entries-first}
 use Rattle.format.proofs.Groups.{Parted, Short, children, depth-length, joinedGroups, part, rowWithin, shorter, whole, within-few}
 use Rattle.format.proofs.Numbers.{bytes-all, numbers-bytes, take-bytes}
@@ -97,12 +96,10 @@ decode-bytes prev zero (c ∷ l ∷ rest) p (cons h (cons k a)) =
 decode-bytes prev (suc n) [] p a = nil
 decode-bytes prev (suc n) (b ∷ rest) p (cons h a) = decode-bytes prev n rest p a
 
--- the names of a book of bytes
-pub names-bytes : (κ : BookKind) (k : ℕ) (xs : List Bytes) → Fits κ k xs → InBytes (book κ k xs) → All Small xs
+-- the names that bytes tell
+pub names-bytes : (s : Bytes) → InBytes s → All Small (namesOf s)
 unfolding decode namesOf
-names-bytes κ k xs f h =
-    let n : ℕ = number (book κ k xs) (length (book κ k xs) - trailerSize + 4) in
-    subst (All Small) (read-names κ k xs f) (decode-bytes [] 0 (take n (book κ k xs)) nil (take-bytes n (book κ k xs) (bytes-all (book κ k xs) h)))
+names-bytes s h = let n : ℕ = number s (length s - trailerSize + 4) in decode-bytes [] 0 (take n s) nil (take-bytes n s (bytes-all s h))
 
 -- ---- a book is bytes
 
@@ -127,9 +124,9 @@ entries-bytes k xs h = by-blocks k h (λ (ys : List Bytes). Lettered ys → Smal
     subst Small (sym (entries-first k y ys h))
     (all-append (front-bytes [] (take k (y ∷ ys)) (all-left (take k (y ∷ ys)) (drop k (y ∷ ys)) whole)) (ih (all-right (take k (y ∷ ys)) (drop k (y ∷ ys)) whole)))) xs
 
-pub book-bytes : (κ : BookKind) (k : ℕ) (xs : List Bytes) → 1 ≤ k → Lettered xs → Small (book κ k xs)
-unfolding book blockPart nodePart trailer
-book-bytes κ k xs h a =
+pub book-bytes : {ρ : Rule} {f : Form} {mark : Bytes} → Layout ρ f mark → (k : ℕ) (xs : List Bytes) → 1 ≤ k → Lettered xs → Small (bookBy ρ f mark k xs)
+unfolding bookBy blockPart trailer
+book-bytes {mark = mark} y k xs h a =
     all-append (entries-bytes k xs h a)
     (all-append (numbers-bytes _) (all-append (numbers-bytes _) (all-append (numbers-bytes _)
-    (mark-bytes κ))))
+    (bytes-all mark (y .bytes)))))

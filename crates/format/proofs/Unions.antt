@@ -9,14 +9,15 @@ use mathlib.Core.Path.{_≡_, refl, ap, _∙_}
 use mathlib.Core.Logic.{_⊎_, inl, inr, ⊎-elim}
 use mathlib.Core.Bool.{true}
 use mathlib.Core.List.{List, List·Memᴰ as Among, Memᴰ·cast, [], _∷_, map}
-use Rattle.words.specs.Words.{Bytes, Lawful, Rule, word}
+use Rattle.words.specs.Words.{Bytes, Rule, word}
+use Rattle.words.specs.Rising.{Sure}
 use Rattle.words.proofs.Members.{map-injective, mapped, rising-unique, unmapped}
 use Rattle.format.specs.Merging.{merged}
 use Rattle.format.specs.Records.{rising}
 use Rattle.format.proofs.Merging.{among-either, among-left, among-word, merged-both, merged-rises, rising-only}
 use Rattle.format.proofs.Records.{rising-first, rising-rises}
 
-module _ (ρ : Rule) (ok : Lawful ρ) where
+module _ (ρ : Rule) (ok : Sure ρ) where
   abbrev Rising : List Bytes → Type 0
   Rising xs = rising ρ [] xs ≡ true
 

@@ -1,19 +1,20 @@
 -- Document 01, 'Layout of a book': four parts without gaps, numbers in two bytes, low byte first; demand 3: what bytes are a book.
 --     numbers, number   numbers as bytes; the number that stands at an offset
---     entryPart, blockPart, nodePart, trailer, book     the four parts; the whole, for a block size and names
---     fits, told        a book can be built from these; what the trailer tells
---     namesOf, opened   the names that bytes would be the book of; the block size and the names of a book, or none
+--     entryPart, blockPart, trailer     the parts, but for the table, which Kinds has; the whole, for a block size and names:
+--     bookBy, book      by a rule, a form of table and a mark; by a kind of book, which has all three
+--     fitsBy, fits      a book can be built from these
+--     told, namesOf     what the trailer tells; the names that bytes would be the book of
+--     isBookBy, isBook, opened     whether they are that book; the kind, the block size and the names of a book, or none
 -- The laws are in proofs/Book.antt. Assumes nothing: these are definitions.
 use Prim.Native.Nat.{ℕ, _+_, _-_, _*_, _/_, _%_}
 use mathlib.Core.Bool.{Bool}
-use mathlib.Core.List.{List, [], _∷_, _++_, map}
+use mathlib.Core.List.{List, [], _∷_, _++_}
 use lib.Dec.{leb}
 use lib.ListN.{length, getD, take}
-use Rattle.words.specs.Words.{Bytes, pick, both, word, same}
-use Rattle.format.specs.Marks.{BookKind, markOf, ruleOf}
+use Rattle.words.specs.Words.{Bytes, Rule, pick, both, same}
+use Rattle.format.specs.Kinds.{BookKind, Form, countIn, formOf, kindOf, markOf, ruleOf, tableIn}
 use Rattle.format.specs.Records.{sound}
 use Rattle.format.specs.Entries.{blocks, offsets, decode}
-use Rattle.format.specs.Nodes.{Node, table}
 
 abbrev pub trailerSize : ℕ
 trailerSize = 16
@@ -38,39 +39,30 @@ entryPart k xs = joined (blocks k xs)
 unfoldable pub blockPart : ℕ → List Bytes → Bytes
 blockPart k xs = numbers (offsets 0 (blocks k xs))
 
--- a node's numbers, in their order
-abbrev pub fields : Node → List ℕ
-fields r = r .symbol ∷ r .depth ∷ r .first ∷ r .names ∷ r .nodes ∷ r .width ∷ []
+-- names, block size, start of block table, start of node table, number of nodes, length of the whole book, the mark
+unfoldable pub trailer : Bytes → ℕ → ℕ → ℕ → ℕ → ℕ → ℕ → Bytes
+trailer mark n k blocksAt nodesAt m total = numbers (n ∷ k ∷ blocksAt ∷ nodesAt ∷ m ∷ total ∷ []) ++ mark
 
-unfoldable pub allFields : List Node → List ℕ
-allFields [] = []
-allFields (r ∷ rs) = fields r ++ allFields rs
-
-unfoldable pub nodePart : List Node → Bytes
-nodePart rs = numbers (allFields rs)
-
--- names, block size, start of block table, start of node table, number of nodes, length of the whole book, the kind's mark
-unfoldable pub trailer : BookKind → ℕ → ℕ → ℕ → ℕ → ℕ → ℕ → Bytes
-trailer κ n k blocksAt nodesAt m total = numbers (n ∷ k ∷ blocksAt ∷ nodesAt ∷ m ∷ total ∷ []) ++ markOf κ
-
-unfoldable pub book : BookKind → ℕ → List Bytes → Bytes
-book κ k xs =
+-- by a rule, a form of table and a mark
+unfoldable pub bookBy : Rule → Form → Bytes → ℕ → List Bytes → Bytes
+bookBy ρ f mark k xs =
     let es = entryPart k xs in
     let bs = blockPart k xs in
-    let rs = table (map (word (ruleOf κ)) xs) in
-    let ns = nodePart rs in
-    let end = trailer κ (length xs) k (length es) (length es + length bs) (length rs) (length es + length bs + length ns + trailerSize) in
+    let ns = numbers (tableIn f ρ xs) in
+    let end = trailer mark (length xs) k (length es) (length es + length bs) (countIn f ρ xs) (length es + length bs + length ns + trailerSize) in
     es ++ (bs ++ (ns ++ end))
+
+abbrev pub book : BookKind → ℕ → List Bytes → Bytes
+book κ k xs = bookBy (ruleOf κ) (formOf κ) (markOf κ) k xs
 
 abbrev pub goodBlock : ℕ → Bool
 goodBlock k = both (leb 1 k) (leb k 64)
 
-unfoldable pub fits : BookKind → ℕ → List Bytes → Bool
-fits κ k xs = both (goodBlock k) (both (sound (ruleOf κ) xs) (leb (length (book κ k xs)) longestBook))
+unfoldable pub fitsBy : Rule → Form → Bytes → ℕ → List Bytes → Bool
+fitsBy ρ f mark k xs = both (goodBlock k) (both (sound ρ xs) (leb (length (bookBy ρ f mark k xs)) longestBook))
 
-pub data Opened : Type 0 where
-  Book : ℕ → List Bytes → Opened
-  NoBook : Opened
+abbrev pub fits : BookKind → ℕ → List Bytes → Bool
+fits κ k xs = fitsBy (ruleOf κ) (formOf κ) (markOf κ) k xs
 
 -- number j of the trailer
 abbrev pub told : Bytes → ℕ → ℕ
@@ -80,8 +72,17 @@ told s j = number s (length s - trailerSize + 2 * j)
 unfoldable pub namesOf : Bytes → List Bytes
 namesOf s = decode (take (told s 2) s)
 
-unfoldable pub opened : BookKind → Bytes → Opened
-opened κ s =
-    let k = told s 1 in
-    let xs = namesOf s in
-    pick (both (fits κ k xs) (same (book κ k xs) s)) (Book k xs) NoBook
+-- bytes are the book of the block size and the names that they tell
+unfoldable pub isBookBy : Rule → Form → Bytes → Bytes → Bool
+isBookBy ρ f mark s = both (fitsBy ρ f mark (told s 1) (namesOf s)) (same (bookBy ρ f mark (told s 1) (namesOf s)) s)
+
+abbrev pub isBook : BookKind → Bytes → Bool
+isBook κ s = isBookBy (ruleOf κ) (formOf κ) (markOf κ) s
+
+pub data Opened : Type 0 where
+  Book : BookKind → ℕ → List Bytes → Opened
+  NoBook : Opened
+
+-- by their own mark
+unfoldable pub opened : Bytes → Opened
+opened s = pick (isBook (kindOf s) s) (Book (kindOf s) (told s 1) (namesOf s)) NoBook

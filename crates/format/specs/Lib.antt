@@ -5,7 +5,9 @@ pub mod Distinct
 pub mod Entries
 pub mod Widths
 pub mod Nodes
-pub mod Marks
+pub mod Folded
+pub mod Kinds
+pub mod Layout
 pub mod Book
 pub mod Outcomes
 pub mod Spans

@@ -1,6 +1,7 @@
 -- Document 01, 'Layout of a book', part 3: the node table. A node is a group of words that stand together in the list.
 --     depth, groups     the count of leading symbols that a group shares; one group for each symbol that follows there
 --     Node, fieldCount, nodeSize a record; how many numbers it has, and how many bytes they take
+--     fields, allFields          its numbers; those of several, one after the other
 --     leaf, fork, table          that of one word; that of several; the whole
 -- The laws are in proofs/Groups.antt and proofs/Spans.antt. Assumes nothing: these are definitions.
 use Prim.Native.Nat.{ℕ, zero, suc, _+_, _*_, min}
@@ -43,6 +44,14 @@ fieldCount = 6
 -- two bytes for each of them
 abbrev pub nodeSize : ℕ
 nodeSize = 2 * fieldCount
+
+-- a node's numbers, in their order
+abbrev pub fields : Node → List ℕ
+fields r = r .symbol ∷ r .depth ∷ r .first ∷ r .names ∷ r .nodes ∷ r .width ∷ []
+
+unfoldable pub allFields : List Node → List ℕ
+allFields [] = []
+allFields (r ∷ rs) = fields r ++ allFields rs
 
 -- the node of one word, number i, to which the symbol s led
 abbrev pub leaf : ℕ → ℕ → List ℕ → Node

@@ -39,4 +39,4 @@ write out room = pick (leb (length out) (length room))
 
 unfoldable pub checkOf : Opened → Answer
 checkOf NoBook = refused 2
-checkOf (Book k xs) = given (length xs) k
+checkOf (Book κ k xs) = given (length xs) k

@@ -10,7 +10,7 @@ use lib.ListN.{drop, length, take}
 use Rattle.words.specs.Words.{Bytes, both, pick, plain, same}
 use Rattle.format.specs.Book.{goodBlock, number, told, trailerSize}
 use Rattle.format.specs.Entries.{decode, front}
-use Rattle.format.specs.Marks.{PlainBook, markOf}
+use Rattle.format.specs.Kinds.{PlainBook, markOf}
 use Rattle.format.specs.Records.{mostNames, rising}
 use Rattle.format.specs.Nodes.{nodeSize}
 

@@ -1,4 +1,6 @@
 -- Nodes in bytes, and groups of words as spans of a list, for contracts and laws; no public statement cites them.
+--     nodePart          nodes' records as bytes
+--     isTable           a part of some bytes is the table of the names that they tell
 --     nodeTable         a node's record, and then its row's
 --     lastOf            the last of some names, and prev where there are none
 --     wordsOf           the words of the names that bytes would be the book of
@@ -7,12 +9,22 @@
 --     Climbs, Ranked    symbols number d never fall from word to word; the words of a row
 -- The laws are in proofs/Groups.antt and proofs/Spans.antt. Assumes nothing: these are definitions.
 use Prim.Native.Nat.{ℕ, pred, _≤_}
+use mathlib.Core.Bool.{Bool}
 use mathlib.Core.List.{List, [], _∷_, map}
 use lib.ListN.{length}
-use Rattle.words.specs.Words.{Bytes, Rule, Words, at, shared, word}
+use lib.Seq.{slice}
+use Rattle.words.specs.Words.{Bytes, Rule, Words, at, same, shared, word}
 use Rattle.words.specs.Rising.{All, Rises, nth}
-use Rattle.format.specs.Nodes.{Node, groups, rowBy, tableWithin}
-use Rattle.format.specs.Book.{namesOf}
+use Rattle.format.specs.Nodes.{Node, allFields, groups, rowBy, tableWithin}
+use Rattle.format.specs.Book.{namesOf, numbers}
+use Rattle.format.specs.Kinds.{formOf, kindOf, ruleIn, tableIn}
+
+unfoldable pub nodePart : List Node → Bytes
+nodePart rs = numbers (allFields rs)
+
+-- by the form of the kind that the bytes are marked as
+unfoldable pub isTable : Bytes → ℕ → ℕ → Bool
+isTable b start end = same (numbers (tableIn (formOf (kindOf b)) (ruleIn b) (namesOf b))) (slice start end b)
 
 unfoldable pub nodeTable : ℕ → ℕ → Words → List Node
 nodeTable i s ws = tableWithin (length ws) i s ws

@@ -11,8 +11,9 @@ use lib.ListN.{getD, length, drop, length-drop, length-map, length-take}
 use lib.Seq.{getD-drop, getD-take}
 use Rattle.words.specs.Words.{Bytes, Rule, at, word}
 use Rattle.words.proofs.Words.{at-past, word-at}
-use Rattle.format.specs.Marks.{capital, kindOf, ruleIn}
-use Rattle.format.proofs.Marks.{small-rule}
+use Rattle.format.specs.Folded.{capital}
+use Rattle.format.specs.Kinds.{kindOf, ruleIn}
+use Rattle.format.proofs.BookKinds.{small-rule}
 use Rattle.symbols.specs.Rules.{byKind, ruleBy}
 use Rattle.symbols.specs.declared.Rule.{Rule as ByRule}
 use Rattle.symbols.proofs.Symbols.{rule-by}

@@ -14,7 +14,7 @@ use lib.Dec.{eqb, leb}
 use lib.ListN.{getD}
 use borrow.Author.Tests.{eqb-true, eqb-false, leb-true, leb-false, not-false, not-true}
 use Rattle.words.specs.Words.{Bytes, at, word}
-use Rattle.format.specs.Marks.{ruleIn}
+use Rattle.format.specs.Kinds.{ruleIn}
 use Rattle.format.specs.Nodes.{nodeSize}
 use Rattle.streams.specs.Streams.{restAt}
 use Rattle.standing.specs.Maps.{inRows, recordAt}

@@ -9,7 +9,7 @@ use mathlib.Core.Path.{_≡_, refl, sym, ap, _∙_, subst}
 use lib.ListN.{length}
 use Rattle.words.specs.Words.{Bytes}
 use Rattle.words.specs.Rising.{nth}
-use Rattle.format.specs.Marks.{ruleIn}
+use Rattle.format.specs.Kinds.{ruleIn}
 use Rattle.format.specs.Spans.{wordsOf}
 use Rattle.format.specs.Book.{namesOf}
 use Rattle.format.specs.Nodes.{Node, leaf, nodeSize}

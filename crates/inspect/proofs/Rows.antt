@@ -15,7 +15,7 @@ use Rattle.words.specs.Words.{Bytes, at}
 use Rattle.words.specs.Rising.{nth, span}
 use Rattle.words.proofs.Words.{apart, false≠true, less-parts, part-at, shared-at}
 use Rattle.words.proofs.Rising.{nth-less, nth-positive}
-use Rattle.format.specs.Marks.{ruleIn}
+use Rattle.format.specs.Kinds.{ruleIn}
 use Rattle.format.specs.Book.{namesOf, trailerSize, told}
 use Rattle.format.specs.Spans.{deep, wordsOf}
 use Rattle.format.specs.Nodes.{nodeSize}

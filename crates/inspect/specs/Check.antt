@@ -9,7 +9,7 @@
 --     WideRow                      a row that stands, and the greatest length of its names
 --     Says, NodeSays, RowSays      the node, or the row, stands, and where the entry of its last name is; or, with 0, it doesn't stand
 --     TableAsk                     n names, and a part of the bytes
---     isTable                      that part is the node table of the names
+--     isRows                      that part is the node table of the names
 -- The laws are in proofs/. Assumes nothing: these are definitions.
 use Prim.Native.Nat.{ℕ, pred, suc, _+_, _-_, _*_, _≤_, _<_}
 use mathlib.Core.Path.{_≡_}
@@ -18,9 +18,9 @@ use lib.ListN.{getD, length}
 use lib.Seq.{slice}
 use Rattle.words.specs.Rising.{span}
 use Rattle.words.specs.Words.{Bytes, at, same, word}
-use Rattle.format.specs.Marks.{ruleIn}
-use Rattle.format.specs.Spans.{wordsOf}
-use Rattle.format.specs.Book.{namesOf, nodePart, trailerSize, told}
+use Rattle.format.specs.Kinds.{ruleIn}
+use Rattle.format.specs.Spans.{wordsOf, nodePart}
+use Rattle.format.specs.Book.{namesOf, trailerSize, told}
 use Rattle.format.specs.Nodes.{table, nodeSize}
 use Rattle.format.specs.Widths.{widest}
 use Rattle.format.specs.Records.{longest}
@@ -128,5 +128,5 @@ pub record TableAsk (b : Bytes) (start end n : ℕ) : Type 0 where
   pub long : end + trailerSize ≤ length b
 
 -- the names are those that the entries are read as
-unfoldable pub isTable : Bytes → ℕ → ℕ → Bool
-isTable b start end = same (nodePart (table (wordsOf (ruleIn b) b))) (slice start end b)
+unfoldable pub isRows : Bytes → ℕ → ℕ → Bool
+isRows b start end = same (nodePart (table (wordsOf (ruleIn b) b))) (slice start end b)

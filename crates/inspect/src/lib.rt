@@ -6,10 +6,10 @@ ghost use lib.Dec.{eqb};
 ghost use lib.ListN.{length, getD};
 ghost use Rattle.words.specs.Words.{at, word};
 ghost use Rattle.format.specs.Book.{trailerSize};
-ghost use Rattle.format.specs.Marks.{ruleIn};
+ghost use Rattle.format.specs.Kinds.{ruleIn};
 ghost use Rattle.streams.specs.Streams.{lengthAt, restAt};
 ghost use Rattle.standing.specs.Maps.{Roomy, inRows};
-ghost use Rattle.inspect.specs.Check.{ForkSays, LeadAsk, LeafSays, LedSays, NodeAsk, NodeSays, OtherSays, RowAsk, RowSays, TableAsk, isTable};
+ghost use Rattle.inspect.specs.Check.{ForkSays, LeadAsk, LeafSays, LedSays, NodeAsk, NodeSays, OtherSays, RowAsk, RowSays, TableAsk, isRows};
 
 // Whether a byte has that symbol. Only of a capital letter the rule is asked for: all others have the same symbol by both.
 fn has_symbol(book: &[u8], x: u8, s: usize) -> bool
@@ -198,7 +198,7 @@ fn check_row(
 // Whether the bytes from start to end are the node table of the n names that the entries are read as.
 pub fn check_table(book: &[u8], start: usize, end: usize, n: usize) -> bool
     requires { ⌜ TableAsk (now book) start end n ⌝ }
-    ensures { λ r. ⌜ r ≡ isTable (now (book .entry)) start end ⌝ }
+    ensures { λ r. ⌜ r ≡ isRows (now (book .entry)) start end ⌝ }
 {
     if n == 0 {
         return start == end;

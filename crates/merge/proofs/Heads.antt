@@ -14,7 +14,7 @@ use mathlib.Core.List.{List, [], _∷_, _++_, append-nil}
 use lib.ListN.{drop, getD, length, length-append, length-drop, take}
 use lib.Seq.{drop-append-seam, drop-drop, getD-drop, take-append-seam}
 use Rattle.words.specs.Words.{Bytes, less, plain, word}
-use Rattle.words.proofs.Words.{apart, equal, false≠true, greater, less-asym, less-irrefl, lesser, ordered, plain-lawful, word-positive}
+use Rattle.words.proofs.Words.{apart, equal, false≠true, greater, less-asym, less-irrefl, lesser, ordered, plain-sure, word-positive}
 use Rattle.format.specs.Merging.{merged}
 use Rattle.format.specs.Records.{encode}
 use Rattle.format.proofs.Merging.{merged-both, merged-first, merged-none, merged-second, rising-only}
@@ -54,7 +54,7 @@ headed s at size (x ∷ xs) r n e =
       rest = record {
         within = fit;
         bytes = after big;
-        rises = rising-only plain plain-lawful x xs (f .rest);
+        rises = rising-only plain plain-sure x xs (f .rest);
       };
       fits = fit;
       first = f;
@@ -98,7 +98,7 @@ module _ (i j size : ℕ) {xs ys : List Bytes} where
 -- ---- which of two names is the lesser
 
 pub both-same : (x y : Bytes) (s t : Bool) → s ≡ less (word plain x) (word plain y) → s ≡ false → t ≡ less (word plain y) (word plain x) → t ≡ false → word plain x ≡ word plain y
-both-same x y s t se sf te tf = elim (ordered (word plain x) (word plain y) (word-positive plain plain-lawful x) (word-positive plain plain-lawful y)) [
+both-same x y s t se sf te tf = elim (ordered (word plain x) (word plain y) (word-positive plain plain-sure x) (word-positive plain plain-sure y)) [
   | lesser h ↦ absurd (false≠true (sym sf ∙ se ∙ h))
   | equal e ↦ e
   | greater h ↦ absurd (false≠true (sym tf ∙ te ∙ h))

@@ -13,8 +13,8 @@ use lib.ListN.{drop, getD, length, length-drop, take}
 use lib.Seq.{getD-drop, length-take-le}
 use borrow.Author.Tests.{le-leb, lt-leb}
 use Rattle.words.specs.Words.{Bytes}
-use Rattle.format.proofs.Marks.{kind-lawful}
-use Rattle.format.specs.Marks.{kindOf, ruleIn}
+use Rattle.format.proofs.BookKinds.{kind-sure}
+use Rattle.format.specs.Kinds.{kindOf, ruleIn}
 use Rattle.format.specs.Book.{number, opened, namesOf, told}
 use Rattle.format.specs.Outcomes.{over}
 use Rattle.numbers.proofs.Parts.{Copied, Held, copied}
@@ -33,13 +33,13 @@ use Rattle.names.specs.Names.{Named, PositionAsk, Put}
 
 pub position-sound : {b : Bytes} {t : Trailer} {position : ℕ} → SoundBook b t → position < t .names → PositionAsk b t position
 position-sound f h = record {
-  parts = f .parts;
+  framed = f .parts .framed;
   block = ap (λ (x : Trailer). x .block) (f .told);
   table = ap (λ (x : Trailer). x .blocks) (f .told);
   within = omega (arith, f .count);
 }
 
-pub position-ask : (b : Bytes) (t : Trailer) (position : ℕ) → Held b → (v : Checked) → v ≡ checkOn b (opened (kindOf b) b) → v ≡ Sound t
+pub position-ask : (b : Bytes) (t : Trailer) (position : ℕ) → Held b → (v : Checked) → v ≡ checkOn b (opened b) → v ≡ Sound t
     → (n : ℕ) → n ≡ t .names → position < n → PositionAsk b t position
 position-ask b t position held v s u n ne h = position-sound (checked-sound b t held v s u) (omega arith)
 
@@ -61,14 +61,14 @@ pub record BlockFound (b : Bytes) (k position table block : ℕ) : Type 0 where
 found-told : (b : Bytes) (t : Trailer) (position : ℕ) → PositionAsk b t position → BlockFound b (t .block) position (told b 2) (position / t .block)
 found-told b t position a =
     let k : ℕ = t .block in
-    let p = a .parts in
+    let p = a .framed in
     let has = p .entries in
     let inside : told b 2 ≤ length b = omega (arith, p .trail .total, p .trail .order) in
     let ns : namesOf b ≡ has .names = has-names (ruleIn b) b (told b 1) (told b 2) (told b 3) (told b 0) inside has (p .trail .low) refl in
     let within : position < length (has .names) = subst (λ (xs : List Bytes). position < length xs) ns (a .within) in
     let first : position / k * k ≤ position = omega (arith, div-add-mod' position k) in
     let r = subst (λ (n : ℕ). Rest (ruleIn b) b n (told b 2) (told b 3) (told b 2) 0 [] (has .names)) (sym (a .block)) (has .rest) in
-    let f = block-from (ruleIn b) (kind-lawful (kindOf b)) b k (told b 2) (told b 3) (omega (arith, a .block, p .trail .low)) (p .trail .short) inside (omega (arith, p .trail .total))
+    let f = block-from (ruleIn b) (kind-sure (kindOf b)) b k (told b 2) (told b 3) (omega (arith, a .block, p .trail .low)) (p .trail .short) inside (omega (arith, p .trail .total))
     (position / k) (position / k * k) (told b 2) 0 [] (has .names) (omega arith) inside r refl (omega arith) in
     let d : position / k * k + (position - position / k * k) ≡ position = omega arith in
     let u : position - position / k * k < length (drop (position / k * k) (has .names)) = omega (arith, length-drop (position / k * k) (has .names)) in

@@ -12,10 +12,10 @@ use Rattle.format.specs.Records.{longest}
 use Rattle.format.specs.Outcomes.{over}
 use Rattle.format.specs.Book.{namesOf, told}
 use Rattle.trailer.specs.declared.Trailer.{Trailer}
-use Rattle.accept.specs.Parts.{Parts}
+use Rattle.accept.specs.Parts.{Framed}
 
 pub record PositionAsk (b : Bytes) (t : Trailer) (position : ℕ) : Type 0 where
-  pub parts : Parts b
+  pub framed : Framed b
   pub block : t .block ≡ told b 1
   pub table : t .blocks ≡ told b 2
   pub within : position < length (namesOf b)

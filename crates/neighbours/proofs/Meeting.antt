@@ -22,7 +22,7 @@ use mir.Val.{Fits}
 use mir.Syntax.{w64}
 use Rattle.words.specs.Words.{Bytes, Rule, pick, plain, shared, word}
 use Rattle.words.proofs.Words.{plain-injective, shared-front, shared-word, shared-word-le}
-use Rattle.format.specs.Marks.{BookKind, kindOf, ruleIn, ruleOf}
+use Rattle.format.specs.Kinds.{BookKind, kindOf, ruleIn, ruleOf}
 use Rattle.format.specs.Book.{number, namesOf, told}
 use Rattle.symbols.specs.Rules.{byKind, ruleBy}
 use Rattle.symbols.specs.declared.Rule.{Rule as ByRule}

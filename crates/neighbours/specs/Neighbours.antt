@@ -17,7 +17,7 @@ use lib.Dec.{eqb, ltb}
 use lib.ListN.{drop, getD, length, take}
 use Rattle.words.specs.Rising.{nth}
 use Rattle.words.specs.Words.{Bytes, Rule, pick, shared, word}
-use Rattle.format.specs.Marks.{kindOf, ruleIn}
+use Rattle.format.specs.Kinds.{kindOf, ruleIn}
 use Rattle.format.specs.Spans.{wordsOf}
 use Rattle.format.specs.Book.{trailerSize, longestBook, namesOf, told}
 use Rattle.format.specs.Records.{longest, mostNames}

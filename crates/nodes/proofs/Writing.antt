@@ -18,8 +18,9 @@ use Rattle.words.specs.Words.{Bytes, Rule, Words, at, shared, word}
 use Rattle.words.specs.Rising.{nth}
 use Rattle.words.proofs.Rising.{nth-less, span-all}
 use Rattle.words.proofs.Words.{at-past, less-short}
-use Rattle.format.specs.Book.{allFields, fields, nodePart, numbers}
-use Rattle.format.specs.Nodes.{Node, leaf, table, nodeSize}
+use Rattle.format.specs.Book.{numbers}
+use Rattle.format.specs.Spans.{nodePart}
+use Rattle.format.specs.Nodes.{Node, leaf, table, nodeSize, allFields, fields}
 use Rattle.format.proofs.Groups.{table-empty}
 use Rattle.format.proofs.Numbers.{numbers-append, numbers-length}
 use Rattle.format.proofs.Widths.{widest-low}

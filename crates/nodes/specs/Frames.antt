@@ -19,10 +19,10 @@ use lib.ListN.{length, getD, drop, set}
 use lib.Seq.{sets}
 use Rattle.words.specs.Rising.{span, nth}
 use Rattle.words.specs.Words.{Bytes, Words, at, shared}
-use Rattle.format.specs.Spans.{deep, rowTable, nodeTable}
+use Rattle.format.specs.Spans.{deep, rowTable, nodeTable, nodePart}
 use Rattle.format.specs.Nodes.{Node, nodeSize}
 use Rattle.format.specs.Widths.{widest}
-use Rattle.format.specs.Book.{nodePart, number, numbers}
+use Rattle.format.specs.Book.{number, numbers}
 
 abbrev pub sharesAt : Words → ℕ → ℕ
 sharesAt ws c = shared (nth ws (pred c)) (nth ws c)

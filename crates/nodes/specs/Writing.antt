@@ -15,7 +15,7 @@ use lib.ListN.{length, drop}
 use Rattle.words.specs.Rising.{Rises, nth}
 use Rattle.words.specs.Words.{Bytes, Rule, Words, word}
 use Rattle.format.specs.Nodes.{Node, table, nodeSize}
-use Rattle.format.specs.Book.{nodePart}
+use Rattle.format.specs.Spans.{nodePart}
 use Rattle.records.specs.Lists.{Ready, startOf, words}
 use Rattle.nodes.specs.Frames.{Cur, Framed, Open, Tail, depthIn, frameCount, frameSize}
 use Rattle.nodes.specs.declared.LeftOpen.{LeftOpen}

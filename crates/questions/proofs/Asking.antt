@@ -11,13 +11,13 @@ use mathlib.Core.Path.{_≡_, _∙_, ap, ap₂, refl, sym}
 use mathlib.Core.List.{List, [], _∷_}
 use lib.ListN.{length}
 use Rattle.words.specs.Words.{Bytes, InBytes, word}
-use Rattle.format.proofs.Marks.{kind-lawful}
-use Rattle.format.specs.Marks.{kindOf, ruleIn}
+use Rattle.format.proofs.BookKinds.{full-rows}
+use Rattle.format.specs.Kinds.{kindOf, ruleIn}
 use Rattle.format.specs.Spans.{wordsOf}
-use Rattle.format.specs.Book.{Book, namesOf, opened, told}
+use Rattle.format.specs.Book.{namesOf, opened, told}
 use Rattle.format.specs.Records.{longest}
 use Rattle.format.specs.Outcomes.{given, refused}
-use Rattle.answers.specs.Calls.{question, questionOf}
+use Rattle.answers.specs.Calls.{namesAnswer, question, questionOf}
 use Rattle.answers.specs.Lit.{lit}
 use Rattle.answers.proofs.Lit.{answer-asked, answer-lit}
 use Rattle.answers.proofs.Calls.{question-given, question-long, question-none}
@@ -37,10 +37,10 @@ use Rattle.shapes.specs.declared.Answer.{Answer}
 use Rattle.questions.specs.Asking.{Asking, KindNumber}
 use Rattle.questions.proofs.Checks.{no-book}
 
-pub ask-unsound : (kind : ℕ) (b q : Bytes) (r : Answer) → answered r ≡ refused 2 → (v : Checked) → v ≡ checkOn b (opened (kindOf b) b) → v ≡ Unsound
-    → answered r ≡ question (kindOf b) kind b q
+pub ask-unsound : (kind : ℕ) (b q : Bytes) (r : Answer) → answered r ≡ refused 2 → (v : Checked) → v ≡ checkOn b (opened b) → v ≡ Unsound
+    → answered r ≡ question kind b q
 unfolding question questionOf
-ask-unsound kind b q r e v s u = e ∙ sym (ap (questionOf (ruleIn b) kind q) (no-book b v s u))
+ask-unsound kind b q r e v s u = e ∙ sym (ap (questionOf kind q) (no-book b v s u))
 
 -- an empty list: nothing is found
 none-found : (kind : ℕ) → KindNumber kind → (kind ≡ 4 → ⊥) → (q : List ℕ) → (0, 0) ≡ ask kind q []
@@ -67,24 +67,24 @@ module _ (b q : Bytes) (t : Trailer) (kind : ℕ) (held : Held b) (s : Asking b 
   shown : SoundBook b t
   shown = sound-book b t bytes (s .checked)
 
-  asks : question (kindOf b) kind b q ≡ questionOf (ruleIn b) kind q (Book k (namesOf b))
-  unfolding question
-  asks = ap (questionOf (ruleIn b) kind q) (shown .book)
+  asks : question kind b q ≡ namesAnswer (ruleIn b) kind q (namesOf b)
+  unfolding question questionOf
+  asks = ap (questionOf kind q) (shown .book)
 
   names : n ≡ length (namesOf b)
   names = shown .count
 
-  pub ask-long : (r : Answer) → answered r ≡ refused 1 → longest < length q → answered r ≡ question (kindOf b) kind b q
-  ask-long r e h = e ∙ sym (asks ∙ question-long (ruleIn b) kind q k (namesOf b) h)
+  pub ask-long : (r : Answer) → answered r ≡ refused 1 → longest < length q → answered r ≡ question kind b q
+  ask-long r e h = e ∙ sym (asks ∙ question-long (ruleIn b) kind q (namesOf b) h)
 
   module _ (h : length q ≤ longest) where
-    pub nearest-none : (r : Answer) → answered r ≡ refused 10 → n ≡ 0 → kind ≡ 4 → answered r ≡ question (kindOf b) kind b q
-    nearest-none r e z f = e ∙ sym (asks ∙ question-none (ruleIn b) kind q k (namesOf b) h f (omega (arith, names)))
+    pub nearest-none : (r : Answer) → answered r ≡ refused 10 → n ≡ 0 → kind ≡ 4 → answered r ≡ question kind b q
+    nearest-none r e z f = e ∙ sym (asks ∙ question-none (ruleIn b) kind q (namesOf b) h f (omega (arith, names)))
 
-    gives : (kind ≡ 4 → n ≡ 0 → ⊥) → (a : Pair) → a ≡ answer (ruleIn b) kind q (namesOf b) → given (a .0) (a .1) ≡ question (kindOf b) kind b q
-    gives f a e = question-given (ruleIn b) kind q k (namesOf b) h (λ g z. f g (names ∙ z)) a e ∙ sym asks
+    gives : (kind ≡ 4 → n ≡ 0 → ⊥) → (a : Pair) → a ≡ answer (ruleIn b) kind q (namesOf b) → given (a .0) (a .1) ≡ question kind b q
+    gives f a e = question-given (ruleIn b) kind q (namesOf b) h (λ g z. f g (names ∙ z)) a e ∙ sym asks
 
-    pub ask-none : (r : Answer) → answered r ≡ given 0 0 → n ≡ 0 → (kind ≡ 4 → ⊥) → answered r ≡ question (kindOf b) kind b q
+    pub ask-none : (r : Answer) → answered r ≡ given 0 0 → n ≡ 0 → (kind ≡ 4 → ⊥) → answered r ≡ question kind b q
     ask-none r e z f =
         let empty : namesOf b ≡ [] = none (namesOf b) (omega (arith, names)) in
         e ∙ gives (λ g _. f g) (0, 0) (none-found kind (s .number) f (word (ruleIn b) q) ∙ sym (answer-asked (ruleIn b) kind q [] f) ∙ ap (λ (xs : List Bytes). answer (ruleIn b) kind q xs) (sym empty))
@@ -103,18 +103,18 @@ module _ (b q : Bytes) (t : Trailer) (kind : ℕ) (held : Held b) (s : Asking b 
               block = ap (λ (x : Trailer). x .block) (f .told);
               table = ap (λ (x : Trailer). x .blocks) (f .told);
               nodes = ap (λ (x : Trailer). x .nodes) (f .told);
-              searchable = opened-searchable (kindOf b) (kind-lawful (kindOf b)) b k (namesOf b) (f .book) bytes (omega (arith, names));
+              searchable = opened-searchable (kindOf b) (full-rows (kindOf b)) b k (namesOf b) (f .book) bytes (omega (arith, names));
             };
             low = s .number .low;
             high = s .number .high;
           }
 
       module _ {x y : ℕ} (e : (x, y) ≡ ask kind (asked (ruleIn b) q) (wordsOf (ruleIn b) b)) where
-        pub ask-some : (kind ≡ 4 → ⊥) → given x y ≡ question (kindOf b) kind b q
+        pub ask-some : (kind ≡ 4 → ⊥) → given x y ≡ question kind b q
         unfolding asked wordsOf
         ask-some f = gives (λ _ z. some z) (x, y) (e ∙ sym (answer-asked (ruleIn b) kind q (namesOf b) f))
 
         -- of nearest's number what can be lit
-        pub ask-lit : kind ≡ 4 → {z : ℕ} → z ≡ lit q y → given x z ≡ question (kindOf b) kind b q
+        pub ask-lit : kind ≡ 4 → {z : ℕ} → z ≡ lit q y → given x z ≡ question kind b q
         unfolding asked wordsOf
         ask-lit f {z} h = gives (λ _ l. some l) (x, z) (ap₂ (λ (a : Pair) (n : ℕ). (a .0, n)) e (h ∙ ap (λ (a : Pair). lit q (a .1)) e) ∙ sym (answer-lit (ruleIn b) kind q (namesOf b) f))

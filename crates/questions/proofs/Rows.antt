@@ -12,7 +12,6 @@ use lib.ListN.{drop, take}
 use borrow.Author.Tests.{eq-eqb, eqb-true, le-leb, leb-true}
 use Rattle.words.specs.Words.{Bytes}
 use Rattle.words.proofs.Words.{both-true}
-use Rattle.format.specs.Marks.{kindOf, ruleIn}
 use Rattle.format.specs.Book.{Book, NoBook, Opened, opened}
 use Rattle.format.specs.Outcomes.{Answer as Numbers, refused}
 use Rattle.answers.specs.Calls.{Row as Question, question, questionOf, rowAnswer}
@@ -40,41 +39,41 @@ pub closed-is : (r : Answer) (code : ℕ) → answered r ≡ refused code → re
 closed-is r code e = ap (λ (a : Numbers). record { answer = answerOf a; trailer = noTrailer }) e
 
 module _ (b : Bytes) (rows places : ℕ) where
-  pub crowded : (r : Opening) → r ≡ closedBy 12 → (rows ≤ 64 → rows ≡ places → ⊥) → r ≡ openingOf b rows (takesRows rows places) (opened (kindOf b) b)
+  pub crowded : (r : Opening) → r ≡ closedBy 12 → (rows ≤ 64 → rows ≡ places → ⊥) → r ≡ openingOf b rows (takesRows rows places) (opened b)
   unfolding openingOf
-  crowded r e h = e ∙ go (takesRows rows places) refl (opened (kindOf b) b)
+  crowded r e h = e ∙ go (takesRows rows places) refl (opened b)
     where
       go : (t : Bool) → takesRows rows places ≡ t → (o : Opened) → closedBy 12 ≡ openingOf b rows t o
       go true p o = let f = both-true (leb rows 64) (eqb rows places) p in absurd (h (leb-true rows 64 (f .0)) (eqb-true rows places (f .1)))
       go false p NoBook = refl
-      go false p (Book k xs) = refl
+      go false p (Book κ k xs) = refl
 
   module _ (few : rows ≤ 64) (equal : rows ≡ places) where
-    taken : openingOf b rows (takesRows rows places) (opened (kindOf b) b) ≡ openingOf b rows true (opened (kindOf b) b)
+    taken : openingOf b rows (takesRows rows places) (opened b) ≡ openingOf b rows true (opened b)
     taken = rw (le-leb rows 64 few, eq-eqb rows places equal) refl
 
-    pub unsound-opens : (r : Opening) → r ≡ closedBy 2 → (v : Checked) → v ≡ checkOn b (opened (kindOf b) b) → v ≡ Unsound → r ≡ openingOf b rows (takesRows rows places) (opened (kindOf b) b)
+    pub unsound-opens : (r : Opening) → r ≡ closedBy 2 → (v : Checked) → v ≡ checkOn b (opened b) → v ≡ Unsound → r ≡ openingOf b rows (takesRows rows places) (opened b)
     unfolding openingOf
     unsound-opens r e v s u = e ∙ sym (taken ∙ ap (openingOf b rows true) (no-book b v s u))
 
-    pub sound-opens : (t : Trailer) (v : Checked) → v ≡ checkOn b (opened (kindOf b) b) → v ≡ Sound t → accepting rows t ≡ openingOf b rows (takesRows rows places) (opened (kindOf b) b)
+    pub sound-opens : (t : Trailer) (v : Checked) → v ≡ checkOn b (opened b) → v ≡ Sound t → accepting rows t ≡ openingOf b rows (takesRows rows places) (opened b)
     unfolding openingOf checkOn
-    sound-opens t v s u = go (opened (kindOf b) b) (sym u ∙ s) ∙ sym taken
+    sound-opens t v s u = go (opened b) (sym u ∙ s) ∙ sym taken
       where
         go : (o : Opened) → Sound t ≡ checkOn b o → accepting rows t ≡ openingOf b rows true o
         go NoBook q = absurd (sound≠unsound q)
-        go (Book j xs) q = let is : t ≡ trailerIn b = cc in ap (accepting rows) is
+        go (Book κ j xs) q = let is : t ≡ trailerIn b = cc in ap (accepting rows) is
 
 -- ---- what a row gets
 
 module _ (b buffer : Bytes) (row : Question) (r : Answer) where
-  pub row-refused : answered r ≡ refused 11 → (GoodRow buffer row → ⊥) → answered r ≡ rowAnswer (ruleIn b) (opened (kindOf b) b) buffer row
-  row-refused e h = e ∙ sym (row-bad (ruleIn b) (opened (kindOf b) b) buffer row h)
+  pub row-refused : answered r ≡ refused 11 → (GoodRow buffer row → ⊥) → answered r ≡ rowAnswer (opened b) buffer row
+  row-refused e h = e ∙ sym (row-bad (opened b) buffer row h)
 
   -- its bytes are those from start up to start plus length
-  pub row-answered : GoodRow buffer row → answered r ≡ question (kindOf b) (row .kind) b (take (row .start + row .size - row .start) (drop (row .start) buffer))
-      → answered r ≡ rowAnswer (ruleIn b) (opened (kindOf b) b) buffer row
+  pub row-answered : GoodRow buffer row → answered r ≡ question (row .kind) b (take (row .start + row .size - row .start) (drop (row .start) buffer))
+      → answered r ≡ rowAnswer (opened b) buffer row
   unfolding question
   row-answered h e =
       let size : row .start + row .size - row .start ≡ row .size = omega arith in
-      e ∙ ap (λ (n : ℕ). questionOf (ruleIn b) (row .kind) (take n (drop (row .start) buffer)) (opened (kindOf b) b)) size ∙ sym (row-good (ruleIn b) (opened (kindOf b) b) buffer row h)
+      e ∙ ap (λ (n : ℕ). questionOf (row .kind) (take n (drop (row .start) buffer)) (opened b)) size ∙ sym (row-good (opened b) buffer row h)

@@ -8,7 +8,6 @@ use mathlib.Core.Bool.{Bool, false, true}
 use mathlib.Core.Path.{_≡_}
 use lib.Dec.{eqb, leb}
 use Rattle.words.specs.Words.{Bytes, both}
-use Rattle.format.specs.Marks.{kindOf}
 use Rattle.format.specs.Book.{Book, NoBook, Opened, opened}
 use Rattle.answers.specs.Widths.{lastKind}
 use Rattle.trailer.specs.Trailer.{trailerIn}
@@ -23,7 +22,7 @@ pub record KindNumber (kind : ℕ) : Type 0 where
   pub high : kind ≤ lastKind
 
 pub record Asking (b : Bytes) (t : Trailer) (kind : ℕ) : Type 0 where
-  pub checked : Sound t ≡ checkOn b (opened (kindOf b) b)
+  pub checked : Sound t ≡ checkOn b (opened b)
   pub number : KindNumber kind
 
 -- ---- batches
@@ -41,9 +40,9 @@ takesRows rows places = both (leb rows 64) (eqb rows places)
 -- by whether the rows are taken: 12, then 2
 unfoldable pub openingOf : Bytes → ℕ → Bool → Opened → Opening
 openingOf b rows false NoBook = closedBy 12
-openingOf b rows false (Book k xs) = closedBy 12
+openingOf b rows false (Book κ k xs) = closedBy 12
 openingOf b rows true NoBook = closedBy 2
-openingOf b rows true (Book k xs) = record { answer = record { code = 0; first = rows; second = 0 }; trailer = trailerIn b }
+openingOf b rows true (Book κ k xs) = record { answer = record { code = 0; first = rows; second = 0 }; trailer = trailerIn b }
 
 pub record Accepted (b : Bytes) (o : Opening) : Type 0 where
-  pub checked : Sound (o .trailer) ≡ checkOn b (opened (kindOf b) b)
+  pub checked : Sound (o .trailer) ≡ checkOn b (opened b)

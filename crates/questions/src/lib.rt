@@ -5,7 +5,6 @@ use shapes::Row;
 use symbols::Rule;
 ghost use mathlib.Core.Path.{_≡_};
 ghost use Rattle.format.specs.Book.{opened};
-ghost use Rattle.format.specs.Marks.{kindOf, ruleIn};
 ghost use Rattle.answers.specs.Calls.{question as askedOf, rowAnswer};
 ghost use Rattle.shapes.specs.Shapes.{answered, rowOf};
 ghost use Rattle.questions.specs.Asking.{Accepted, Asking, KindNumber, closedBy, openingOf, takesRows};
@@ -14,7 +13,7 @@ ghost use Rattle.questions.specs.Asking.{Accepted, Asking, KindNumber, c
 // once. Of what nearest's name shares, what can be lit of the question is given. Refusals: 1, 10.
 pub fn ask(book: &[u8], t: trailer::Trailer, kind: usize, question: &[u8]) -> Answer
     requires { ⌜ Asking (now book) t kind ⌝ }
-    ensures { λ r. ⌜ answered r ≡ askedOf (kindOf (now (book .entry))) kind (now (book .entry)) (now (question .entry)) ⌝ }
+    ensures { λ r. ⌜ answered r ≡ askedOf kind (now (book .entry)) (now (question .entry)) ⌝ }
 {
     if 200 < question.len() {
         return shapes::refuse(1, 0);
@@ -43,7 +42,7 @@ pub fn ask(book: &[u8], t: trailer::Trailer, kind: usize, question: &[u8]) -> An
 // A question of a kind from 1 to 5. Refusals: 2, 1, 10.
 pub fn ask_alone(book: &[u8], kind: usize, question: &[u8]) -> Answer
     requires { ⌜ KindNumber kind ⌝ }
-    ensures { λ r. ⌜ answered r ≡ askedOf (kindOf (now (book .entry))) kind (now (book .entry)) (now (question .entry)) ⌝ }
+    ensures { λ r. ⌜ answered r ≡ askedOf kind (now (book .entry)) (now (question .entry)) ⌝ }
 {
     let checked = accept::check_book(book);
     match checked {
@@ -76,7 +75,7 @@ fn closed(code: usize) -> Opening
 
 // Whether a batch of so many rows, with so many places for answers, can be asked of these bytes. Refusals: 12, 2.
 pub fn open_batch(book: &[u8], rows: usize, places: usize) -> Opening
-    ensures { λ r. ⌜ r ≡ openingOf (now (book .entry)) rows (takesRows rows places) (opened (kindOf (now (book .entry))) (now (book .entry))) ⌝ }
+    ensures { λ r. ⌜ r ≡ openingOf (now (book .entry)) rows (takesRows rows places) (opened (now (book .entry))) ⌝ }
 {
     if 64 < rows {
         return closed(12);
@@ -101,7 +100,7 @@ pub fn open_batch(book: &[u8], rows: usize, places: usize) -> Opening
 // What a row's question alone would get from a book that the batch's opening has accepted. Refusals: 11, 1, 10.
 pub fn answer_row(book: &[u8], opening: Opening, questions: &[u8], row: Row) -> Answer
     requires { ⌜ Accepted (now book) opening ⌝ }
-    ensures { λ r. ⌜ answered r ≡ rowAnswer (ruleIn (now (book .entry))) (opened (kindOf (now (book .entry))) (now (book .entry))) (now (questions .entry)) (rowOf row) ⌝ }
+    ensures { λ r. ⌜ answered r ≡ rowAnswer (opened (now (book .entry))) (now (questions .entry)) (rowOf row) ⌝ }
 {
     if row.kind == 0 {
         return shapes::refuse(11, 0);

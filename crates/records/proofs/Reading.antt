@@ -19,7 +19,8 @@ use lib.Dec.{leb, ltb}
 use lib.ListN.{length, getD, set, drop, length-append, length-drop, length-set, drop-of-length-le, List·getD-append}
 use lib.Seq.{drop-cons, drop-drop, getD-at, getD-set-same, getD-set-other}
 use borrow.Author.Tests.{lt-ltb, le-ltb, le-leb, lt-leb}
-use Rattle.words.specs.Words.{Bytes, Lawful, Rule, both, less, pick, shared, word}
+use Rattle.words.specs.Words.{Bytes, Rule, both, less, pick, shared, word}
+use Rattle.words.specs.Rising.{Sure}
 use Rattle.words.proofs.Words.{part-at, shared-more}
 use Rattle.format.specs.Outcomes.{given}
 use Rattle.format.specs.Records.{Names, Reading, Refused, after, goodLength, readFrom, readList}
@@ -102,7 +103,7 @@ onto-after xs x (Refused code record-number) = refl
 
 -- n names are read, which are noted; the next record begins at o, and the last name has m bytes at p
 pub record ReadUpTo (ρ : Rule) (s : Bytes) (most : ℕ) (lens counts shares : List ℕ) (o p m n : ℕ) : Type 0 where
-  pub lawful : Lawful ρ
+  pub lawful : Sure ρ
   pub within : o ≤ length s
   pub inside : p + m ≤ length s
   pub few : n ≤ most
@@ -143,7 +144,7 @@ module _ {ρ : Rule} {s : Bytes} {most : ℕ} {lens counts shares : List ℕ} {o
     pub above : less (word ρ (part s p m)) (word ρ (part s (o + 1) len)) ≡ true
     pub in-new : j ≤ len
 
-reading-start : (ρ : Rule) → Lawful ρ → (s : Bytes) (most : ℕ) (lens counts shares : List ℕ) → length lens ≡ length counts → length lens ≡ length shares → ReadUpTo ρ s most lens counts shares 0 0 0 0
+reading-start : (ρ : Rule) → Sure ρ → (s : Bytes) (most : ℕ) (lens counts shares : List ℕ) → length lens ≡ length counts → length lens ≡ length shares → ReadUpTo ρ s most lens counts shares 0 0 0 0
 unfolding readList
 reading-start ρ lw s most lens counts shares a b = record {
   lawful = lw;
@@ -167,7 +168,7 @@ pub record Reads (ρ : Rule) (s : Bytes) (most : ℕ) (lens₀ counts₀ shares�
   pub counts-kept : length counts ≡ length counts₀
   pub shares-kept : length shares ≡ length shares₀
 
-pub reads-start : (ρ : Rule) → Lawful ρ → (s : Bytes) (most : ℕ) (lens counts shares : List ℕ) → length lens ≡ length counts → length lens ≡ length shares → Reads ρ s most lens counts shares lens counts shares 0 0 0 0
+pub reads-start : (ρ : Rule) → Sure ρ → (s : Bytes) (most : ℕ) (lens counts shares : List ℕ) → length lens ≡ length counts → length lens ≡ length shares → Reads ρ s most lens counts shares lens counts shares 0 0 0 0
 reads-start ρ lw s most lens counts shares a b = record { read = reading-start ρ lw s most lens counts shares a b; lens-kept = refl; counts-kept = refl; shares-kept = refl }
 
 pub good-list : {ρ : Rule} {s : Bytes} {most : ℕ} {lens counts shares : List ℕ} {o p m n : ℕ} → ReadUpTo ρ s most lens counts shares o p m n → o ≡ length s → Judged ρ s most lens counts shares (Good n)

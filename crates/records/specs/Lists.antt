@@ -12,7 +12,8 @@ use mathlib.Core.Path.{_≡_}
 use mathlib.Core.List.{List, [], _∷_, map}
 use mathlib.Core.Bool.{true}
 use lib.ListN.{length, getD, take}
-use Rattle.words.specs.Words.{Bytes, Lawful, Rule, Words, word, shared}
+use Rattle.words.specs.Words.{Bytes, Rule, Words, word, shared}
+use Rattle.words.specs.Rising.{Sure}
 use Rattle.format.specs.Records.{Names, Reading, Refused, encode, readList, sound}
 use Rattle.format.specs.Outcomes.{Answer, given, numbered}
 use Rattle.records.specs.declared.Verdict.{Verdict}
@@ -66,7 +67,7 @@ pub record Judged (ρ : Rule) (s : Bytes) (most : ℕ) (lens counts shares : Lis
 
 -- a list of n names has been judged
 pub record Ready (ρ : Rule) (s : Bytes) (n : ℕ) (lens counts shares : List ℕ) : Type 0 where
-  pub lawful : Lawful ρ
+  pub lawful : Sure ρ
   pub bytes : encode (names s) ≡ s
   pub total : n ≡ length (names s)
   pub few : n ≤ 2000

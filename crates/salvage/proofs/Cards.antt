@@ -26,7 +26,7 @@ use Rattle.words.specs.Words.{Bytes, InBytes, both, pick, plain, same}
 use Rattle.words.proofs.Words.{apart, both-true, false≠true, same-refl, same-true}
 use Rattle.format.specs.Book.{number, numbers, told, trailerSize}
 use Rattle.format.specs.Entries.{decode}
-use Rattle.format.specs.Marks.{PlainBook, kindOf, markOf}
+use Rattle.format.specs.Kinds.{PlainBook, kindOf, markOf}
 use Rattle.format.specs.Salvage.{Block, Broken, Whole, blockCount, bounds, climbs, fromZero, judgedAlone, mapped}
 use Rattle.format.proofs.Numbers.{numbers-are, numbers-told}
 use Rattle.format.proofs.Salvage.{bounds-inner, bounds-last, bounds-long, bounds-rise, climbs-end, climbs-next, count-few, count-starts, from-first, span-at, whole-alone, whole-tells}

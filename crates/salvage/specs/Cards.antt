@@ -13,7 +13,7 @@ use lib.ListN.{drop, getD, length, take}
 use Rattle.words.specs.Words.{Bytes, pick}
 use Rattle.format.specs.Book.{told, trailerSize}
 use Rattle.format.specs.Entries.{decode}
-use Rattle.format.specs.Marks.{BookKind, PlainBook}
+use Rattle.format.specs.Kinds.{BookKind, PlainBook}
 use Rattle.format.specs.Salvage.{Broken, Whole, blockCount, judgedAlone, mapped, spans}
 use Rattle.answers.specs.Salvage.{cardBlocks}
 

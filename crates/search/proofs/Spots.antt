@@ -20,8 +20,8 @@ use Rattle.words.specs.Rising.{Positive, nth}
 use Rattle.words.specs.Words.{Bytes, Rule, Words, at, begins, shared, word}
 use Rattle.words.proofs.Rising.{nth-positive, nth-word}
 use Rattle.words.proofs.Words.{apart, at-past, shared-le, shared-parts, shared-self, word-positive}
-use Rattle.format.proofs.Marks.{kind-lawful}
-use Rattle.format.specs.Marks.{kindOf, ruleIn}
+use Rattle.format.proofs.BookKinds.{kind-sure}
+use Rattle.format.specs.Kinds.{kindOf, ruleIn}
 use Rattle.symbols.specs.Rules.{byKind, ruleBy}
 use Rattle.symbols.specs.declared.Rule.{Rule as ByRule}
 use Rattle.format.specs.Nodes.{table}
@@ -156,7 +156,7 @@ starts {b} a e = subst (λ (o : ℕ). Searchable (ruleIn b) b (rowsAt o)) (sym (
 pub name-ask : {b : Bytes} {t : Trailer} {r : ℕ} (q : List ℕ) → Askable b t → Reached (wordsOf (ruleIn b) b) q r → PositionAsk b t r
 unfolding wordsOf
 name-ask {b} q a o = record {
-  parts = a .parts;
+  framed = a .parts .framed;
   block = a .block;
   table = a .table;
   within = omega (arith, o .within, length-map (namesOf b) (word (ruleIn b)));
@@ -252,7 +252,7 @@ module _ {b : Bytes} {start : ℕ} (q : Bytes) (o : Searchable (ruleIn b) b (row
 
     positive : Positive (asked (ruleIn b) q)
     unfolding asked
-    positive = word-positive (ruleIn b) (kind-lawful (kindOf b)) q
+    positive = word-positive (ruleIn b) (kind-sure (kindOf b)) q
 
     -- a name that is q is the one that is reached
     not-there : (nth (wordsOf (ruleIn b) b) r ≡ asked (ruleIn b) q → ⊥) → (0, 0) ≡ exact (asked (ruleIn b) q) (wordsOf (ruleIn b) b)

@@ -19,13 +19,13 @@ use mir.Syntax.{w16, w64}
 use Rattle.words.specs.Rising.{Rises}
 use Rattle.words.specs.Words.{Bytes, Rule, Words, at, word}
 use Rattle.words.proofs.Words.{apart}
-use Rattle.format.specs.Marks.{kindOf, ruleIn}
+use Rattle.format.specs.Kinds.{kindOf, ruleIn}
 use Rattle.symbols.specs.Rules.{byKind, ruleBy}
 use Rattle.symbols.specs.declared.Rule.{Rule as ByRule}
 use Rattle.symbols.proofs.Symbols.{rule-by}
 use Rattle.format.specs.Spans.{wordsOf}
-use Rattle.format.specs.Book.{fields, trailerSize}
-use Rattle.format.specs.Nodes.{Node, nodeSize}
+use Rattle.format.specs.Book.{trailerSize}
+use Rattle.format.specs.Nodes.{Node, nodeSize, fields}
 use Rattle.descent.specs.Vocabulary.{Descended, Halts, Passed, Searchable, Seeking, Sits, Sought, Taken, asked, from, node, upto}
 use Rattle.standing.specs.Maps.{Roomy, inRows, recordAt, rowsAt}
 use Rattle.descent.proofs.Paths.{halt-end, halt-leaf, halt-other, halt-short, passed-few, passed-on, passed-room, passed-sits, passed-start, taken}

@@ -15,7 +15,7 @@ use mathlib.Core.List.{List}
 use lib.ListN.{getD, length}
 use Rattle.words.specs.Words.{Bytes, Words, at, shared}
 use Rattle.words.specs.Rising.{nth}
-use Rattle.format.specs.Marks.{ruleIn}
+use Rattle.format.specs.Kinds.{ruleIn}
 use Rattle.format.specs.Nodes.{table, fieldCount}
 use Rattle.answers.specs.Widths.{lastKind}
 use Rattle.answers.specs.Questions.{Pair as Numbers, reached}

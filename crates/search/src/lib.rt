@@ -2,9 +2,9 @@
 // of them; the name that it reaches is rebuilt and compared, since the descent passes over bytes that it never looks at.
 ghost use mathlib.Core.Path.{_≡_};
 ghost use lib.ListN.{getD};
-ghost use Rattle.format.specs.Marks.{ruleIn};
+ghost use Rattle.format.specs.Kinds.{ruleIn};
 ghost use Rattle.format.specs.Spans.{wordsOf};
-ghost use Rattle.format.specs.Book.{fields};
+ghost use Rattle.format.specs.Nodes.{fields};
 ghost use Rattle.standing.specs.Maps.{rowsAt};
 ghost use Rattle.answers.specs.Questions.{ask, exact, nearest, place, range};
 ghost use Rattle.answers.specs.Widths.{width};

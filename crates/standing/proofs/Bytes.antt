@@ -13,8 +13,9 @@ use Rattle.words.specs.Rising.{All}
 use Rattle.words.specs.Words.{Bytes, InBytes}
 use Rattle.words.proofs.Lists.{all-at}
 use Rattle.words.proofs.Words.{apart}
-use Rattle.format.specs.Book.{allFields, fields, nodePart, number}
-use Rattle.format.specs.Nodes.{Node, fieldCount, nodeSize}
+use Rattle.format.specs.Book.{number}
+use Rattle.format.specs.Spans.{nodePart}
+use Rattle.format.specs.Nodes.{Node, fieldCount, nodeSize, allFields, fields}
 use Rattle.format.proofs.Book.{fields-length, nodes-length}
 use Rattle.format.proofs.Numbers.{numbers-are, numbers-told}
 use Rattle.standing.specs.Maps.{inRows}

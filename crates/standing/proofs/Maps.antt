@@ -7,8 +7,8 @@ use native.Mathlib.Omega.{arith}
 use mathlib.Core.Path.{_≡_, refl, sym, ap, _∙_}
 use lib.ListN.{getD}
 use Rattle.words.specs.Words.{Bytes}
-use Rattle.format.specs.Book.{fields, number}
-use Rattle.format.specs.Nodes.{Node, fieldCount}
+use Rattle.format.specs.Book.{number}
+use Rattle.format.specs.Nodes.{Node, fieldCount, fields}
 use Rattle.standing.specs.Maps.{Map, recordAt}
 
 module _ (μ : Map) (b : Bytes) (o : ℕ) where

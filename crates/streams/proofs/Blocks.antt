@@ -14,7 +14,8 @@ use mathlib.Core.List.{List, [], _∷_, _++_, map, append-assoc}
 use lib.ListN.{length, getD, take, drop, length-append, length-drop, take-append-drop}
 use lib.Seq.{drop-drop, drop-append-seam, getD-drop}
 use borrow.Author.Tests.{lt-ltb}
-use Rattle.words.specs.Words.{Bytes, Lawful, Rule, less, word}
+use Rattle.words.specs.Words.{Bytes, Rule, less, word}
+use Rattle.words.specs.Rising.{Sure}
 use Rattle.words.proofs.Words.{less-start}
 use Rattle.format.specs.Book.{entryPart, joined, longestBook, number, numbers}
 use Rattle.format.specs.Entries.{blocks, blocksFrom, front, offsets}
@@ -31,7 +32,7 @@ raised : (ρ : Rule) (prev x : Bytes) (xs : List Bytes) → Headed ρ prev x xs 
 unfolding rising
 raised ρ prev x xs h = both-are _ _ (is-good (length x) (h .some) (h .short)) (both-are _ _ (h .rises) (h .others))
 
-pub less-empty : (ρ : Rule) (lw : Lawful ρ) (x : Bytes) → 1 ≤ length x → less (word ρ []) (word ρ x) ≡ true
+pub less-empty : (ρ : Rule) (lw : Sure ρ) (x : Bytes) → 1 ≤ length x → less (word ρ []) (word ρ x) ≡ true
 less-empty ρ lw [] h = absurd (not-suc-le-zero h)
 less-empty ρ lw (a ∷ x) h = less-start (ρ a) (word ρ x) ∙ lt-ltb 0 (ρ a) (lw .low a)
 
@@ -41,7 +42,7 @@ rising-after ρ prev p x xs l h =
     let d = headed ρ prev x xs h in
     raised ρ p x xs (record { some = d .some; short = d .short; rises = l; others = d .others })
 
-pub rising-alone : (ρ : Rule) (lw : Lawful ρ) (prev x : Bytes) (xs : List Bytes) → rising ρ prev (x ∷ xs) ≡ true → rising ρ [] (x ∷ xs) ≡ true
+pub rising-alone : (ρ : Rule) (lw : Sure ρ) (prev x : Bytes) (xs : List Bytes) → rising ρ prev (x ∷ xs) ≡ true → rising ρ [] (x ∷ xs) ≡ true
 rising-alone ρ lw prev x xs h = rising-after ρ prev [] x xs (less-empty ρ lw x (headed ρ prev x xs h .some)) h
 
 pub rising-left : (ρ : Rule) (prev : Bytes) (xs zs : List Bytes) → rising ρ prev (xs ++ zs) ≡ true → rising ρ prev xs ≡ true
@@ -87,7 +88,7 @@ unfolding lastOf
 last-same prev p zero x xs h = absurd (not-suc-le-zero h)
 last-same prev p (suc k) x xs h = refl
 
-head-rising : (ρ : Rule) (lw : Lawful ρ) (prev : Bytes) (k : ℕ) (x : Bytes) (xs : List Bytes) → 1 ≤ k → rising ρ prev (take k (x ∷ xs)) ≡ true → rising ρ [] (take k (x ∷ xs)) ≡ true
+head-rising : (ρ : Rule) (lw : Sure ρ) (prev : Bytes) (k : ℕ) (x : Bytes) (xs : List Bytes) → 1 ≤ k → rising ρ prev (take k (x ∷ xs)) ≡ true → rising ρ [] (take k (x ∷ xs)) ≡ true
 head-rising ρ lw prev zero x xs h r = absurd (not-suc-le-zero h)
 head-rising ρ lw prev (suc k) x xs h r = rising-alone ρ lw prev x (take k xs) r
 
@@ -95,7 +96,7 @@ head-after : (ρ : Rule) (prev : Bytes) (k : ℕ) (x : Bytes) (xs : List Bytes) 
 head-after ρ prev zero x xs h l r = absurd (not-suc-le-zero h)
 head-after ρ prev (suc k) x xs h l r = rising-after ρ [] prev x (take k xs) l r
 
-module _ (ρ : Rule) (lw : Lawful ρ) (b : Bytes) (k s u t o : ℕ) (prev x : Bytes) (xs : List Bytes) (one : 1 ≤ k) (small : length b ≤ longestBook) (ho : o ≤ length b) (hs : s ≤ length b)
+module _ (ρ : Rule) (lw : Sure ρ) (b : Bytes) (k s u t o : ℕ) (prev x : Bytes) (xs : List Bytes) (one : 1 ≤ k) (small : length b ≤ longestBook) (ho : o ≤ length b) (hs : s ≤ length b)
     (ht : t ≤ length b) (hu : u ≤ length b) where
   pub rest-first : Rest ρ b k s u t o prev (x ∷ xs) → FirstBlock ρ b k s u t o prev x xs (o + length (front [] (take k (x ∷ xs))))
   unfolding number

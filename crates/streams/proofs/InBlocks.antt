@@ -9,7 +9,8 @@ use mathlib.Core.Path.{_≡_, _∙_, ap, ap₂, refl, subst, sym}
 use mathlib.Core.List.{List, [], _∷_}
 use lib.ListN.{drop, getD, length, length-drop, length-take, take}
 use lib.Seq.{drop-drop, getD-drop, getD-take, length-take-le}
-use Rattle.words.specs.Words.{Bytes, Lawful, Rule, shared}
+use Rattle.words.specs.Words.{Bytes, Rule, shared}
+use Rattle.words.specs.Rising.{Sure}
 use Rattle.format.specs.Book.{longestBook, number, namesOf, told}
 use Rattle.format.specs.Entries.{front}
 use Rattle.streams.specs.Runs.{Frame, Has, Rest, Run, more}
@@ -18,7 +19,7 @@ use Rattle.streams.proofs.Blocks.{rest-first}
 use Rattle.streams.proofs.Places.{offset-add, run-end, run-next-count}
 use Rattle.streams.proofs.Walks.{has-names}
 
-module _ (ρ : Rule) (lw : Lawful ρ) (b : Bytes) (k s u : ℕ) (one : 1 ≤ k) (small : length b ≤ longestBook) (hs : s ≤ length b) (hu : u ≤ length b) where
+module _ (ρ : Rule) (lw : Sure ρ) (b : Bytes) (k s u : ℕ) (one : 1 ≤ k) (small : length b ≤ longestBook) (hs : s ≤ length b) (hu : u ≤ length b) where
   -- block number j of those from t on, whose first name is number p, and the first entry of all stands at o
   pub record BlockRun (j p t o : ℕ) (xs : List Bytes) : Type 0 where
     pub end : ℕ
@@ -71,7 +72,7 @@ run-zero : (ρ : Rule) (b : Bytes) (e o : ℕ) (xs : List Bytes) → 0 < length 
 run-zero ρ b e o [] h r = absurd (not-suc-le-zero h)
 run-zero ρ b e o (x ∷ xs) h (more k q r) = omega (arith, k .shares)
 
-module _ (ρ : Rule) (lw : Lawful ρ) (b : Bytes) (k s u n : ℕ) (ask : Frame b k s u) (h : Has ρ b k s u n s 0 []) (says : told b 2 ≡ s) where
+module _ (ρ : Rule) (lw : Sure ρ) (b : Bytes) (k s u n : ℕ) (ask : Frame b k s u) (h : Has ρ b k s u n s 0 []) (says : told b 2 ≡ s) where
   names-here : namesOf b ≡ h .names
   names-here = has-names ρ b k s u n (omega (arith, ask)) h (ask .one) says
 

@@ -10,25 +10,26 @@ use mathlib.Core.Bool.{true}
 use mathlib.Core.List.{List, [], _∷_, _++_, map}
 use lib.ListN.{drop, length, length-drop, length-take, take}
 use borrow.Author.Tests.{lt-ltb}
-use Rattle.words.specs.Words.{Bytes, both, plain}
-use Rattle.words.proofs.Words.{plain-lawful}
-use Rattle.format.specs.Marks.{BookKind, ruleOf}
-use Rattle.format.specs.Book.{blockPart, book, entryPart, longestBook, told}
+use Rattle.words.specs.Words.{Bytes, Rule, both, plain}
+use Rattle.words.proofs.Words.{plain-sure}
+use Rattle.format.specs.Kinds.{Form}
+use Rattle.format.specs.Layout.{Layout}
+use Rattle.format.specs.Book.{blockPart, bookBy, entryPart, longestBook, told}
 use Rattle.format.specs.Entries.{blocksFrom, entry, front}
 use Rattle.format.specs.Salvage.{Block, Whole, boundsFrom, climbs, judgedAlone, spansFrom}
-use Rattle.format.proofs.Book.{Fits, blocksAt, book-parts, from-blocks, from-nodes, nodesAt}
+use Rattle.format.proofs.Book.{FitsBy, blocksAt, book-parts, from-blocks, from-nodes, nodesAt}
 use Rattle.format.proofs.Entries.{blocks-first, by-blocks}
 use Rattle.format.proofs.Records.{sound-rising}
 use Rattle.streams.specs.Runs.{Rest}
 use Rattle.streams.proofs.Alone.{run-alone}
 use Rattle.streams.proofs.Blocks.{rest-first, rest-none}
 
-pub book-stands : (κ : BookKind) (k : ℕ) (xs : List Bytes) → Fits κ k xs → Rest (ruleOf κ) (book κ k xs) k (blocksAt κ k xs) (nodesAt κ k xs) (blocksAt κ k xs) 0 [] xs
+pub book-stands : {ρ : Rule} {f : Form} {mark : Bytes} (y : Layout ρ f mark) (k : ℕ) (xs : List Bytes) → FitsBy ρ f mark k xs → Rest ρ (bookBy ρ f mark k xs) k (blocksAt y k xs) (nodesAt y k xs) (blocksAt y k xs) 0 [] xs
 unfolding blockPart
-book-stands κ k xs f = record {
-  rises = sound-rising (ruleOf κ) xs (f .sound);
-  entries = book-parts κ k xs ∙ ap (λ (y : Bytes). entryPart k xs ++ y) (sym (from-blocks κ k xs));
-  places = from-blocks κ k xs ∙ ap (λ (y : Bytes). blockPart k xs ++ y) (sym (from-nodes κ k xs));
+book-stands {ρ} y k xs h = record {
+  rises = sound-rising ρ xs (h .sound);
+  entries = book-parts y k xs ∙ ap (λ (s : Bytes). entryPart k xs ++ s) (sym (from-blocks y k xs));
+  places = from-blocks y k xs ∙ ap (λ (s : Bytes). blockPart k xs ++ s) (sym (from-nodes y k xs));
 }
 
 -- ---- as a worn card's blocks
@@ -63,7 +64,7 @@ module _ (b : Bytes) (k s u : ℕ) (one : 1 ≤ k) (small : length b ≤ longest
   one-more : (x : Bytes) (xs : List Bytes) → Stands (drop k (x ∷ xs)) → Stands (x ∷ xs)
   unfolding boundsFrom climbs spansFrom
   one-more x xs ih t o prev ho ht r =
-      let f = rest-first plain plain-lawful b k s u t o prev x xs one small ho hs ht hu r in
+      let f = rest-first plain plain-sure b k s u t o prev x xs one small ho hs ht hu r in
       let e : ℕ = o + length (front [] (take k (x ∷ xs))) in
       let g = ih (t + 2) e _ (omega (arith, f .upto)) (omega (arith, f .room)) (f .others) in
       let up : o < e = omega (arith, front-some k x xs one) in

@@ -8,7 +8,8 @@ use mathlib.Core.Path.{_≡_, _∙_, ap, subst, sym}
 use mathlib.Core.List.{List, [], _∷_}
 use lib.ListN.{drop, length, length-drop}
 use lib.Seq.{drop-drop}
-use Rattle.words.specs.Words.{Bytes, Lawful, Rule}
+use Rattle.words.specs.Words.{Bytes, Rule}
+use Rattle.words.specs.Rising.{Sure}
 use Rattle.words.proofs.Lists.{all-map}
 use Rattle.format.specs.Book.{longestBook, number}
 use Rattle.format.proofs.Records.{rising-sizes}
@@ -17,7 +18,7 @@ use Rattle.streams.specs.Streams.{Stream}
 use Rattle.streams.proofs.Blocks.{rest-first}
 use Rattle.streams.proofs.Streams.{stream-part}
 
-module _ (ρ : Rule) (lw : Lawful ρ) (b : Bytes) (k s u : ℕ) (one : 1 ≤ k) (small : length b ≤ longestBook) (hs : s ≤ length b) (hu : u ≤ length b) where
+module _ (ρ : Rule) (lw : Sure ρ) (b : Bytes) (k s u : ℕ) (one : 1 ≤ k) (small : length b ≤ longestBook) (hs : s ≤ length b) (hu : u ≤ length b) where
   -- block number j of those from t on, whose first name is number p: its offset stands in the table, and its names stream from there
   pub record BlockFrom (j p t : ℕ) (xs : List Bytes) : Type 0 where
     pub room : t + 2 * j + 2 ≤ u

@@ -13,8 +13,8 @@ use mathlib.Core.Bool.{true}
 use mathlib.Core.List.{List, [], _∷_, _++_, map, append-assoc}
 use lib.ListN.{length, getD, take, drop, length-append, length-drop, take-append-drop}
 use lib.Seq.{getD-drop, drop-drop, take-at, drop-at, take-append-seam}
-use Rattle.words.specs.Rising.{All, Rises, cons}
-use Rattle.words.specs.Words.{Bytes, Lawful, Rule, shared, word}
+use Rattle.words.specs.Rising.{All, Rises, cons, Sure}
+use Rattle.words.specs.Words.{Bytes, Rule, shared, word}
 use Rattle.words.proofs.Lists.{all-left, all-map, all-right}
 use Rattle.words.proofs.Words.{shared-comm, shared-le, take-shared}
 use Rattle.format.specs.Spans.{wordsOf}
@@ -114,7 +114,7 @@ module _ (b : Bytes) (k : ℕ) (xs : List Bytes) (t : Bytes) (one : 1 ≤ k) (e 
       ∙ ap (λ (s : Bytes). decode (take (length (entryPart k xs)) s)) e
       ∙ ap decode (take-append-seam (entryPart k xs) t) ∙ decode-entries k xs one
 
-  pub known : (ρ : Rule) → Lawful ρ → sound ρ xs ≡ true → length b ≤ longestBook → Known ρ b
+  pub known : (ρ : Rule) → Sure ρ → sound ρ xs ≡ true → length b ≤ longestBook → Known ρ b
   unfolding wordsOf
   known ρ lw h l = record {
     short = l;

@@ -20,7 +20,8 @@ use mathlib.Core.List.{List, [], _∷_, _++_}
 use lib.ListN.{length, getD, take, drop, length-take, length-drop, length-append}
 use lib.Seq.{take-at, drop-at, take-nil}
 use borrow.Author.Tests.{le-leb, lt-leb}
-use Rattle.words.specs.Words.{Bytes, InBytes, Lawful, Rule, at, less, word}
+use Rattle.words.specs.Words.{Bytes, InBytes, Rule, at, less, word}
+use Rattle.words.specs.Rising.{Sure}
 use Rattle.format.specs.Book.{entryPart, longestBook, number, namesOf, told}
 use Rattle.format.specs.Entries.{front}
 use Rattle.format.specs.Records.{longest, mostNames, sound}
@@ -188,7 +189,7 @@ cut-at k left zs ws p q = elim (decLe left k) [
       record { front-is = take-at zs ws k e; rest-is = drop-at zs ws k e }
 ]
 
-module _ (ρ : Rule) (lw : Lawful ρ) (b : Bytes) (k s u left t o : ℕ) (prev : Bytes) (ask : Frame b k s u) (lo : o ≤ s) (lt : t ≤ u) (some : 0 < left) where
+module _ (ρ : Rule) (lw : Sure ρ) (b : Bytes) (k s u left t o : ℕ) (prev : Bytes) (ask : Frame b k s u) (lo : o ≤ s) (lt : t ≤ u) (some : 0 < left) where
   -- where the first block ends
   end-is : (x : Bytes) (xs : List Bytes) (e : ℕ) → length (x ∷ xs) ≡ left → FirstBlock ρ b k s u t o prev x xs e → endOf b k s t left ≡ e
   end-is x xs e n f = elim (decLe left k) [
@@ -270,7 +271,7 @@ pub record Walked (ρ : Rule) (b : Bytes) (k s u n t o : ℕ) (prev : Bytes) (le
   pub forth : Has ρ b k s u n s 0 [] → Has ρ b k s u left t o prev
   pub back : Has ρ b k s u left t o prev → Has ρ b k s u n s 0 []
 
-module _ (ρ : Rule) (lw : Lawful ρ) (b : Bytes) (k s u n : ℕ) where
+module _ (ρ : Rule) (lw : Sure ρ) (b : Bytes) (k s u n : ℕ) where
   pub walked-start : Frame b k s u → InBytes b → Walked ρ b k s u n s 0 [] n
   walked-start a bytes = record { ask = a; bytes = bytes; entries-in = omega arith; table-in = a .order; forth = λ h. h; back = λ h. h }
 
@@ -348,5 +349,5 @@ module _ (ρ : Rule) (b : Bytes) (k s u n : ℕ) (hs : s ≤ length b) (h : Has 
     pub has-names : namesOf b ≡ h .names
     has-names = names-are b k (h .names) (drop s b) one has-entries (says ∙ sym has-length)
 
-    pub has-known : Lawful ρ → n ≤ mostNames → length b ≤ longestBook → Known ρ b
+    pub has-known : Sure ρ → n ≤ mostNames → length b ≤ longestBook → Known ρ b
     has-known lw f l = known b k (h .names) (drop s b) one has-entries (says ∙ sym has-length) ρ lw (has-sound f) l

@@ -3,7 +3,7 @@
 --     symbol-plain, -small, -capital    a byte's symbol, way by way
 --     pair-..                   a byte and a greater one, by the folded rule
 --     alike-.., higher-.., has-..   two bytes and their symbols; a byte and a symbol
---     kind-by, rule-by, rule-lawful     the code's rules are the kinds' rules, and lawful
+--     kind-by, rule-by, rule-sure     the code's rules are the kinds' rules, and lawful
 --     symbol-in-.., symbol-past     a name's symbol; past the last byte stands the end symbol
 --     Sharing, sharing-..       the loop over what two names share
 --     parted-..                 names that part at their first bytes
@@ -18,10 +18,12 @@ use mathlib.Core.List.{[], _∷_}
 use lib.Dec.{eqb, leb, ltb}
 use borrow.Author.Tests.{eq-eqb, eqb-false, eqb-true, le-leb, leb-false, leb-true, le-ltb, lt-leb, lt-ltb, ltb-false, ltb-true, ne-eqb, not-false, not-true}
 use lib.ListN.{length, getD, length-map}
-use Rattle.words.specs.Words.{Bytes, Lawful, at, both, less, pick, plain, shared, word}
+use Rattle.words.specs.Words.{Bytes, at, both, less, pick, plain, shared, word}
+use Rattle.words.specs.Rising.{Sure}
 use Rattle.words.proofs.Words.{at-past, false≠true, less-by, part-at, shared-comm, shared-le, shared-more, shared-other, word-at}
-use Rattle.format.specs.Marks.{BookKind, FoldedBook, PlainBook, capital, ruleOf}
-use Rattle.format.proofs.Marks.{capital-bounds, kind-lawful, small-rule}
+use Rattle.format.specs.Folded.{capital}
+use Rattle.format.specs.Kinds.{BookKind, FoldedBook, PlainBook, ruleOf}
+use Rattle.format.proofs.BookKinds.{capital-bounds, kind-sure, small-rule}
 use Rattle.symbols.specs.Parting.{Parted}
 use Rattle.symbols.specs.Rules.{byKind, kindBy, ruleBy}
 use Rattle.symbols.specs.declared.Rule.{Rule as ByRule}
@@ -132,8 +134,8 @@ kind-by FoldedBook = refl
 pub rule-by : (κ : BookKind) → ruleBy (byKind κ) ≡ ruleOf κ
 rule-by κ = ap ruleOf (kind-by κ)
 
-pub rule-lawful : (r : ByRule) → Lawful (ruleBy r)
-rule-lawful r = kind-lawful (kindBy r)
+pub rule-sure : (r : ByRule) → Sure (ruleBy r)
+rule-sure r = kind-sure (kindBy r)
 
 -- ---- a name's symbol
 
@@ -206,7 +208,7 @@ module _ (r : ByRule) (a c : Bytes) (i : ℕ) (e : i ≡ shared (word (ruleBy r)
 
   pub below-end : i < length c → length a ≤ i → true ≡ less (word (ruleBy r) a) (word (ruleBy r) c)
   below-end h g =
-      sym (by ∙ lt-ltb (at (word (ruleBy r) a) i) (at (word (ruleBy r) c) i) (omega (arith, past r a i g, word-at (ruleBy r) c i h, rule-lawful r .low (getD c i 0))))
+      sym (by ∙ lt-ltb (at (word (ruleBy r) a) i) (at (word (ruleBy r) c) i) (omega (arith, past r a i g, word-at (ruleBy r) c i h, rule-sure r .low (getD c i 0))))
 
   pub below-by : i < length c → i < length a → (t : Bool) → t ≡ ltb (ruleBy r (getD a i 0)) (ruleBy r (getD c i 0)) → t ≡ less (word (ruleBy r) a) (word (ruleBy r) c)
   below-by h g t q = q ∙ sym (by ∙ ap₂ ltb (word-at (ruleBy r) a i g) (word-at (ruleBy r) c i h))

@@ -3,7 +3,7 @@
 --     byKind            the other way round
 -- Assumes nothing: these are definitions.
 use Rattle.words.specs.Words.{Rule}
-use Rattle.format.specs.Marks.{BookKind, FoldedBook, PlainBook, ruleOf}
+use Rattle.format.specs.Kinds.{BookKind, FoldedBook, PlainBook, ruleOf}
 use Rattle.symbols.specs.declared.Rule.{Rule as ByRule}
 use Rattle.symbols.specs.declared.Rule.the-variants.{Folded, Plain}
 

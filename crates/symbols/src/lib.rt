@@ -6,7 +6,7 @@ ghost use mathlib.Core.Path.{_≡_};
 ghost use Prim.Native.Nat.{_-_, _<_, _≤_};
 ghost use lib.Dec.{eqb, ltb};
 ghost use Rattle.words.specs.Words.{at, less, shared, word};
-ghost use Rattle.format.specs.Marks.{capital};
+ghost use Rattle.format.specs.Folded.{capital};
 ghost use Rattle.symbols.specs.Rules.{ruleBy};
 ghost use Rattle.symbols.specs.Parting.{Parted};
 

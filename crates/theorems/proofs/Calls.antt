@@ -14,7 +14,7 @@ use lib.Dec.{leb, ltb}
 use lib.ListN.{List·getD-map, length, getD, drop}
 use lib.Seq.{take-append-seam}
 use Rattle.words.specs.Words.{Bytes, both, pick}
-use Rattle.format.specs.Marks.{BookKind, ruleOf}
+use Rattle.format.specs.Kinds.{BookKind}
 use Rattle.format.specs.Book.{Book, NoBook, Opened, opened}
 use Rattle.format.specs.Outcomes.{Answer, Written, given, over, refused, write}
 use Rattle.answers.specs.Widths.{lastKind}
@@ -30,27 +30,26 @@ written-settles o a b e f =
     let g : a ≡ b = e ∙ sym f in
     (ap (λ (w : Written). w .answer) g, ap (λ (w : Written). w .room) g)
 
-module _ (κ : BookKind) where
-  pub build-settles : (list : Bytes) (k : ℕ) (room : Bytes) (a b : Written) → a ≡ build κ list k room → b ≡ build κ list k room
-      → (a .answer ≡ b .answer) × (a .room ≡ b .room)
-  build-settles list k room a b e f = written-settles (build κ list k room) a b e f
+pub build-settles : (κ : BookKind) (list : Bytes) (k : ℕ) (room : Bytes) (a b : Written) → a ≡ build κ list k room → b ≡ build κ list k room
+    → (a .answer ≡ b .answer) × (a .room ≡ b .room)
+build-settles κ list k room a b e f = written-settles (build κ list k room) a b e f
 
-  pub check-settles : (s : Bytes) (a b : Answer) → a ≡ check κ s → b ≡ check κ s → a ≡ b
-  check-settles s a b e f = e ∙ sym f
+pub check-settles : (s : Bytes) (a b : Answer) → a ≡ check s → b ≡ check s → a ≡ b
+check-settles s a b e f = e ∙ sym f
 
-  pub read-settles : (s : Bytes) (position : ℕ) (room : Bytes) (a b : Written) → a ≡ readBack κ s position room → b ≡ readBack κ s position room
-      → (a .answer ≡ b .answer) × (a .room ≡ b .room)
-  read-settles s position room a b e f = written-settles (readBack κ s position room) a b e f
+pub read-settles : (s : Bytes) (position : ℕ) (room : Bytes) (a b : Written) → a ≡ readBack s position room → b ≡ readBack s position room
+    → (a .answer ≡ b .answer) × (a .room ≡ b .room)
+read-settles s position room a b e f = written-settles (readBack s position room) a b e f
 
-  -- exact, place, range, nearest and width are kinds 1 to 5
-  pub question-settles : (kind : ℕ) (s q : Bytes) (a b : Answer) → a ≡ question κ kind s q → b ≡ question κ kind s q → a ≡ b
-  question-settles kind s q a b e f = e ∙ sym f
+-- exact, place, range, nearest and width are kinds 1 to 5
+pub question-settles : (kind : ℕ) (s q : Bytes) (a b : Answer) → a ≡ question kind s q → b ≡ question kind s q → a ≡ b
+question-settles kind s q a b e f = e ∙ sym f
 
-  pub batch-settles : (s questions : Bytes) (rows : List Row) (answers : List Answer) (a b : Batched)
-      → a ≡ batch κ s questions rows answers → b ≡ batch κ s questions rows answers → (a .answer ≡ b .answer) × (a .rows ≡ b .rows)
-  batch-settles s questions rows answers a b e f =
-      let g : a ≡ b = e ∙ sym f in
-      (ap (λ (w : Batched). w .answer) g, ap (λ (w : Batched). w .rows) g)
+pub batch-settles : (s questions : Bytes) (rows : List Row) (answers : List Answer) (a b : Batched)
+    → a ≡ batch s questions rows answers → b ≡ batch s questions rows answers → (a .answer ≡ b .answer) × (a .rows ≡ b .rows)
+batch-settles s questions rows answers a b e f =
+    let g : a ≡ b = e ∙ sym f in
+    (ap (λ (w : Batched). w .answer) g, ap (λ (w : Batched). w .rows) g)
 
 pub answer-settles : (x : Answer) (a b : Given) → answered a ≡ x → answered b ≡ x → a ≡ b
 answer-settles x a b e f = answered-injective a b (e ∙ sym f)
@@ -74,13 +73,13 @@ module _ (room other : Bytes) (e : length room ≡ length other) where
       go true = record { answer = refl; front = take-append-seam x (drop (length x) room) ∙ sym (take-append-seam x (drop (length x) other)) }
       go false = record { answer = refl; front = refl }
 
-  pub read-regardless : (κ : BookKind) (s : Bytes) (position : ℕ) → Alike (readBack κ s position room) (readBack κ s position other)
+  pub read-regardless : (s : Bytes) (position : ℕ) → Alike (readBack s position room) (readBack s position other)
   unfolding readBack readBackOf
-  read-regardless κ s position = go (opened κ s)
+  read-regardless s position = go (opened s)
     where
       go : (o : Opened) → Alike (readBackOf position room o) (readBackOf position other o)
       go NoBook = record { answer = refl; front = refl }
-      go (Book k xs) = here (ltb position (length xs))
+      go (Book κ k xs) = here (ltb position (length xs))
         where
           here : (t : Bool)
               → Alike (pick t (write (getD xs position []) room) (record { answer = refused 3; room = room }))
@@ -91,26 +90,26 @@ module _ (room other : Bytes) (e : length room ≡ length other) where
 -- ---- the rows of a batch
 
 -- a row, and the answer row in its place; past the last one, a row of kind 0, and its answer
-module _ (κ : BookKind) (s : Bytes) where
-  module _ (buffer : Bytes) (rows : List Row) (answers : List Answer) (ok : batch κ s buffer rows answers .answer .code ≡ 0) (i : ℕ) where
-    row-is : answerAt (batch κ s buffer rows answers) i ≡ rowAnswer (ruleOf κ) (opened κ s) buffer (rowAt rows i)
+module _ (s : Bytes) where
+  module _ (buffer : Bytes) (rows : List Row) (answers : List Answer) (ok : batch s buffer rows answers .answer .code ≡ 0) (i : ℕ) where
+    row-is : answerAt (batch s buffer rows answers) i ≡ rowAnswer (opened s) buffer (rowAt rows i)
     unfolding rowAnswer
     row-is =
-        ap (λ (l : List Answer). getD l i (refused 11)) (batch-rows κ s buffer rows answers ok)
-        ∙ List·getD-map (rowAnswer (ruleOf κ) (opened κ s) buffer) rows i (record { kind = 0; start = 0; size = 0 })
+        ap (λ (l : List Answer). getD l i (refused 11)) (batch-rows s buffer rows answers ok)
+        ∙ List·getD-map (rowAnswer (opened s) buffer) rows i (record { kind = 0; start = 0; size = 0 })
 
-    pub batch-alone : answerAt (batch κ s buffer rows answers) i
-        ≡ pick (goodRow buffer (rowAt rows i)) (question κ (rowAt rows i .kind) s (spanOf buffer (rowAt rows i))) (refused 11)
+    pub batch-alone : answerAt (batch s buffer rows answers) i
+        ≡ pick (goodRow buffer (rowAt rows i)) (question (rowAt rows i .kind) s (spanOf buffer (rowAt rows i))) (refused 11)
     unfolding question rowAnswer
     batch-alone = row-is
 
   -- another call on the same book, with a buffer of the same length, in which row j is row i, with the same bytes
-  pub batch-regardless : (buffer other : Bytes) (rows others : List Row) (answers places : List Answer) → batch κ s buffer rows answers .answer .code ≡ 0 → batch κ s other others places .answer .code ≡ 0
+  pub batch-regardless : (buffer other : Bytes) (rows others : List Row) (answers places : List Answer) → batch s buffer rows answers .answer .code ≡ 0 → batch s other others places .answer .code ≡ 0
       → (i j : ℕ) → rowAt rows i ≡ rowAt others j → length buffer ≡ length other → spanOf buffer (rowAt rows i) ≡ spanOf other (rowAt rows i)
-      → answerAt (batch κ s buffer rows answers) i ≡ answerAt (batch κ s other others places) j
+      → answerAt (batch s buffer rows answers) i ≡ answerAt (batch s other others places) j
   unfolding rowAnswer
   batch-regardless buffer other rows others answers places ok fine i j same size bytes =
       let r = rowAt rows i in
       row-is buffer rows answers ok i
-      ∙ ap₂ (λ (n : ℕ) (q : Bytes). pick (both (both (leb 1 (r .kind)) (leb (r .kind) lastKind)) (leb (r .start + r .size) n)) (questionOf (ruleOf κ) (r .kind) q (opened κ s)) (refused 11)) size bytes
-      ∙ ap (rowAnswer (ruleOf κ) (opened κ s) other) same ∙ sym (row-is other others places fine j)
+      ∙ ap₂ (λ (n : ℕ) (q : Bytes). pick (both (both (leb 1 (r .kind)) (leb (r .kind) lastKind)) (leb (r .start + r .size) n)) (questionOf (r .kind) q (opened s)) (refused 11)) size bytes
+      ∙ ap (rowAnswer (opened s) other) same ∙ sym (row-is other others places fine j)

@@ -10,17 +10,17 @@ use mathlib.Core.Bool.{false, true}
 use mathlib.Core.List.{List, [], _∷_, _++_, map}
 use lib.ListN.{replicate}
 use Rattle.words.specs.Words.{Bytes, less, shared}
-use Rattle.format.specs.Book.{allFields, blockPart, book, entryPart, joined, nodePart, numbers, trailer}
+use Rattle.format.specs.Book.{blockPart, book, bookBy, entryPart, joined, numbers, trailer}
 use Rattle.format.specs.Entries.{blocks, blocksFrom, entry, front, offsets}
 use Rattle.format.specs.Example.{text}
-use Rattle.format.specs.Marks.{PlainBook}
+use Rattle.format.specs.Kinds.{PlainBook}
 use Rattle.format.specs.Merging.{kept, merged}
-use Rattle.format.specs.Nodes.{depth, glue, groups, rowBy, table, tableWithin}
+use Rattle.format.specs.Nodes.{depth, glue, groups, rowBy, table, tableWithin, allFields}
 use Rattle.format.specs.Outcomes.{given, numbered}
 use Rattle.format.specs.Records.{encode, readFrom, readList}
 use Rattle.format.specs.Spans.{nodeTable}
 use Rattle.format.specs.Widths.{widest}
-use Rattle.answers.specs.Calls.{build, builtFrom}
+use Rattle.answers.specs.Calls.{build, buildBy, builtFrom}
 use Rattle.answers.specs.Merging.{judgeLists, mergeLists, ofReadings}
 use Rattle.answers.proofs.AllRefusals.{BuildRow, ListsRow, lent, mar, told3}
 use Rattle.theorems.specs.Letters.{characters, wellFormed}
@@ -52,7 +52,7 @@ longBuilds =
     (many 2000 ++ (0 ∷ []), 2, 99, (5, 2000)) ∷ (many 2000 ++ (2 ∷ 7 ∷ 207 ∷ []), 2, 99, (6, 2000)) ∷ (rows-of 30 2001 0, 2, 99, (7, 2000)) ∷ (rows-of 198 325 0, 2, 0, (9, 0)) ∷ (many 2000, 64, 99, (4, 0)) ∷ []
 
 pub edges-build : map (λ (c : BuildRow). build PlainBook (c .0) (c .1) (lent (c .2))) longBuilds ≡ map (λ (c : BuildRow). record { answer = numbered (c .3 .0) (c .3 .1); room = lent (c .2) }) longBuilds
-unfolding shared less depth glue groups widest rowBy tableWithin nodeTable table numbers joined entry blocksFrom front blocks offsets entryPart blockPart allFields nodePart trailer book encode readFrom readList builtFrom build rows-of
+unfolding shared less depth glue groups widest rowBy tableWithin nodeTable table numbers joined entry blocksFrom front blocks offsets entryPart blockPart allFields trailer bookBy encode readFrom readList builtFrom buildBy rows-of
 edges-build = refl
 
 pub edges-judge : judgeLists (many 2001) mar ≡ given 0 0

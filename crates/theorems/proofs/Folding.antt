@@ -12,7 +12,7 @@
 use Prim.Native.Nat.{ℕ, zero, suc, _+_, _-_, _≤_, _<_}
 use Prim.Native.String.{String}
 use native.Mathlib.Omega.{arith}
-use mathlib.Core.Path.{_≡_, refl, sym, ap, ap₂, _∙_}
+use mathlib.Core.Path.{_≡_, refl, sym, ap, ap₂, _∙_, subst}
 use mathlib.Core.Logic.{_⊎_, inl, inr}
 use mathlib.Core.Bool.{Bool, true, false, not, _||_}
 use mathlib.Core.List.{List, [], _∷_, _++_, append-assoc, map}
@@ -20,22 +20,24 @@ use lib.Dec.{eqb, leb, ltb}
 use lib.ListN.{List·getD-map, drop, getD, length, length-append, length-map, take}
 use lib.Seq.{getD-drop, take-append-seam}
 use borrow.Author.Tests.{le-leb, lt-leb}
-use Rattle.words.specs.Words.{Bytes, Words, begins, both, less, pick, plain, same, shared, word}
+use Rattle.words.specs.Words.{Bytes, Rule, Words, begins, both, less, pick, plain, same, shared, word}
 use Rattle.words.proofs.Words.{apart, false≠true, less-irrefl, plain-injective, same-true}
-use Rattle.format.specs.Book.{Book, NoBook, Opened, allFields, blockPart, book, entryPart, fits, joined, namesOf, nodePart, number, numbers, opened, trailer, trailerSize}
+use Rattle.format.specs.Book.{Book, NoBook, Opened, blockPart, book, bookBy, entryPart, fitsBy, isBookBy, joined, namesOf, number, numbers, opened, trailer, trailerSize}
 use Rattle.format.specs.Entries.{blocks, blocksFrom, decode, decodeFrom, entry, front, offsets}
 use Rattle.format.specs.Example.{text}
-use Rattle.format.specs.Marks.{BookKind, FoldedBook, PlainBook, capital, folded, kindOf, markOf, ruleOf}
-use Rattle.format.specs.Nodes.{depth, glue, groups, rowBy, table, tableWithin}
+use Rattle.format.specs.Folded.{capital, folded}
+use Rattle.format.specs.Kinds.{BookKind, FoldedBook, PlainBook, Rows, allKinds, kindOf, markOf, markedAs, ruleOf}
+use Rattle.format.specs.Layout.{Layout}
+use Rattle.format.specs.Nodes.{depth, glue, groups, rowBy, table, tableWithin, allFields}
 use Rattle.format.specs.Outcomes.{Answer, given, numbered, over, refused}
 use Rattle.format.specs.Records.{encode, longest, readFrom, readList, rising, sound}
 use Rattle.format.specs.Salvage.{mapped}
 use Rattle.format.specs.Spans.{nodeTable}
 use Rattle.format.specs.Widths.{widest}
-use Rattle.format.proofs.Book.{body, book-split, trailerNumbers}
+use Rattle.format.proofs.Book.{body, book-split, opened-kind, trailerNumbers}
 use Rattle.format.proofs.Computed.{edges-computed}
-use Rattle.format.proofs.Marks.{mark-length, small-rule}
-use Rattle.answers.specs.Calls.{build, builtFrom, question, questionOf}
+use Rattle.format.proofs.BookKinds.{kind-layout, small-rule}
+use Rattle.answers.specs.Calls.{build, buildBy, builtFrom, namesAnswer, question, questionOf}
 use Rattle.answers.specs.Lit.{inCharacter, lit, mayEnd}
 use Rattle.answers.specs.Questions.{Pair, answer, ask, childOf, count, exact, exactFrom, nearest, place, range, reachWithin, reached}
 use Rattle.answers.specs.Salvage.{cardBlocks, salvage, salvageFrom}
@@ -106,14 +108,19 @@ module _ (q r : Bytes) (e : word folded q ≡ word folded r) where
       let a : Pair = ask kind (word folded r) ws in
       ap (λ (w : List ℕ). pick (eqb kind 4) (ask kind w ws .0, lit q (ask kind w ws .1)) (ask kind w ws)) e ∙ ap (λ (n : ℕ). pick (eqb kind 4) (a .0, n) a) (same-lit (a .1))
 
-  pub folded-typed : (kind : ℕ) (s : Bytes) → question FoldedBook kind s q ≡ question FoldedBook kind s r
-  unfolding question questionOf
-  folded-typed kind s = go (opened FoldedBook s)
+  pub folded-typed : (kind : ℕ) (s : Bytes) → kindOf s ≡ FoldedBook → question kind s q ≡ question kind s r
+  unfolding question questionOf namesAnswer
+  folded-typed kind s is = go (opened s) refl
     where
-      go : (o : Opened) → questionOf folded kind q o ≡ questionOf folded kind r o
-      go NoBook = refl
-      go (Book k xs) =
+      asked-alike : (xs : List Bytes) → namesAnswer folded kind q xs ≡ namesAnswer folded kind r xs
+      asked-alike xs =
           ap₂ (λ (n : ℕ) (a : Pair). pick (leb n longest) (pick (both (eqb kind 4) (eqb (length xs) 0)) (refused 10) (given (a .0) (a .1))) (refused 1)) as-long (same-answer kind xs)
+
+      go : (o : Opened) → opened s ≡ o → questionOf kind q o ≡ questionOf kind r o
+      go NoBook p = refl
+      go (Book κ k xs) p =
+          let own : FoldedBook ≡ κ = sym is ∙ opened-kind κ s k xs p in
+          subst (λ (μ : BookKind). namesAnswer (ruleOf μ) kind q xs ≡ namesAnswer (ruleOf μ) kind r xs) own (asked-alike xs)
 
 -- ---- one name, two spellings
 
@@ -125,12 +132,12 @@ names-once κ s k xs b i j l h e =
 -- in either order; of a plain book only the order mar, Mar is refused, since capitals come first
 pub folded-doubles : (room : Bytes)
     → map (λ (a : BookKind × List Bytes). build (a .0) (encode (a .1)) 2 room) spelledTwice ≡ map (λ (a : BookKind × List Bytes). record { answer = numbered 6 1; room = room }) spelledTwice
-unfolding shared less encode readFrom readList builtFrom build
+unfolding shared less encode readFrom readList builtFrom buildBy
 folded-doubles room = refl
 
 pub plain-doubles : (room : Bytes) → 64 ≤ length room → let xs = text "Mar" ∷ text "mar" ∷ [] in
     build PlainBook (encode xs) 2 room ≡ record { answer = given 64 0; room = over (book PlainBook 2 xs) room }
-unfolding shared less begins same depth glue groups widest rowBy tableWithin nodeTable table numbers joined entry blocksFrom front blocks offsets entryPart blockPart allFields nodePart trailer book rising sound fits
+unfolding shared less begins same depth glue groups widest rowBy tableWithin nodeTable table numbers joined entry blocksFrom front blocks offsets entryPart blockPart allFields trailer bookBy rising sound fitsBy
 plain-doubles room h = build-writes PlainBook 2 (text "Mar" ∷ text "mar" ∷ []) refl room h
 
 -- ---- a list without capitals
@@ -148,20 +155,21 @@ module _ (k : ℕ) (xs : List Bytes) where
   abbrev before : Words → Bytes
   before ws =
       let at : ℕ = length (entryPart k xs) + length (blockPart k xs) in
-      let end : ℕ = at + length (nodePart (table ws)) + trailerSize in
-      (entryPart k xs ++ (blockPart k xs ++ nodePart (table ws))) ++ numbers (length xs ∷ k ∷ length (entryPart k xs) ∷ at ∷ length (table ws) ∷ end ∷ [])
+      let end : ℕ = at + length (numbers (allFields (table ws))) + trailerSize in
+      (entryPart k xs ++ (blockPart k xs ++ numbers (allFields (table ws)))) ++ numbers (length xs ∷ k ∷ length (entryPart k xs) ∷ at ∷ length (table ws) ∷ end ∷ [])
 
-  book-before : (κ : BookKind) → book κ k xs ≡ before (map (word (ruleOf κ)) xs) ++ markOf κ
-  book-before κ = book-split κ k xs ∙ sym (append-assoc (body κ k xs) (numbers (trailerNumbers κ k xs)) (markOf κ))
+  module _ {ρ : Rule} {mark : Bytes} (y : Layout ρ Rows mark) where
+    book-before : bookBy ρ Rows mark k xs ≡ before (map (word ρ) xs) ++ mark
+    book-before = book-split y k xs ∙ sym (append-assoc (body y k xs) (numbers (trailerNumbers y k xs)) mark)
 
-  marked-off : (κ : BookKind) → take (length (book κ k xs) - 4) (book κ k xs) ≡ before (map (word (ruleOf κ)) xs)
-  marked-off κ =
-      let p : Bytes = before (map (word (ruleOf κ)) xs) in
-      let there : length (book κ k xs) - 4 ≡ length p = omega (arith, ap length (book-before κ), length-append p (markOf κ), mark-length κ) in
-      ap₂ (λ (n : ℕ) (s : Bytes). take n s) there (book-before κ) ∙ take-append-seam p (markOf κ)
+    marked-off : take (length (bookBy ρ Rows mark k xs) - 4) (bookBy ρ Rows mark k xs) ≡ before (map (word ρ) xs)
+    marked-off =
+        let p : Bytes = before (map (word ρ) xs) in
+        let there : length (bookBy ρ Rows mark k xs) - 4 ≡ length p = omega (arith, ap length book-before, length-append p mark, y .four) in
+        ap₂ (λ (n : ℕ) (s : Bytes). take n s) there book-before ∙ take-append-seam p mark
 
   pub marks-apart : NoCapitals xs → book FoldedBook k xs ≡ take (length (book PlainBook k xs) - 4) (book PlainBook k xs) ++ markOf FoldedBook
-  marks-apart a = book-before FoldedBook ∙ ap (λ (s : Bytes). s ++ markOf FoldedBook) (ap before (small-words xs a) ∙ sym (marked-off PlainBook))
+  marks-apart a = book-before (kind-layout FoldedBook) ∙ ap (λ (s : Bytes). s ++ markOf FoldedBook) (ap before (small-words xs a) ∙ sym (marked-off (kind-layout PlainBook)))
 
 -- ---- a worn card
 
@@ -180,23 +188,23 @@ salvage-refuses s is room rows = go (mapped s) refl
     go : (t : Bool) → mapped s ≡ t → pick t (salvageFrom (cardBlocks s) room rows) (record { answer = refused 13; room = room; rows = rows }) ≡ record { answer = refused 13; room = room; rows = rows }
     go false e = refl
     go true e =
-        let plain-one : kindOf s ≡ PlainBook = ap (λ (b : ℕ). pick (eqb b 0x46) FoldedBook PlainBook) (third e) in
+        let plain-one : kindOf s ≡ PlainBook = ap (λ (b : ℕ). markedAs b allKinds) (third e) in
         let z : _≡_ {A = ℕ} 0x4B 0x46 = ap (λ (κ : BookKind). getD (markOf κ) 2 0) (sym plain-one ∙ is) in
         absurd (omega arith)
 
 -- ---- computed
 
 pub example-folded : book FoldedBook 2 foldedNames ≡ foldedBy2
-unfolding shared depth glue groups widest rowBy tableWithin nodeTable table numbers joined entry blocksFrom front blocks offsets entryPart blockPart allFields nodePart trailer book
+unfolding shared depth glue groups widest rowBy tableWithin nodeTable table numbers joined entry blocksFrom front blocks offsets entryPart blockPart allFields trailer bookBy
 example-folded = refl
 
 -- a row as the public call gives it, and as the table has it
 abbrev asked : ℕ × String × (ℕ × ℕ) → Answer
-asked a = question (kindOf foldedBy2) (a .0) foldedBy2 (text (a .1))
+asked a = question (a .0) foldedBy2 (text (a .1))
 
 abbrev listed : ℕ × String × (ℕ × ℕ) → Answer
 listed a = given (a .2 .0) (a .2 .1)
 
 pub folded-rows : map asked foldedRows ≡ map listed foldedRows
-unfolding shared less begins same depth glue groups widest rowBy tableWithin nodeTable table numbers joined entry blocksFrom front blocks offsets entryPart blockPart allFields nodePart trailer book decodeFrom decode number rising sound fits namesOf opened childOf reachWithin reached count exactFrom exact place range nearest width ask mayEnd lit answer questionOf question
+unfolding shared less begins same depth glue groups widest rowBy tableWithin nodeTable table numbers joined entry blocksFrom front blocks offsets entryPart blockPart allFields trailer bookBy decodeFrom decode number rising sound fitsBy namesOf isBookBy opened childOf reachWithin reached count exactFrom exact place range nearest width ask mayEnd lit answer namesAnswer questionOf question
 folded-rows = refl

@@ -1,5 +1,5 @@
--- Document 02, CR 3: what nearest's number says of the names of an accepted book, over the public call's own function (nearest is kind 4), of either
--- kind of book. A place where the lit part may end is one that is 0, the question's length, or before a byte that begins a character.
+-- Document 02, CR 3: what nearest's number says of names, of any call that answers as they do by a lawful rule (nearest is kind 4); the public call on an accepted
+-- book is one (book-answers in Ranges). A place where the lit part may end is one that is 0, the question's length, or before a byte that begins a character.
 --     nearest-given     the position is the plain list's; the number is what can be lit of what that name shares
 --     nearest-number    the number by itself
 --     lit-halves        both halves of 'the greatest': it is such a place, not above what is shared; and no greater one is
@@ -17,21 +17,17 @@ use mathlib.Core.List.{List, [], _∷_, map}
 use lib.Dec.{eqb, ltb}
 use lib.ListN.{drop, getD, length, take}
 use borrow.Author.Tests.{eqb-true, ltb-true}
-use Rattle.words.specs.Words.{Bytes, both, shared, word}
+use Rattle.words.specs.Words.{Bytes, Rule, both, shared, word}
 use Rattle.words.proofs.Words.{both-true, false≠true}
-use Rattle.format.specs.Marks.{BookKind, ruleOf}
-use Rattle.format.specs.Book.{Book, opened}
 use Rattle.format.specs.Outcomes.{Answer, given}
-use Rattle.format.specs.Records.{longest, sound}
-use Rattle.format.proofs.Book.{book-opened, fits-parts}
-use Rattle.format.proofs.Marks.{kind-lawful}
-use Rattle.answers.specs.Calls.{question, questionOf}
+use Rattle.format.specs.Records.{longest}
 use Rattle.answers.specs.Lit.{accents, inCharacter, lit, mayEnd}
 use Rattle.answers.specs.Questions.{answer, ask, nearest, reached}
 use Rattle.answers.proofs.Accents.{accents-lit}
 use Rattle.answers.proofs.Calls.{question-given}
 use Rattle.answers.proofs.Lit.{lit-low, lit-may, lit-most, lit-rises}
 use Rattle.theorems.specs.Demands.{Greatest}
+use Rattle.theorems.specs.Layouts.{Answers}
 use Rattle.theorems.specs.Letters.{characters, following, wellFormed}
 use Rattle.theorems.proofs.Questions.{nearest-greatest}
 
@@ -92,34 +88,31 @@ lit-halves q count = (lit-low q count, lit-may q count, lit-most q count)
 
 -- ---- the call's number
 
-module _ (κ : BookKind) (s : Bytes) (k : ℕ) (xs : List Bytes) (opens : opened κ s ≡ Book k xs) (some : 0 < length xs) (q : Bytes) (short : length q ≤ longest) where
-  is : sound (ruleOf κ) xs ≡ true
-  is = fits-parts κ k xs (book-opened κ s k xs opens .0) .sound
+module _ {ρ : Rule} {xs : List Bytes} {call : ℕ → Bytes → Answer} (a : Answers ρ xs call) (some : 0 < length xs) (q : Bytes) (short : length q ≤ longest) where
+  g : Greatest ρ q xs (nearest (word ρ q) (map (word ρ) xs))
+  g = nearest-greatest ρ xs (a .letters) (a .sound) q some
 
-  g : Greatest (ruleOf κ) q xs (nearest (word (ruleOf κ) q) (map (word (ruleOf κ)) xs))
-  g = nearest-greatest (ruleOf κ) (kind-lawful κ) xs is q some
-
-  pub nearest-given : let p = reached (word (ruleOf κ) q) (map (word (ruleOf κ)) xs) in question κ 4 s q ≡ given p (lit q (shared (word (ruleOf κ) q) (word (ruleOf κ) (getD xs p []))))
-  unfolding question answer ask nearest
+  pub nearest-given : let p = reached (word ρ q) (map (word ρ) xs) in call 4 q ≡ given p (lit q (shared (word ρ q) (word ρ (getD xs p []))))
+  unfolding answer ask nearest
   nearest-given =
-      ap (questionOf (ruleOf κ) 4 q) opens
-      ∙ sym (question-given (ruleOf κ) 4 q k xs short (λ e z. lt-irrefl 0 (omega arith)) (answer (ruleOf κ) 4 q xs) refl)
-      ∙ ap (λ (n : ℕ). given (reached (word (ruleOf κ) q) (map (word (ruleOf κ)) xs)) (lit q n)) (g .shares)
+      a .is 4 q
+      ∙ sym (question-given ρ 4 q xs short (λ e z. lt-irrefl 0 (omega arith)) (answer ρ 4 q xs) refl)
+      ∙ ap (λ (n : ℕ). given (reached (word ρ q) (map (word ρ) xs)) (lit q n)) (g .shares)
 
-  pub nearest-number : question κ 4 s q .second ≡ lit q (shared (word (ruleOf κ) q) (word (ruleOf κ) (getD xs (reached (word (ruleOf κ) q) (map (word (ruleOf κ)) xs)) [])))
-  nearest-number = ap (λ (a : Answer). a .second) nearest-given
+  pub nearest-number : call 4 q .second ≡ lit q (shared (word ρ q) (word ρ (getD xs (reached (word ρ q) (map (word ρ) xs)) [])))
+  nearest-number = ap (λ (b : Answer). b .second) nearest-given
 
   -- name number i would get this number
-  pub nearest-lit : (i : ℕ) → i < length xs → lit q (shared (word (ruleOf κ) q) (word (ruleOf κ) (getD xs i []))) ≤ question κ 4 s q .second
+  pub nearest-lit : (i : ℕ) → i < length xs → lit q (shared (word ρ q) (word ρ (getD xs i []))) ≤ call 4 q .second
   unfolding nearest
   nearest-lit i l =
-      subst (λ (n : ℕ). lit q (shared (word (ruleOf κ) q) (word (ruleOf κ) (getD xs i []))) ≤ n) (sym nearest-number)
-      (lit-rises q (shared (word (ruleOf κ) q) (word (ruleOf κ) (getD xs i []))) (shared (word (ruleOf κ) q) (word (ruleOf κ) (getD xs (reached (word (ruleOf κ) q) (map (word (ruleOf κ)) xs)) []))) (omega (arith, g .most i l, g .shares)))
+      subst (λ (n : ℕ). lit q (shared (word ρ q) (word ρ (getD xs i []))) ≤ n) (sym nearest-number)
+      (lit-rises q (shared (word ρ q) (word ρ (getD xs i []))) (shared (word ρ q) (word ρ (getD xs (reached (word ρ q) (map (word ρ) xs)) []))) (omega (arith, g .most i l, g .shares)))
 
-  pub nearest-whole : wellFormed q ≡ true → (wellFormed (take (question κ 4 s q .second) q) ≡ true) × (wellFormed (drop (question κ 4 s q .second) q) ≡ true)
+  pub nearest-whole : wellFormed q ≡ true → (wellFormed (take (call 4 q .second) q) ≡ true) × (wellFormed (drop (call 4 q .second) q) ≡ true)
   nearest-whole w =
       subst (λ (n : ℕ). (wellFormed (take n q) ≡ true) × (wellFormed (drop n q) ≡ true)) (sym nearest-number)
-      (lit-whole q (shared (word (ruleOf κ) q) (word (ruleOf κ) (getD xs (reached (word (ruleOf κ) q) (map (word (ruleOf κ)) xs)) []))) w)
+      (lit-whole q (shared (word ρ q) (word ρ (getD xs (reached (word ρ q) (map (word ρ) xs)) []))) w)
 
 -- ---- computed
 

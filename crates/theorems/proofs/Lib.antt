@@ -1,5 +1,6 @@
 -- The theorems, by what they are about.
 pub mod Edges
+pub mod Lettered
 pub mod Books
 pub mod Lists
 pub mod Trees

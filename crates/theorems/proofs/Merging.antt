@@ -22,7 +22,7 @@ use lib.ListN.{drop, getD, length, replicate, take}
 use lib.Seq.{take-append-seam}
 use denote.Ref.{RefT}
 use Rattle.words.specs.Words.{Bytes, less, plain, shared}
-use Rattle.words.proofs.Words.{plain-injective, plain-lawful, word-injective}
+use Rattle.words.proofs.Words.{plain-injective, plain-sure, word-injective}
 use Rattle.format.specs.Alone.{Reads}
 use Rattle.format.specs.Example.{text}
 use Rattle.format.specs.Merging.{kept, merged}
@@ -45,7 +45,7 @@ pub names-rise : {s : Bytes} {xs : List Bytes} → Reads s xs → rising plain [
 names-rise {s} {xs} p = read-names plain (length s) s xs (p .names) .rises
 
 pub union-rises : {s t : Bytes} {xs ys : List Bytes} → Reads s xs → Reads t ys → rising plain [] (merged plain xs ys) ≡ true
-union-rises {s} {t} {xs} {ys} p q = merged-rises plain plain-lawful xs ys (names-rise p) (names-rise q)
+union-rises {s} {t} {xs} {ys} p q = merged-rises plain plain-sure xs ys (names-rise p) (names-rise q)
 
 module _ (s t room : Bytes) where
   pub merge-reads : mergeLists s t room .answer .code ≡ 0 → ((xs : List Bytes) × (readList plain (length s) s ≡ Names xs)) × ((ys : List Bytes) × (readList plain (length t) t ≡ Names ys))
@@ -80,7 +80,7 @@ module _ (s t : Bytes) (xs ys : List Bytes) (p : readList plain (length s) s ≡
     λ m. among-either plain xs ys m,
     λ m. elim m [
       | inl a ↦ among-left plain xs ys a
-      | inr b ↦ among-right plain plain-lawful (word-injective plain plain-injective) xs ys b
+      | inr b ↦ among-right plain plain-sure (word-injective plain plain-injective) xs ys b
     ],
   )
 

@@ -1,5 +1,5 @@
--- Document 02, CR 12: testers check nearest by eye against the sorted sheet. Over the public calls' own functions (place is kind 2, range 3, nearest
--- 4), an accepted book of either kind and a question that is not refused.
+-- Document 02, CR 12: testers check nearest by eye against the sorted sheet. Of any call that answers as some names do by a lawful rule (place is kind 2, range 3,
+-- nearest 4), and a question that is not refused; the public call on an accepted book is one (book-answers in Ranges).
 --     neighbours-tell   nearest's number is the greater of those that the names at place less 1 and at place would give, whichever of these exist
 --     range-nested      the names in the range of a longer question all lie in the range of any beginning of it
 --     typed-on          one byte more never brings back a stop that was out
@@ -13,75 +13,73 @@ use mathlib.Core.List.{List, [], _∷_, _++_, map}
 use lib.ListN.{getD, length, length-map, length-take, take}
 use lib.Seq.{take-append-seam}
 use Rattle.words.specs.Rising.{nth}
-use Rattle.words.specs.Words.{Bytes, begins, shared, word}
+use Rattle.words.specs.Words.{Bytes, Rule, begins, shared, word}
 use Rattle.words.proofs.Rising.{nth-word}
-use Rattle.words.proofs.Words.{begins-front, word-front, word-positive}
-use Rattle.format.specs.Marks.{BookKind, ruleOf}
-use Rattle.format.specs.Book.{Book, opened}
+use Rattle.words.proofs.Words.{begins-front, word-front}
 use Rattle.format.specs.Outcomes.{Answer}
 use Rattle.format.specs.Records.{longest}
-use Rattle.format.proofs.Marks.{kind-lawful}
-use Rattle.format.proofs.Records.{sound-rises}
-use Rattle.answers.specs.Calls.{question}
+use Rattle.format.proofs.Records.{sound-rising, symbols-rises}
 use Rattle.answers.specs.Lit.{lit}
 use Rattle.answers.specs.Neighbours.{ByNeighbours}
 use Rattle.answers.specs.Questions.{answer, ask, place, reached}
 use Rattle.answers.proofs.Neighbours.{Peak, peak-lit, peak-told, shared-peak}
+use Rattle.theorems.specs.Layouts.{Answers, Lettered}
+use Rattle.theorems.proofs.Lettered.{lettered-positive, names-symbols}
 use Rattle.theorems.proofs.Letters.{nearest-number}
-use Rattle.theorems.proofs.Ranges.{InRange, asks, begun, in-range, names-sound, range-names}
+use Rattle.theorems.proofs.Ranges.{InRange, asks, begun, in-range, range-names}
 
-module _ (κ : BookKind) (s : Bytes) (k : ℕ) (xs : List Bytes) (opens : opened κ s ≡ Book k xs) where
+module _ {ρ : Rule} {xs : List Bytes} {call : ℕ → Bytes → Answer} (a : Answers ρ xs call) where
   -- ---- nearest by the names beside the place
 
-  module _ (some : 0 < length xs) (q : Bytes) (short : length q ≤ longest) where
+  module _ (some : 0 < length xs) (q : Bytes) (own : Lettered ρ q) (short : length q ≤ longest) where
     -- the number that name i would give
     abbrev gives : ℕ → ℕ
-    gives i = lit q (shared (word (ruleOf κ) q) (word (ruleOf κ) (getD xs i [])))
+    gives i = lit q (shared (word ρ q) (word ρ (getD xs i [])))
 
-    place-is : question κ 2 s q .first ≡ place (word (ruleOf κ) q) (map (word (ruleOf κ)) xs)
+    place-is : call 2 q .first ≡ place (word ρ q) (map (word ρ) xs)
     unfolding answer ask
-    place-is = ap (λ (a : Answer). a .first) (asks κ s k xs opens q short 2 (λ e. lt-irrefl 2 (omega arith)))
+    place-is = ap (λ (b : Answer). b .first) (asks a q short 2 (λ e. lt-irrefl 2 (omega arith)))
 
     -- by names, where the laws have words
-    by-names : Peak (λ i. shared (word (ruleOf κ) q) (word (ruleOf κ) (getD xs i []))) (length xs) (place (word (ruleOf κ) q) (map (word (ruleOf κ)) xs)) (shared (word (ruleOf κ) q) (word (ruleOf κ) (getD xs (reached (word (ruleOf κ) q) (map (word (ruleOf κ)) xs)) [])))
+    by-names : Peak (λ i. shared (word ρ q) (word ρ (getD xs i []))) (length xs) (place (word ρ q) (map (word ρ) xs)) (shared (word ρ q) (word ρ (getD xs (reached (word ρ q) (map (word ρ) xs)) [])))
     by-names =
-        let p = shared-peak (word (ruleOf κ) q) (map (word (ruleOf κ)) xs) (sound-rises (ruleOf κ) (kind-lawful κ) xs (names-sound κ s k xs opens)) (word-positive (ruleOf κ) (kind-lawful κ) q) (omega (arith, length-map xs (word (ruleOf κ)))) in
+        let p = shared-peak (word ρ q) (map (word ρ) xs) (symbols-rises ρ xs (names-symbols ρ xs (a .letters)) (sound-rising ρ xs (a .sound))) (lettered-positive ρ q own) (omega (arith, length-map xs (word ρ))) in
         record {
-          within = omega (arith, p .within, length-map xs (word (ruleOf κ)));
+          within = omega (arith, p .within, length-map xs (word ρ));
           at = p .at;
-          inside = omega (arith, p .inside, length-map xs (word (ruleOf κ)));
-          is = sym (same (reached (word (ruleOf κ) q) (map (word (ruleOf κ)) xs))) ∙ p .is ∙ same (p .at);
-          most = λ i l. omega (arith, p .most i (omega (arith, length-map xs (word (ruleOf κ)))), same i, same (reached (word (ruleOf κ) q) (map (word (ruleOf κ)) xs)));
-          up = λ i l. omega (arith, p .up i l, same i, same (place (word (ruleOf κ) q) (map (word (ruleOf κ)) xs) - 1));
-          down = λ i l h. omega (arith, p .down i l (omega (arith, length-map xs (word (ruleOf κ)))), same i, same (place (word (ruleOf κ) q) (map (word (ruleOf κ)) xs)));
+          inside = omega (arith, p .inside, length-map xs (word ρ));
+          is = sym (same (reached (word ρ q) (map (word ρ) xs))) ∙ p .is ∙ same (p .at);
+          most = λ i l. omega (arith, p .most i (omega (arith, length-map xs (word ρ))), same i, same (reached (word ρ q) (map (word ρ) xs)));
+          up = λ i l. omega (arith, p .up i l, same i, same (place (word ρ q) (map (word ρ) xs) - 1));
+          down = λ i l h. omega (arith, p .down i l (omega (arith, length-map xs (word ρ))), same i, same (place (word ρ q) (map (word ρ) xs)));
         }
       where
-        same : (i : ℕ) → shared (word (ruleOf κ) q) (nth (map (word (ruleOf κ)) xs) i) ≡ shared (word (ruleOf κ) q) (word (ruleOf κ) (getD xs i []))
-        same i = ap (shared (word (ruleOf κ) q)) (nth-word (ruleOf κ) xs i)
+        same : (i : ℕ) → shared (word ρ q) (nth (map (word ρ) xs) i) ≡ shared (word ρ q) (word ρ (getD xs i []))
+        same i = ap (shared (word ρ q)) (nth-word ρ xs i)
 
-    pub neighbours-tell : ByNeighbours (λ i. lit q (shared (word (ruleOf κ) q) (word (ruleOf κ) (getD xs i [])))) (length xs) (question κ 2 s q .first) (question κ 4 s q .second)
+    pub neighbours-tell : ByNeighbours (λ i. lit q (shared (word ρ q) (word ρ (getD xs i [])))) (length xs) (call 2 q .first) (call 4 q .second)
     neighbours-tell =
-        subst (λ (n : ℕ). ByNeighbours gives (length xs) n (question κ 4 s q .second)) (sym place-is)
-        (subst (λ (n : ℕ). ByNeighbours gives (length xs) (place (word (ruleOf κ) q) (map (word (ruleOf κ)) xs)) n) (sym (nearest-number κ s k xs opens some q short)) (peak-told (peak-lit q by-names)))
+        subst (λ (n : ℕ). ByNeighbours gives (length xs) n (call 4 q .second)) (sym place-is)
+        (subst (λ (n : ℕ). ByNeighbours gives (length xs) (place (word ρ q) (map (word ρ) xs)) n) (sym (nearest-number a some q short)) (peak-told (peak-lit q by-names)))
 
   -- ---- ranges inside each other
 
   module _ (q : Bytes) (short : length q ≤ longest) where
     -- position i is a name's, which begins with q; and it lies in the range of the first m bytes of q
-    pub range-nested : (m i : ℕ) → question κ 3 s q .first ≤ i → i < question κ 3 s q .first + question κ 3 s q .second
-        → (i < length xs) × (begins (word (ruleOf κ) q) (word (ruleOf κ) (getD xs i [])) ≡ true) × (question κ 3 s (take m q) .first ≤ i) × (i < question κ 3 s (take m q) .first + question κ 3 s (take m q) .second)
+    pub range-nested : (m i : ℕ) → call 3 q .first ≤ i → i < call 3 q .first + call 3 q .second
+        → (i < length xs) × (begins (word ρ q) (word ρ (getD xs i [])) ≡ true) × (call 3 (take m q) .first ≤ i) × (i < call 3 (take m q) .first + call 3 (take m q) .second)
     range-nested m i low high =
-        let r : InRange κ s k xs opens q short i = record { low = low; high = high } in
+        let r : InRange a q short i = record { low = low; high = high } in
         let less : length (take m q) ≤ longest = omega (arith, length-take m q) in
-        let b : begins (word (ruleOf κ) (take m q)) (word (ruleOf κ) (getD xs i [])) ≡ true =
-        subst (λ (w : List ℕ). begins w (word (ruleOf κ) (getD xs i [])) ≡ true) (sym (word-front (ruleOf κ) m q)) (begins-front (word (ruleOf κ) q) (word (ruleOf κ) (getD xs i [])) m (begun κ s k xs opens q short i r)) in
-        let t = in-range κ s k xs opens (take m q) less i (range-names κ s k xs opens q short i r) b in
-        (range-names κ s k xs opens q short i r, begun κ s k xs opens q short i r, t .low, t .high)
+        let b : begins (word ρ (take m q)) (word ρ (getD xs i [])) ≡ true =
+        subst (λ (w : List ℕ). begins w (word ρ (getD xs i [])) ≡ true) (sym (word-front ρ m q)) (begins-front (word ρ q) (word ρ (getD xs i [])) m (begun a q short i r)) in
+        let t = in-range a (take m q) less i (range-names a q short i r) b in
+        (range-names a q short i r, begun a q short i r, t .low, t .high)
 
   -- a panel: what was out stays out
-  pub typed-on : (q : Bytes) (b i : ℕ) → length (q ++ (b ∷ [])) ≤ longest → (question κ 3 s q .first ≤ i → i < question κ 3 s q .first + question κ 3 s q .second → ⊥)
-      → question κ 3 s (q ++ (b ∷ [])) .first ≤ i → i < question κ 3 s (q ++ (b ∷ [])) .first + question κ 3 s (q ++ (b ∷ [])) .second → ⊥
+  pub typed-on : (q : Bytes) (b i : ℕ) → length (q ++ (b ∷ [])) ≤ longest → (call 3 q .first ≤ i → i < call 3 q .first + call 3 q .second → ⊥)
+      → call 3 (q ++ (b ∷ [])) .first ≤ i → i < call 3 (q ++ (b ∷ [])) .first + call 3 (q ++ (b ∷ [])) .second → ⊥
   typed-on q b i short out low high =
       let r = range-nested (q ++ (b ∷ [])) short (length q) i low high in
       let same : take (length q) (q ++ (b ∷ [])) ≡ q = take-append-seam q (b ∷ []) in
-      out (subst (λ (x : Bytes). question κ 3 s x .first ≤ i) same (r .2)) (subst (λ (x : Bytes). i < question κ 3 s x .first + question κ 3 s x .second) same (r .3))
+      out (subst (λ (x : Bytes). call 3 x .first ≤ i) same (r .2)) (subst (λ (x : Bytes). i < call 3 x .first + call 3 x .second) same (r .3))

@@ -9,8 +9,10 @@ use mathlib.Core.Path.{_≡_, ap, _∙_}
 use mathlib.Core.Bool.{true, false}
 use mathlib.Core.List.{_++_, map-append}
 use lib.ListN.{length, length-map}
-use Rattle.words.specs.Words.{Bytes, Lawful, Rule, less, word}
-use Rattle.words.proofs.Words.{Ordered, less-extends, less-irrefl, less-trans, ordered, word-positive}
+use Rattle.words.specs.Words.{Bytes, Rule, less, word}
+use Rattle.words.proofs.Words.{Ordered, less-extends, less-irrefl, less-trans, ordered}
+use Rattle.theorems.specs.Layouts.{Lettered}
+use Rattle.theorems.proofs.Lettered.{lettered-positive}
 
 module _ (ρ : Rule) where
   pub order-irreflexive : (x : Bytes) → less (word ρ x) (word ρ x) ≡ false
@@ -19,10 +21,9 @@ module _ (ρ : Rule) where
   pub order-transitive : (x y z : Bytes) → less (word ρ x) (word ρ y) ≡ true → less (word ρ y) (word ρ z) ≡ true → less (word ρ x) (word ρ z) ≡ true
   order-transitive x y z h k = less-trans (word ρ x) (word ρ y) (word ρ z) h k
 
-  module _ (ok : Lawful ρ) where
-    pub order-total : (x y : Bytes) → Ordered (word ρ x) (word ρ y)
-    order-total x y = ordered (word ρ x) (word ρ y) (word-positive ρ ok x) (word-positive ρ ok y)
+  pub order-total : (x y : Bytes) → Lettered ρ x → Lettered ρ y → Ordered (word ρ x) (word ρ y)
+  order-total x y a b = ordered (word ρ x) (word ρ y) (lettered-positive ρ x a) (lettered-positive ρ y b)
 
-    pub order-extends : (x y : Bytes) → 0 < length y → less (word ρ x) (word ρ (x ++ y)) ≡ true
-    order-extends x y h =
-        ap (less (word ρ x)) (map-append ρ x y) ∙ less-extends (word ρ x) (word ρ y) (word-positive ρ ok y) (omega (arith, length-map y ρ))
+  pub order-extends : (x y : Bytes) → Lettered ρ y → 0 < length y → less (word ρ x) (word ρ (x ++ y)) ≡ true
+  order-extends x y b h =
+      ap (less (word ρ x)) (map-append ρ x y) ∙ less-extends (word ρ x) (word ρ y) (lettered-positive ρ y b) (omega (arith, length-map y ρ))

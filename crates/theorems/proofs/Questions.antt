@@ -18,19 +18,22 @@ use lib.Dec.{eqb, leb, ltb}
 use lib.ListN.{length, getD, length-map}
 use borrow.Author.Tests.{eq-eqb, le-ltb, lt-ltb, ltb-true, ne-eqb}
 use Rattle.words.specs.Rising.{Rises, nth}
-use Rattle.words.specs.Words.{Bytes, Lawful, Rule, Words, begins, both, less, pick, plain, same, shared, word}
+use Rattle.words.specs.Words.{Bytes, Rule, Words, begins, both, less, pick, plain, same, shared, word}
 use Rattle.words.proofs.Rising.{nth-word}
-use Rattle.words.proofs.Words.{apart, both-true, less-nil, less-other, less-same, less-start, plain-injective, plain-lawful, same-true, shared-word, word-injective, word-positive}
+use Rattle.words.proofs.Words.{apart, both-true, less-nil, less-other, less-same, less-start, plain-injective, same-true, shared-word, word-injective}
 use Rattle.format.specs.Records.{sound}
-use Rattle.format.proofs.Records.{sound-rises}
+use Rattle.format.proofs.Records.{sound-rising, symbols-rises}
 use Rattle.answers.specs.Lit.{lit}
 use Rattle.answers.specs.Questions.{Pair, answer, ask, nearest, place, range, reached}
 use Rattle.theorems.specs.Demands.{Greatest, comesBefore}
+use Rattle.format.specs.Kinds.{PlainBook}
+use Rattle.theorems.specs.Layouts.{AllLettered, Lettered}
+use Rattle.theorems.proofs.Lettered.{kind-lettered, kind-names, lettered-positive, names-symbols}
 use Rattle.answers.proofs.Nearest.{reached-most, reached-within}
 use Rattle.answers.proofs.Places.{exact-place, place-at, range-at}
 use Rattle.descent.proofs.Cuts.{exact-here}
 
-module _ (ρ : Rule) (ok : Lawful ρ) (xs : List Bytes) (is : sound ρ xs ≡ true) (q : Bytes) where
+module _ (ρ : Rule) (xs : List Bytes) (letters : AllLettered ρ xs) (is : sound ρ xs ≡ true) (q : Bytes) where
   -- a name's word
   abbrev pub theWord : ℕ → List ℕ
   theWord i = word ρ (getD xs i [])
@@ -39,7 +42,7 @@ module _ (ρ : Rule) (ok : Lawful ρ) (xs : List Bytes) (is : sound ρ xs ≡ tr
   ws = map (word ρ) xs
 
   rises : Rises (map (word ρ) xs)
-  rises = sound-rises ρ ok xs is
+  rises = symbols-rises ρ xs (names-symbols ρ xs letters) (sound-rising ρ xs is)
 
   inside : {i : ℕ} → i < length xs → i < length (map (word ρ) xs)
   inside h = omega (arith, length-map xs (word ρ))
@@ -57,17 +60,17 @@ module _ (ρ : Rule) (ok : Lawful ρ) (xs : List Bytes) (is : sound ρ xs ≡ tr
   unfolding answer ask range
   range-place = refl
 
-  pub exact-is : let p = answer ρ 2 q xs .0 in
+  pub exact-is : Lettered ρ q → let p = answer ρ 2 q xs .0 in
       answer ρ 1 q xs ≡ pick (both (ltb p (length xs)) (same (theWord p) (word ρ q))) (p, 1) (0, 0)
   unfolding answer ask
-  exact-is =
+  exact-is own =
       let p : ℕ = place (word ρ q) (map (word ρ) xs) in
-      exact-place (word ρ q) (map (word ρ) xs) (word-positive ρ ok q) rises
+      exact-place (word ρ q) (map (word ρ) xs) (lettered-positive ρ q own) rises
       ∙ ap₂ (λ (n : ℕ) (w : List ℕ). pick (both (ltb p n) (same w (word ρ q))) (p, 1) (0, 0)) (length-map xs (word ρ)) (nth-word ρ xs p)
 
-  pub exact-finds : (i : ℕ) → i < length xs → theWord i ≡ word ρ q → answer ρ 1 q xs ≡ (i, 1)
+  pub exact-finds : Lettered ρ q → (i : ℕ) → i < length xs → theWord i ≡ word ρ q → answer ρ 1 q xs ≡ (i, 1)
   unfolding answer ask
-  exact-finds i h e = exact-here (map (word ρ) xs) (word ρ q) rises (word-positive ρ ok q) i (inside h) (nth-word ρ xs i ∙ e)
+  exact-finds own i h e = exact-here (map (word ρ) xs) (word ρ q) rises (lettered-positive ρ q own) i (inside h) (nth-word ρ xs i ∙ e)
 
   pub nearest-greatest : 0 < length xs → Greatest ρ q xs (nearest (word ρ q) (map (word ρ) xs))
   unfolding nearest
@@ -101,19 +104,19 @@ before-bytes (a ∷ x) (b ∷ y) = elim (ℕ-discrete a b) [
 module _ (xs : List Bytes) (is : sound plain xs ≡ true) (q : Bytes) where
   -- the names before the question are those up to its place
   pub place-bytes : (i : ℕ) → i < length xs → comesBefore (getD xs i []) q ≡ ltb i (answer plain 2 q xs .0)
-  place-bytes i h = sym (before-bytes (getD xs i []) q) ∙ place-below plain plain-lawful xs is q i h
+  place-bytes i h = sym (before-bytes (getD xs i []) q) ∙ place-below plain xs (kind-names PlainBook xs) is q i h
 
   -- the names that have the question's bytes in front are those of the range
   pub range-bytes : (i : ℕ) → i < length xs
       → begins q (getD xs i []) ≡ both (leb (answer plain 3 q xs .0) i) (ltb i (answer plain 3 q xs .0 + answer plain 3 q xs .1))
   unfolding begins
   range-bytes i h =
-      ap₂ (λ (a b : ℕ). eqb a b) (sym (shared-word plain plain-injective q (getD xs i []))) (sym (length-map q plain)) ∙ range-is plain plain-lawful xs is q i h
+      ap₂ (λ (a b : ℕ). eqb a b) (sym (shared-word plain plain-injective q (getD xs i []))) (sym (length-map q plain)) ∙ range-is plain xs (kind-names PlainBook xs) is q i h
 
   -- the question is name number i, or it is no name
   pub exact-bytes : ((i : ℕ) → i < length xs → getD xs i [] ≡ q → answer plain 1 q xs ≡ (i, 1))
       × (((i : ℕ) → i < length xs → getD xs i [] ≡ q → ⊥) → answer plain 1 q xs ≡ (0, 0))
-  exact-bytes = (λ i h e. exact-finds plain plain-lawful xs is q i h (ap (word plain) e), λ n. exact-is plain plain-lawful xs is q ∙ none n)
+  exact-bytes = (λ i h e. exact-finds plain xs (kind-names PlainBook xs) is q (kind-lettered PlainBook q) i h (ap (word plain) e), λ n. exact-is plain xs (kind-names PlainBook xs) is q (kind-lettered PlainBook q) ∙ none n)
     where
       p : ℕ
       p = answer plain 2 q xs .0
@@ -133,6 +136,6 @@ pub nearest-bytes : (xs : List Bytes) → sound plain xs ≡ true → (q : Bytes
     → let p = answer plain 4 q xs .0 in (answer plain 4 q xs .1 ≡ lit q (shared q (getD xs p []))) × ((i : ℕ) → i < length xs → shared q (getD xs i []) ≤ shared q (getD xs p []))
 unfolding answer ask
 nearest-bytes xs is q h =
-    let g = nearest-greatest plain plain-lawful xs is q h in
+    let g = nearest-greatest plain xs (kind-names PlainBook xs) is q h in
     let same : nearest (word plain q) (map (word plain) xs) .1 ≡ shared q (getD xs (nearest (word plain q) (map (word plain) xs) .0) []) = g .shares ∙ shared-word plain plain-injective q _ in
     (ap (lit q) same, λ i l. omega (arith, same, g .most i l, shared-word plain plain-injective q (getD xs i [])))

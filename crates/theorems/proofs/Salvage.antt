@@ -18,17 +18,19 @@ use lib.Seq.{take-append-seam}
 use borrow.Author.Tests.{le-leb, leb-true}
 use Rattle.words.specs.Words.{Bytes, begins, both, less, pick, plain, same, shared}
 use Rattle.words.proofs.Lists.{all-at}
-use Rattle.words.proofs.Words.{false≠true, plain-lawful, same-refl}
-use Rattle.format.specs.Marks.{PlainBook, markOf}
+use Rattle.words.proofs.Words.{false≠true, plain-sure, same-refl}
+use Rattle.format.specs.Kinds.{PlainBook, Rows, markOf}
+use Rattle.format.specs.Layout.{Layout}
 use Rattle.format.specs.Book.{book, joined, number, told, trailerSize}
 use Rattle.format.specs.Entries.{blocksFrom, decode, decodeFrom, entry, front}
 use Rattle.format.specs.Example.{exampleBy2, text}
 use Rattle.format.specs.Outcomes.{given, over, refused}
 use Rattle.format.specs.Records.{encode, rising}
 use Rattle.format.specs.Salvage.{Block, Whole, blockCount, bounds, boundsFrom, climbs, fromZero, judgedAlone, mapped, spans, spansFrom}
-use Rattle.format.proofs.Book.{Fits, blocksAt, book-length, book-opened, fits-parts, from-mark, nodes-length, nodesAt, read-field, records}
+use Rattle.format.proofs.Book.{Fits, blocksAt, book-length, book-opened, fits-parts, from-mark, nodesAt, read-field, table-length}
+use Rattle.format.proofs.BookKinds.{kind-layout}
 use Rattle.format.proofs.Entries.{joined-blocks}
-use Rattle.format.proofs.Records.{rising-less, rising-sizes, sound-few}
+use Rattle.format.proofs.Records.{rising-less, rising-sizes, sound-few, sure-symbols}
 use Rattle.format.proofs.Salvage.{Outside, blocks-count, bounds-long, bounds-rise, spans-long, told-same, whole-alone}
 use Rattle.streams.proofs.Laid.{Stood, book-stands, rest-stood, verdicts}
 use Rattle.answers.specs.Salvage.{Salvaged, cardBlocks, recordsIn, reported, salvage, salvageFrom, savedRecords}
@@ -119,32 +121,35 @@ salvage-nodes s t size front back room rows = go (mapped s) (mapped t) refl refl
 -- ---- a sound book
 
 module _ {k : ℕ} {xs : List Bytes} (f : Fits PlainBook k xs) where
+  y : Layout plain Rows (markOf PlainBook)
+  y = kind-layout PlainBook
+
   abbrev B : Bytes
   B = book PlainBook k xs
 
   names : told B 0 ≡ length xs
-  names = read-field PlainBook k xs f 0 (omega arith)
+  names = read-field y k xs f 0 (omega arith)
 
   size : told B 1 ≡ k
-  size = read-field PlainBook k xs f 1 (omega arith)
+  size = read-field y k xs f 1 (omega arith)
 
-  table : told B 2 ≡ blocksAt PlainBook k xs
-  table = read-field PlainBook k xs f 2 (omega arith)
+  table : told B 2 ≡ blocksAt y k xs
+  table = read-field y k xs f 2 (omega arith)
 
-  nodes : told B 3 ≡ nodesAt PlainBook k xs
-  nodes = read-field PlainBook k xs f 3 (omega arith)
+  nodes : told B 3 ≡ nodesAt y k xs
+  nodes = read-field y k xs f 3 (omega arith)
 
-  stood : Stood B k (nodesAt PlainBook k xs) (blocksAt PlainBook k xs) 0 xs
+  stood : Stood B k (nodesAt y k xs) (blocksAt y k xs) 0 xs
   stood =
-      let l = book-length PlainBook k xs in
-      rest-stood B k (blocksAt PlainBook k xs) (nodesAt PlainBook k xs) (f .low) (f .short) (omega (arith, l)) (omega (arith, l)) table xs (blocksAt PlainBook k xs) 0 [] (omega arith) (omega (arith, l)) (book-stands PlainBook k xs f)
+      let l = book-length y k xs in
+      rest-stood B k (blocksAt y k xs) (nodesAt y k xs) (f .low) (f .short) (omega (arith, l)) (omega (arith, l)) table xs (blocksAt y k xs) 0 [] (omega arith) (omega (arith, l)) (book-stands y k xs f)
 
   -- as many bounds as the trailer's numbers say
   count : stood .more ≡ blockCount (told B 0) (told B 1)
   count =
       let all : length (verdicts (spansFrom B k (length xs) (0 ∷ stood .others))) ≡ length (blocksFrom k 0 xs) = ap length (stood .whole) ∙ length-map (blocksFrom k 0 xs) Whole in
       let spans-are : length (verdicts (spansFrom B k (length xs) (0 ∷ stood .others))) ≡ length (0 ∷ stood .others) - 1 = length-map (spansFrom B k (length xs) (0 ∷ stood .others)) _ ∙ spans-long B k (length xs) (0 ∷ stood .others) in
-      let long : length (0 ∷ stood .others) ≡ suc (stood .more) = sym (ap length (stood .are)) ∙ bounds-long B (blocksAt PlainBook k xs) (stood .more) in
+      let long : length (0 ∷ stood .others) ≡ suc (stood .more) = sym (ap length (stood .are)) ∙ bounds-long B (blocksAt y k xs) (stood .more) in
       let same : stood .more ≡ length (blocksFrom k 0 xs) = omega (arith, all, spans-are, long) in
       same ∙ blocks-count k (f .low) xs ∙ sym (ap₂ blockCount names size)
 
@@ -153,15 +158,15 @@ module _ {k : ℕ} {xs : List Bytes} (f : Fits PlainBook k xs) where
 
   pub book-mapped : mapped B ≡ true
   book-mapped =
-      let l = book-length PlainBook k xs in
+      let l = book-length y k xs in
       parts-mapped B (record {
         sized = omega (arith, l);
         few = omega (arith, names, sound-few plain xs (f .sound));
         block = ap₂ both (le-leb 1 (told B 1) (omega (arith, size, f .low))) (le-leb (told B 1) 64 (omega (arith, size, f .high)));
         table = omega (arith, table, nodes, count, stood .ends);
-        nodes = omega (arith, nodes, read-field PlainBook k xs f 4 (omega arith), l, nodes-length (records PlainBook k xs));
-        long = read-field PlainBook k xs f 5 (omega arith) ∙ sym l;
-        marked = rw (from-mark PlainBook k xs) (same-refl (markOf PlainBook));
+        nodes = omega (arith, nodes, read-field y k xs f 4 (omega arith), l, table-length Rows plain xs);
+        long = read-field y k xs f 5 (omega arith) ∙ sym l;
+        marked = rw (from-mark y k xs) (same-refl (markOf PlainBook));
         starts = ap fromZero bounds-are ∙ ap (both true) (stood .climb);
       })
 
@@ -172,7 +177,7 @@ pub salvage-whole : (s : Bytes) (k : ℕ) (xs : List Bytes) → BookOf PlainBook
     → salvage s room rows ≡ record { answer = given (length (encode xs)) 0; room = over (encode xs) room; rows = map (λ (b : List Bytes). (1, length b)) (blocksFrom k 0 xs) }
 salvage-whole s k xs b room rows n h =
     let o = book-opened PlainBook s k xs (accepted-iff PlainBook s k xs .1 b .1) in
-    let f = fits-parts PlainBook k xs (o .0) in
+    let f = fits-parts k xs (o .0) in
     let blocks = book-blocks f in
     let list : savedRecords (cardBlocks (book PlainBook k xs)) ≡ encode xs = ap savedRecords blocks ∙ saved-whole (blocksFrom k 0 xs) ∙ ap encode (joined-blocks k xs (f .low)) in
     let many : length rows ≡ length (cardBlocks (book PlainBook k xs)) = n ∙ sym (ap length blocks ∙ length-map (blocksFrom k 0 xs) Whole ∙ blocks-count k (f .low) xs) in
@@ -197,7 +202,7 @@ salvage-faithful s room rows z =
     alone : (i : ℕ) (xs : List Bytes) → judgedAlone (getD (spans s) i (0, []) .0) (getD (spans s) i (0, []) .1) ≡ Whole xs → Proper (getD (spans s) i (0, []) .0) (getD (spans s) i (0, []) .1) xs
     alone i xs e =
         let a = whole-alone _ _ xs e in
-        record { count = a .count; sizes = all-at [] xs (rising-sizes plain [] xs (a .rises)); rises = rising-less plain plain-lawful xs (a .rises); entries = a .entries }
+        record { count = a .count; sizes = all-at [] xs (rising-sizes plain [] xs (a .rises)); rises = rising-less plain xs (sure-symbols plain plain-sure xs) (a .rises); entries = a .entries }
 
 -- ---- two results that the statement allows
 

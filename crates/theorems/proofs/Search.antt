@@ -17,13 +17,12 @@ use mathlib.Core.Bool.{true}
 use mathlib.Core.List.{List, map}
 use lib.ListN.{length, length-map}
 use Rattle.words.specs.Rising.{Rises, nth}
-use Rattle.words.specs.Words.{Bytes, InBytes, Lawful, Rule, Words, at, begins, shared, word}
-use Rattle.words.proofs.Words.{word-positive}
-use Rattle.format.specs.Marks.{BookKind, ruleOf}
+use Rattle.words.specs.Words.{Bytes, InBytes, Rule, Words, at, begins, shared, word}
+use Rattle.format.specs.Kinds.{BookKind, ruleOf}
 use Rattle.format.specs.Book.{Book, opened, told}
 use Rattle.format.specs.Records.{sound}
-use Rattle.format.proofs.Marks.{kind-lawful}
-use Rattle.format.proofs.Records.{sound-rises, word-short}
+use Rattle.format.proofs.BookKinds.{full-rows}
+use Rattle.format.proofs.Records.{sound-rising, symbols-rises, word-short}
 use Rattle.answers.specs.Questions.{Pair, count, exact, place, range, reached}
 use Rattle.answers.proofs.Nearest.{reached-most, reached-within}
 use Rattle.descent.proofs.Bytes.{opened-searchable}
@@ -32,8 +31,10 @@ use Rattle.descent.proofs.Exists.{WholeWay, descent-exists}
 use Rattle.descent.proofs.Paths.{edge-after, edge-before, fork-child, fork-end, found, only-reached, reached-is}
 use Rattle.standing.specs.Maps.{rowsAt}
 use Rattle.descent.specs.Vocabulary.{Descended, Found, Highest, Searchable, Sought, from, node, upto}
+use Rattle.theorems.specs.Layouts.{AllLettered, Lettered}
+use Rattle.theorems.proofs.Lettered.{lettered-positive, names-symbols}
 
-module _ (ρ : Rule) (ok : Lawful ρ) (xs : List Bytes) (is : sound ρ xs ≡ true) (question : Bytes) where
+module _ (ρ : Rule) (xs : List Bytes) (letters : AllLettered ρ xs) (is : sound ρ xs ≡ true) (question : Bytes) where
   abbrev pub ws : Words
   ws = map (word ρ) xs
 
@@ -41,7 +42,7 @@ module _ (ρ : Rule) (ok : Lawful ρ) (xs : List Bytes) (is : sound ρ xs ≡ tr
   q = word ρ question
 
   pub r : Rises (map (word ρ) xs)
-  r = sound-rises ρ ok xs is
+  r = symbols-rises ρ xs (names-symbols ρ xs letters) (sound-rising ρ xs is)
 
   pub search-descends : 0 < length xs → WholeWay ws r q (word-short ρ xs is)
   search-descends h = descent-exists ws r q (word-short ρ xs is) (omega (arith, length-map xs (word ρ)))
@@ -54,12 +55,12 @@ module _ (ρ : Rule) (ok : Lawful ρ) (xs : List Bytes) (is : sound ρ xs ≡ tr
     pub search-finds : {u : ℕ} → Highest ws p n (shared q (nth ws (reached q ws))) u → Found ws q (shared q (nth ws (reached q ws))) u
     search-finds h = found ws r t refl h
 
-    pub search-not-exact : (nth ws (reached q ws) ≡ q → ⊥) → exact q ws ≡ (0, 0)
-    search-not-exact n =
-        exact-nowhere ws q r (word-positive ρ ok question) (λ i h e. n (ap (nth ws) (sym (only-reached ws r t i h e)) ∙ e))
+    pub search-not-exact : Lettered ρ question → (nth ws (reached q ws) ≡ q → ⊥) → exact q ws ≡ (0, 0)
+    search-not-exact own n =
+        exact-nowhere ws q r (lettered-positive ρ question own) (λ i h e. n (ap (nth ws) (sym (only-reached ws r t i h e)) ∙ e))
 
-  pub search-exact : 0 < length xs → nth ws (reached q ws) ≡ q → exact q ws ≡ (reached q ws, 1)
-  search-exact h e = exact-here ws q r (word-positive ρ ok question) (reached q ws) (reached-within q ws r (omega (arith, length-map xs (word ρ)))) e
+  pub search-exact : Lettered ρ question → 0 < length xs → nth ws (reached q ws) ≡ q → exact q ws ≡ (reached q ws, 1)
+  search-exact own h e = exact-here ws q r (lettered-positive ρ question own) (reached q ws) (reached-within q ws r (omega (arith, length-map xs (word ρ)))) e
 
   module _ {m u : ℕ} (f : Found ws q m u) where
     pub search-before : m < node ws u .depth → at (nth ws (reached q ws)) m < at q m → upto ws u ≡ place q ws
@@ -89,5 +90,5 @@ module _ (ρ : Rule) (ok : Lawful ρ) (xs : List Bytes) (is : sound ρ xs ≡ tr
       let none : count (begins q) ws ≡ 0 = sym (range-none ws q r (shared q (nth ws (reached q ws))) (λ i l. reached-most q ws r i l) h) in
       ap (λ (c : ℕ). (place q ws, c)) none
 
-pub search-book : (κ : BookKind) (s : Bytes) (k : ℕ) (xs : List Bytes) → InBytes s → opened κ s ≡ Book k xs → 0 < length xs → Searchable (ruleOf κ) s (rowsAt (told s 3))
-search-book κ s k xs h e some = opened-searchable κ (kind-lawful κ) s k xs e h some
+pub search-book : (κ : BookKind) (s : Bytes) (k : ℕ) (xs : List Bytes) → InBytes s → opened s ≡ Book κ k xs → 0 < length xs → Searchable (ruleOf κ) s (rowsAt (told s 3))
+search-book κ s k xs h e some = opened-searchable κ (full-rows κ) s k xs e h some

@@ -13,7 +13,7 @@ use mathlib.Core.Bool.{true}
 use mathlib.Core.List.{List, [], _∷_, _++_, map}
 use lib.ListN.{length, getD, length-map}
 use Rattle.words.specs.Rising.{All, Rises, cons, nil}
-use Rattle.words.specs.Words.{Bytes, Lawful, Rule, Words, at, shared, word}
+use Rattle.words.specs.Words.{Bytes, Rule, Words, at, shared, word}
 use Rattle.words.proofs.Lists.{all-head, all-left, all-map, all-right, all-tail}
 use Rattle.words.proofs.Rising.{rises-left, rises-right}
 use Rattle.words.proofs.Words.{shared-le}
@@ -21,9 +21,11 @@ use Rattle.format.specs.Spans.{rowTable, nodeTable}
 use Rattle.format.specs.Nodes.{depth, fork, groups, leaf, table}
 use Rattle.format.specs.Records.{longest, sound}
 use Rattle.format.proofs.Groups.{Parted, Same, Share, children, deeper, depth-length, depth-share, joinedGroups, node-more, node-one, part, row-run, whole}
-use Rattle.format.proofs.Records.{rising-sizes, sound-rises, sound-rising}
+use Rattle.format.proofs.Records.{rising-sizes, sound-rising, symbols-rises}
 use Rattle.format.proofs.Spans.{table-few}
 use Rattle.theorems.specs.Demands.{Climbing, Path, down, nodeDepth, stop}
+use Rattle.theorems.specs.Layouts.{AllLettered}
+use Rattle.theorems.proofs.Lettered.{names-symbols}
 
 -- ---- the equations
 
@@ -42,8 +44,8 @@ table-row i d w g rest r s a = row-run i d w g rest r s a
 
 -- ---- how many
 
-pub nodes-few : (ρ : Rule) → Lawful ρ → (xs : List Bytes) → sound ρ xs ≡ true → 1 ≤ length xs → length (table (map (word ρ) xs)) ≤ 2 * length xs - 1
-nodes-few ρ ok xs h l = omega (arith, table-few (map (word ρ) xs) (sound-rises ρ ok xs h) (omega (arith, length-map xs (word ρ))), length-map xs (word ρ))
+pub nodes-few : (ρ : Rule) (xs : List Bytes) → AllLettered ρ xs → sound ρ xs ≡ true → 1 ≤ length xs → length (table (map (word ρ) xs)) ≤ 2 * length xs - 1
+nodes-few ρ xs a h l = omega (arith, table-few (map (word ρ) xs) (symbols-rises ρ xs (names-symbols ρ xs a) (sound-rising ρ xs h)) (omega (arith, length-map xs (word ρ))), length-map xs (word ρ))
 
 -- ---- paths
 
@@ -117,13 +119,13 @@ tells ws ds r a (down {d = d} {ds = es} e m j l p) =
     on t k zero h = omega (arith, t .head)
     on t k (suc i) h = t .climbs i (le-of-suc-le-suc h)
 
-module _ (ρ : Rule) (ok : Lawful ρ) (xs : List Bytes) (is : sound ρ xs ≡ true) where
+module _ (ρ : Rule) (xs : List Bytes) (letters : AllLettered ρ xs) (is : sound ρ xs ≡ true) where
   word-sizes : (ys : List Bytes) → All (λ x. (1 ≤ length x) × (length x ≤ longest)) ys → All (λ w. length w ≤ longest) (map (word ρ) ys)
   word-sizes [] a = nil
   word-sizes (y ∷ ys) (cons h a) = cons {a = word ρ y} (omega (arith, length-map y ρ, h .1)) (word-sizes ys a)
 
   all-told : (ds : List ℕ) → Path (map (word ρ) xs) ds → Tells (map (word ρ) xs) ds
-  all-told ds p = tells (map (word ρ) xs) ds (sound-rises ρ ok xs is) (word-sizes xs (rising-sizes ρ [] xs (sound-rising ρ xs is))) p
+  all-told ds p = tells (map (word ρ) xs) ds (symbols-rises ρ xs (names-symbols ρ xs letters) (sound-rising ρ xs is)) (word-sizes xs (rising-sizes ρ [] xs (sound-rising ρ xs is))) p
 
   pub path-rises : (ds : List ℕ) → Path (map (word ρ) xs) ds → Climbing ds
   path-rises ds p = all-told ds p .climbs

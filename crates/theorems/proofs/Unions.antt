@@ -21,7 +21,7 @@ use lib.Seq.{take-append-seam}
 use denote.Ref.{RefT}
 use borrow.Author.Tests.{leb-true}
 use Rattle.words.specs.Words.{Bytes, begins, less, plain, same, shared}
-use Rattle.words.proofs.Words.{plain-injective, plain-lawful, word-injective}
+use Rattle.words.proofs.Words.{plain-injective, plain-sure, word-injective}
 use Rattle.format.specs.Alone.{Reads}
 use Rattle.format.specs.Distinct.{distinct}
 use Rattle.format.specs.Example.{text}
@@ -64,10 +64,10 @@ module _ (s t : Bytes) (xs ys : List Bytes) (p : readList plain (length s) s ≡
 
   pub merge-commutes : (room : Bytes) → mergeLists s t room ≡ mergeLists t s room
   merge-commutes room =
-      merge-read a b room ∙ ap (putNames room) (merged-commutes plain plain-lawful (word-injective plain plain-injective) xs ys (names-rise a) (names-rise b)) ∙ sym (merge-read b a room)
+      merge-read a b room ∙ ap (putNames room) (merged-commutes plain plain-sure (word-injective plain plain-injective) xs ys (names-rise a) (names-rise b)) ∙ sym (merge-read b a room)
 
   few-names : length (distinct (xs ++ ys)) ≤ mostNames → length (merged plain xs ys) ≤ mostNames
-  few-names few = omega (arith, union-few plain plain-lawful xs ys (names-rise a) (names-rise b) (xs ++ ys) (front xs ys) (back xs ys))
+  few-names few = omega (arith, union-few plain plain-sure xs ys (names-rise a) (names-rise b) (xs ++ ys) (front xs ys) (back xs ys))
 
   pub merge-either : (room : Bytes) → length (distinct (xs ++ ys)) ≤ mostNames → length (encode (merged plain xs ys)) ≤ length room
       → (mergeLists s t room .answer .code ≡ 0) × (wrote (mergeLists s t room) ≡ wrote (mergeLists t s room))
@@ -81,7 +81,7 @@ module _ (s t : Bytes) (xs ys : List Bytes) (p : readList plain (length s) s ≡
 
 -- names that are few together with others are few by themselves
 pub fewer-together : (s : Bytes) (xs ys : List Bytes) → readList plain (length s) s ≡ Names xs → length (distinct (xs ++ ys)) ≤ mostNames → length xs ≤ mostNames
-fewer-together s xs ys p few = let a : Reads s xs = record { names = p } in omega (arith, rising-few plain plain-lawful xs (names-rise a) (xs ++ ys) (front xs ys))
+fewer-together s xs ys p few = let a : Reads s xs = record { names = p } in omega (arith, rising-few plain plain-sure xs (names-rise a) (xs ++ ys) (front xs ys))
 
 -- ---- one list
 
@@ -89,8 +89,8 @@ pub merge-itself : (s : Bytes) (xs : List Bytes) (room : Bytes) → readList pla
     → mergeLists s s room ≡ record { answer = given (length s) 0; room = over s room }
 merge-itself s xs room p few fits =
     let a : Reads s xs = record { names = p } in
-    let self : merged plain xs xs ≡ xs = merged-self plain plain-lawful xs (names-rise a) in
-    let names : length (merged plain xs xs) ≤ mostNames = omega (arith, ap length self, rising-few plain plain-lawful xs (names-rise a) xs (λ z m. m)) in
+    let self : merged plain xs xs ≡ xs = merged-self plain plain-sure xs (names-rise a) in
+    let names : length (merged plain xs xs) ≤ mostNames = omega (arith, ap length self, rising-few plain plain-sure xs (names-rise a) xs (λ z m. m)) in
     let all : encode (merged plain xs xs) ≡ s = ap encode self ∙ bytes a in
     merge-read a a room ∙ all-put room (merged plain xs xs) names (omega (arith, ap length all)) ∙ ap (λ (l : Bytes). record { answer = given (length l) 0; room = over l room }) all
 
@@ -125,21 +125,21 @@ module _ (s t u : Bytes) (xs ys zs : List Bytes) (p : readList plain (length s) 
     accepted = ap (λ (l : Bytes). mergeLists l u room .answer .code) wrote-left ∙ ap (λ (w : Written). w .answer .code) (merge-read (sound-list (merged plain xs ys) (union-rises first-sound second-sound)) third-sound room ∙ all-put room (merged plain (merged plain xs ys) zs) all-few fits);
     same =
         ap (λ (l : Bytes). mergeLists l u room) wrote-left ∙ merge-read (sound-list (merged plain xs ys) (union-rises first-sound second-sound)) third-sound room
-        ∙ ap (putNames room) (merged-associates plain plain-lawful (word-injective plain plain-injective) xs ys zs (names-rise first-sound) (names-rise second-sound) (names-rise third-sound))
+        ∙ ap (putNames room) (merged-associates plain plain-sure (word-injective plain plain-injective) xs ys zs (names-rise first-sound) (names-rise second-sound) (names-rise third-sound))
         ∙ sym (merge-read first-sound (sound-list (merged plain ys zs) (union-rises second-sound third-sound)) room) ∙ ap (λ (l : Bytes). mergeLists s l room) (sym wrote-right);
   }
     where
       all-few : length (merged plain (merged plain xs ys) zs) ≤ mostNames
-      all-few = omega (arith, union-few plain plain-lawful (merged plain xs ys) zs (union-rises first-sound second-sound) (names-rise third-sound) (xs ++ (ys ++ zs)) in-either in-third)
+      all-few = omega (arith, union-few plain plain-sure (merged plain xs ys) zs (union-rises first-sound second-sound) (names-rise third-sound) (xs ++ (ys ++ zs)) in-either in-third)
         where
           in-either : (z : Bytes) → Among z (merged plain xs ys) → Among z (xs ++ (ys ++ zs))
           in-either z m = ⊎-elim (in-first z) (in-second z) (among-either plain xs ys m)
 
       left-few : length (merged plain xs ys) ≤ mostNames
-      left-few = omega (arith, union-few plain plain-lawful xs ys (names-rise first-sound) (names-rise second-sound) (xs ++ (ys ++ zs)) in-first in-second)
+      left-few = omega (arith, union-few plain plain-sure xs ys (names-rise first-sound) (names-rise second-sound) (xs ++ (ys ++ zs)) in-first in-second)
 
       right-few : length (merged plain ys zs) ≤ mostNames
-      right-few = omega (arith, union-few plain plain-lawful ys zs (names-rise second-sound) (names-rise third-sound) (xs ++ (ys ++ zs)) in-second in-third)
+      right-few = omega (arith, union-few plain plain-sure ys zs (names-rise second-sound) (names-rise third-sound) (xs ++ (ys ++ zs)) in-second in-third)
 
       one-way : mergeLists s t left ≡ record { answer = given (length (encode (merged plain xs ys))) 0; room = over (encode (merged plain xs ys)) left }
       one-way = merge-read first-sound second-sound left ∙ all-put left (merged plain xs ys) left-few fits-left

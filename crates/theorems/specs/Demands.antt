@@ -9,32 +9,27 @@ use mathlib.Core.Bool.{Bool, false, true}
 use mathlib.Core.List.{List, [], _∷_}
 use lib.Dec.{eqb, ltb}
 use lib.ListN.{length, getD, take, drop}
-use Rattle.words.specs.Words.{Bytes, Words, Rule, InBytes, pick, word, less, shared}
-use Rattle.format.specs.Marks.{BookKind, kindOf, ruleOf}
-use Rattle.format.specs.Records.{encode, longest, mostNames}
+use Rattle.words.specs.Words.{Bytes, Words, Rule, pick, word, shared}
+use Rattle.format.specs.Kinds.{BookKind, formOf, markOf, ruleOf}
+use Rattle.format.specs.Records.{encode}
 use Rattle.format.specs.Nodes.{depth, groups}
-use Rattle.format.specs.Book.{longestBook, book}
+use Rattle.format.specs.Book.{book}
 use Rattle.format.specs.Outcomes.{Answer, Written, given, over, refused}
 use Rattle.answers.specs.Questions.{Pair}
 use Rattle.answers.specs.Calls.{Batched, Row, check, readBack}
+use Rattle.theorems.specs.Layouts.{BookBy}
 
-pub record BookOf (κ : BookKind) (s : Bytes) (k : ℕ) (xs : List Bytes) : Type 0 where
-  pub block : (1 ≤ k) × (k ≤ 64)
-  pub few : length xs ≤ mostNames
-  pub sizes : (i : ℕ) → i < length xs → (1 ≤ length (getD xs i [])) × (length (getD xs i []) ≤ longest)
-  pub letters : (i : ℕ) → i < length xs → InBytes (getD xs i [])
-  pub rises : (i j : ℕ) → i < j → j < length xs → less (word (ruleOf κ) (getD xs i [])) (word (ruleOf κ) (getD xs j [])) ≡ true
-  pub layout : book κ k xs ≡ s
-  pub short : length s ≤ longestBook
+abbrev pub BookOf : BookKind → Bytes → ℕ → List Bytes → Type 0
+BookOf κ s k xs = BookBy (ruleOf κ) (formOf κ) (markOf κ) s k xs
 
 -- w is what the build left; the bytes that its answer counts are checked and read back by their own mark, each name into any room that holds it
 pub record RoundTrip (κ : BookKind) (list : Bytes) (k : ℕ) (room : Bytes) (w : Written) : Type 0 where
   pub names : List Bytes
   pub listed : encode names ≡ list
   pub wrote : w ≡ record { answer = given (length (book κ k names)) 0; room = over (book κ k names) room }
-  pub checked : let s = take (w .answer .first) (w .room) in check (kindOf s) s ≡ given (length names) k
+  pub checked : let s = take (w .answer .first) (w .room) in check s ≡ given (length names) k
   pub reads : (i : ℕ) (lent : Bytes) → i < length names → length (getD names i []) ≤ length lent
-      → let s = take (w .answer .first) (w .room) in readBack (kindOf s) s i lent ≡ record { answer = given (length (getD names i [])) 0; room = over (getD names i []) lent }
+      → let s = take (w .answer .first) (w .room) in readBack s i lent ≡ record { answer = given (length (getD names i [])) 0; room = over (getD names i []) lent }
 
 -- by the first byte in which two names differ; a name comes before its own extensions
 unfoldable pub comesBefore : Bytes → Bytes → Bool

@@ -10,7 +10,8 @@ use mathlib.Core.List.{List, [], _∷_, _++_}
 use lib.ListN.{getD}
 use Rattle.words.specs.Words.{Bytes}
 use Rattle.format.specs.Example.{text}
-use Rattle.format.specs.Marks.{BookKind, FoldedBook, PlainBook, capital}
+use Rattle.format.specs.Folded.{capital}
+use Rattle.format.specs.Kinds.{BookKind, FoldedBook, PlainBook}
 
 abbrev pub foldedNames : List Bytes
 foldedNames = text "MAR" ∷ text "marina" ∷ []

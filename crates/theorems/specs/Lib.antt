@@ -1,3 +1,4 @@
+pub mod Layouts
 pub mod Demands
 pub mod Widths
 pub mod Unions

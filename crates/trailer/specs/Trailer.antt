@@ -11,7 +11,7 @@ use Rattle.words.specs.Words.{Bytes}
 use Rattle.format.specs.Book.{longestBook, told, trailerSize}
 use Rattle.format.specs.Nodes.{nodeSize}
 use Rattle.format.specs.Records.{mostNames}
-use Rattle.format.specs.Marks.{BookKind, FoldedBook, PlainBook, kindOf}
+use Rattle.format.specs.Kinds.{BookKind, FoldedBook, PlainBook, kindOf}
 use Rattle.symbols.specs.Rules.{byKind}
 use Rattle.trailer.specs.declared.Trailer.{Trailer}
 

@@ -4,7 +4,7 @@ ghost use mathlib.Core.Path.{_≡_};
 ghost use Prim.Native.Nat.{_<_, _≤_};
 ghost use lib.ListN.{length};
 ghost use Rattle.format.specs.Book.{told, trailer, trailerSize};
-ghost use Rattle.format.specs.Marks.{kindOf};
+ghost use Rattle.format.specs.Kinds.{kindOf, markOf};
 ghost use Rattle.symbols.specs.Rules.{byKind, kindBy};
 ghost use Rattle.trailer.specs.Trailer.{TrailSays, markBack, trailerIn};
 use symbols::Rule;
@@ -159,7 +159,7 @@ pub fn put_trailer(
     rule: Rule,
 )
     requires { ⌜ length (now part) ≡ trailerSize ⌝ }
-    ensures { λ _. ⌜ now (part .exit) ≡ trailer (kindBy rule) names block blocks nodes count total ⌝ }
+    ensures { λ _. ⌜ now (part .exit) ≡ trailer (markOf (kindBy rule)) names block blocks nodes count total ⌝ }
 {
     let back = mark_back(rule);
     let fields = [names, block, blocks, nodes, count, total, FRONT, back];

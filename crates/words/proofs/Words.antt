@@ -1,7 +1,7 @@
 -- Laws of words: what two words share, and their order. They hold of any lists of numbers, and where `Positive` is asked, of those
 -- without the end symbol in them, as every rule's words are.
 --     sides, apart              how two numbers stand to each other
---     word-positive, shared-word, shared-word-le, word-front, word-injective; plain-lawful, plain-injective
+--     word-positive, letters-positive, sure-lawful, shared-word, shared-word-le, word-front, word-injective; plain-sure, plain-injective
 --     shared-self, -comm, -le, -at, -trans, -more, -parts, -append, -front, -two; take-shared
 --     word-at                   a byte's symbol
 --     at-past, at-end           past the last symbol stands the end symbol, and nowhere else
@@ -21,7 +21,7 @@ use mathlib.Core.List.{List, [], _∷_, _++_}
 use lib.Dec.{ltb, eqb}
 use lib.ListN.{drop, getD, length, take}
 use borrow.Author.Tests.{ltb-true, eqb-true, lt-ltb, le-ltb, eq-eqb, ne-eqb}
-use Rattle.words.specs.Rising.{Positive}
+use Rattle.words.specs.Rising.{All, Positive, Sure, cons, nil}
 use Rattle.words.specs.Words.{Bytes, Lawful, Rule, at, begins, both, less, plain, same, shared, word}
 
 -- the three ways that two numbers stand to each other
@@ -38,12 +38,20 @@ apart i j = elim (decLt i j) [ yes h ↦ inl h | no n ↦ inr (omega arith) ]
 
 -- ---- symbols
 
-pub word-positive : (ρ : Rule) → Lawful ρ → (s : Bytes) → Positive (word ρ s)
+pub word-positive : (ρ : Rule) → Sure ρ → (s : Bytes) → Positive (word ρ s)
 word-positive ρ h [] = tt
 word-positive ρ h (b ∷ s) = (h .low b, word-positive ρ h s)
 
-pub plain-lawful : Lawful plain
-plain-lawful = record { low = λ b. omega arith; high = λ b h. h }
+-- of bytes, by a lawful rule
+pub letters-positive : (ρ : Rule) → Lawful ρ → (s : Bytes) → All (λ b. b < 256) s → Positive (word ρ s)
+letters-positive ρ h [] nil = tt
+letters-positive ρ h (b ∷ s) (cons l a) = (h .low b l, letters-positive ρ h s a)
+
+pub sure-lawful : {ρ : Rule} → Sure ρ → Lawful ρ
+sure-lawful h = record { low = λ b l. h .low b; high = h .high }
+
+pub plain-sure : Sure plain
+plain-sure = record { low = λ b. omega arith; high = λ b h. h }
 
 -- ---- the clauses of `shared` and `less`
 

@@ -32,7 +32,7 @@ abbrev pub Rule : Type 0
 Rule = ℕ → ℕ
 
 pub record Lawful (ρ : Rule) : Type 0 where
-  pub low : (b : ℕ) → 0 < ρ b
+  pub low : (b : ℕ) → b < 256 → 0 < ρ b
   pub high : (b : ℕ) → b < 256 → ρ b ≤ 256
 
 -- the symbol of b is b + 1

@@ -54,7 +54,6 @@ use denote.Triple.Statement.{Contract, Triple}
 use denote.Triple.Table.{entered, cited}
 use denote.Triple.Walked.{says, Stays, stay-dropped, stay-slice, walkOf, goes-dropped, goes-slice, Walks, ends-at, walked, walk-meets}
 use denote.Exit.{yes}
-use Rattle.format.specs.Marks.{kindOf, ruleIn}
 use Rattle.format.specs.Book.{opened}
 use Rattle.answers.specs.Calls.{batch, rowAnswer}
 use Rattle.shapes.specs.Shapes.{answered, rowOf, batched}
@@ -177,7 +176,7 @@ module _ {M : Type 1} (𝓤 : URA M) (H : Heap 𝓤) (A : Atoms 𝓤) (W : Given
   Obs l = fobs aγ (codedHoleys P.the-row .code (heres P.the-row l))
 
   exits : Is P.the-row (start .answer) (P′.lowered (start .answer) ∷ []) → (l : List Answer) → length l ≡ length old
-      → batched (start .answer) l ≡ batch (kindOf (now book)) (now book) (now qs) (map rowOf rs) (map answered old)
+      → batched (start .answer) l ≡ batch (now book) (now qs) (map rowOf rs) (map answered old)
       → ent 𝓤 (⋆ 𝓤 H A (‵ (Obs l) ∷ ‵ (fbor κa (Held P.the-row (length l) ab ao aγ)) ∷ ‵ (flft κa qa) ∷ ‵ (flft κr qr) ∷ ‵ (flft κb qb) ∷ ‵ (flft κq qq) ∷ [])) (Post (P′.lowered (start .answer)))
   exits is l len e =
       qed W (‵ (Obs l) ∷ ‵ (fbor κa (Held P.the-row (length l) ab ao aγ)) ∷ ‵ (flft κa qa) ∷ ‵ (flft κr qr) ∷ ‵ (flft κb qb) ∷ ‵ (flft κq qq) ∷ []) ∵
@@ -224,7 +223,7 @@ module _ {M : Type 1} (𝓤 : URA M) (H : Heap 𝓤) (A : Atoms 𝓤) (W : Given
       known = qed W (raw (onEntry 𝓤 H A answers.signature (κb, (κq, tt)) (qb, (qq, tt)) (book, (start, (qs, (d, tt)))) (vb ∷ [], (O′.lowered start ∷ [], (vq ∷ [], (R′.lowered d ∷ [], tt))))) ∷ []) ∵ says ! accepted $ done !
 
   abbrev Said : Row → Answer → Type 0
-  Said d r = answered r ≡ rowAnswer (ruleIn (now book)) (opened (kindOf (now book)) (now book)) (now qs) (rowOf d)
+  Said d r = answered r ≡ rowAnswer (opened (now book)) (now qs) (rowOf d)
 
   said-answer : (d : Row) (r : Answer) → ent 𝓤 (ensured 𝓤 H A answers.ended (answers.clauses 𝓤 H A mem run) (κb, (κq, tt)) (book, (start, (qs, (d, tt)))) tt r) (fact 𝓤 (Said d r))
   said-answer d r = exE 𝓤 _ (λ ws. snd∗ 𝓤 (sem 𝓤 H A (lasts answers.ended (κb, (κq, tt)) (book, (start, (qs, (d, tt)))) ws)) (fact 𝓤 (Said d r)))

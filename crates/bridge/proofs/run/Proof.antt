@@ -51,7 +51,6 @@ use denote.Triple.Statement.{Contract, Triple}
 use denote.Triple.Table.{entered, cited}
 use denote.Triple.Walked.{says, needs, Stays, stay-dropped, walkOf, goes-dropped, Walks, ends-at, walked, walk-meets}
 use denote.Exit.{yes}
-use Rattle.format.specs.Marks.{kindOf}
 use Rattle.answers.specs.Calls.{Batched, batch}
 use Rattle.shapes.specs.Shapes.{answered, rowOf, batched}
 use Rattle.shapes.specs.declared.Answer.{Answer}
@@ -140,7 +139,7 @@ module _ {M : Type 1} (𝓤 : URA M) (H : Heap 𝓤) (A : Atoms 𝓤) (W : Given
 
   -- what the call gives
   abbrev outcome : Batched
-  outcome = batch (kindOf (now book)) (now book) (now qs) (map rowOf xs₀) (map answered ys₀)
+  outcome = batch (now book) (now qs) (map rowOf xs₀) (map answered ys₀)
 
   -- ---- what comes back: the answer, and the lent answers as they are then
   module _ (given : Answer) (zs : List Answer) where

@@ -3,17 +3,18 @@
 use native.Mathlib.Omega.{arith}
 use mathlib.Core.Path.{refl}
 use borrow.Author.Needs.{needs}
+use Rattle.symbols.specs.Rules.{kindBy}
 use Rattle.build.proofs.Building.{build-bad, build-high, build-low, build-refused, build-written, judged-asks}
 use Rattle.build.proofs.build_list.Statement.{statement}
 use Rattle.build.proofs.build_list.Tie as tie
 
 returns-2 : tie.Need-returns-2
-returns-2 c = build-high _ _ _ _ _ (c .refuse2 .ensures) (omega arith)
+returns-2 c = build-high (kindBy (c .before .before .before .before .before .args .rule)) _ _ _ _ (c .refuse2 .ensures) (omega arith)
 
 -- the bad record's code and number
 returns-3 : tie.Need-returns-3
 returns-3 c =
-    build-bad _ _ _ _ (λ none. omega arith) (omega arith) _ _ _ (c .refuse3 .ensures) (c .before .before .before .before .before .before .before .judge .ensures) refl (c .before .before .verdict .given .1)
+    build-bad (kindBy (c .before .before .before .before .before .before .before .before .before .before .before .before .before .before .before .args .rule)) _ _ _ (λ none. omega arith) (omega arith) _ _ _ (c .refuse3 .ensures) (c .before .before .before .before .before .before .before .judge .ensures) refl (c .before .before .verdict .given .1)
 
 pub build-list-spec : {M : Type 1} → statement M
 build-list-spec =

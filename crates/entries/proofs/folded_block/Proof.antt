@@ -3,7 +3,7 @@
 use native.Mathlib.Omega.{arith}
 use mathlib.Core.Path.{sym}
 use borrow.Author.Needs.{needs}
-use Rattle.format.specs.Marks.{folded}
+use Rattle.format.specs.Folded.{folded}
 use Rattle.entries.proofs.Reading.{BlockRead, held-start, held-bad, held-entry, held-more, held-apart, held-done}
 use Rattle.entries.proofs.folded_block.Statement.{statement}
 use Rattle.entries.proofs.folded_block.Tie as tie

@@ -4,7 +4,7 @@ use native.Mathlib.Omega.{arith}
 use Rattle.entries.proofs.Reading.{Fitting, entry-same, entry-whole, judged-folded, judged-plain}
 use borrow.Author.Needs.{needs}
 use Rattle.symbols.specs.Rules.{ruleBy}
-use Rattle.symbols.proofs.Symbols.{rule-lawful}
+use Rattle.symbols.proofs.Symbols.{rule-sure}
 use Rattle.entries.proofs.is_entry.Statement.{statement}
 use Rattle.entries.proofs.is_entry.Tie as tie
 
@@ -16,7 +16,7 @@ fitting c = record { fits = omega arith; within = omega arith; some = omega arit
 returns-7 : tie.Need-returns-7
 returns-7 c =
     let a = c .before .before .before .before .before .before .before .before .before .before .before .before .before .args in
-    entry-whole (ruleBy (a .rule)) (a .book .now) (a .prev .now) (a .at) (a .end) (fitting (c .before)) (rule-lawful (a .rule)) (omega arith)
+    entry-whole (ruleBy (a .rule)) (a .book .now) (a .prev .now) (a .at) (a .end) (fitting (c .before)) (rule-sure (a .rule)) (omega arith)
 
 -- the last test by the plain rule
 returns-9 : tie.Need-returns-9

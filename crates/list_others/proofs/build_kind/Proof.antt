@@ -1,7 +1,7 @@
 -- `list_others::build_kind` meets its contract, by `build-within`.
 -- Assumes nothing.
 use borrow.Author.Needs.{needs}
-use Rattle.format.specs.Marks.{FoldedBook, PlainBook}
+use Rattle.format.specs.Kinds.{FoldedBook, PlainBook}
 use Rattle.answers.proofs.Calls.{build-within}
 use Rattle.list_others.proofs.build_kind.Statement.{statement}
 use Rattle.list_others.proofs.build_kind.Tie as tie

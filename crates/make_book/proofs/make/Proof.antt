@@ -3,7 +3,7 @@
 use mathlib.Core.Path.{sym}
 use lib.Seq.{length-take-le}
 use borrow.Author.Needs.{needs}
-use Rattle.format.specs.Marks.{PlainBook}
+use Rattle.format.specs.Kinds.{PlainBook}
 use Rattle.answers.proofs.Calls.{build-within}
 use Rattle.make_book.proofs.make.Statement.{statement}
 use Rattle.make_book.proofs.make.Tie as tie

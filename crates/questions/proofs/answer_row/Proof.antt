@@ -5,7 +5,6 @@ use native.Mathlib.Omega.{arith}
 use mathlib.Core.Path.{_≡_}
 use lib.ListN.{drop, take}
 use borrow.Author.Needs.{needs}
-use Rattle.format.specs.Marks.{kindOf}
 use Rattle.answers.specs.Calls.{question}
 use Rattle.shapes.specs.Shapes.{answered, rowOf}
 use Rattle.questions.proofs.Rows.{row-answered, row-refused}
@@ -14,7 +13,7 @@ use Rattle.questions.proofs.answer_row.Tie as tie
 
 -- the row's own bytes were asked for
 asked : (c : tie.After-ask) → let a = c .before .before .before .before .before .before .before .before .before .before .before .before .before .before .args in
-    answered (c .ask .result) ≡ question (kindOf (a .book .now)) (a .row .kind) (a .book .now) (take (a .row .start + a .row .length - a .row .start) (drop (a .row .start) (a .questions .now)))
+    answered (c .ask .result) ≡ question (a .row .kind) (a .book .now) (take (a .row .start + a .row .length - a .row .start) (drop (a .row .start) (a .questions .now)))
 asked c = c .ask .ensures
 
 pub answer-row-spec : {M : Type 1} → statement M

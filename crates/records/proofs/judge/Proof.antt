@@ -7,7 +7,7 @@ use borrow.Author.Count.{falls}
 use borrow.Author.Needs.{needs}
 use lib.ListN.{length}
 use Rattle.symbols.specs.Rules.{ruleBy}
-use Rattle.symbols.proofs.Symbols.{rule-lawful}
+use Rattle.symbols.proofs.Symbols.{rule-sure}
 use Rattle.records.proofs.Reading as law
 use Rattle.records.proofs.judge.Statement.{statement}
 use Rattle.records.proofs.judge.Tie as tie
@@ -56,7 +56,7 @@ judge-spec =
     μ-bytes
     Inv-records
     μ-records
-    (λ c. search (law.reads-start, rule-lawful (c .before .before .before .before .args .rule)))
+    (λ c. search (law.reads-start, rule-sure (c .before .before .before .before .args .rule)))
     (λ c. omega arith)
     (λ c κs. search needs)
     (λ c. omega arith)

@@ -4,7 +4,7 @@
 use Prim.Native.Nat.{_-_}
 use native.Mathlib.Omega.{arith}
 use borrow.Author.Needs.{needs}
-use Rattle.format.specs.Marks.{ruleIn}
+use Rattle.format.specs.Kinds.{ruleIn}
 use Rattle.format.specs.Spans.{wordsOf}
 use Rattle.descent.specs.Vocabulary.{Seeking}
 use Rattle.descent.proofs.Rows.{seek-end, seek-found, seek-more, seek-start}

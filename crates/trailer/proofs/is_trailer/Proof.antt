@@ -5,7 +5,7 @@ use native.Mathlib.Omega.{arith}
 use borrow.Author.Needs.{needs}
 use mathlib.Core.Path.{_≡_}
 use Rattle.format.specs.Book.{told}
-use Rattle.format.specs.Marks.{FoldedBook, PlainBook, kindOf}
+use Rattle.format.specs.Kinds.{FoldedBook, PlainBook, kindOf}
 use Rattle.trailer.specs.Trailer.{Trail, markBack}
 use Rattle.trailer.proofs.Telling.{mark-own, unmarked}
 use Rattle.trailer.proofs.is_trailer.Statement.{statement}

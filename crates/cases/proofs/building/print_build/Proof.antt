@@ -1,7 +1,7 @@
 -- `cases::building::print_build` is safe: what an accepted build counts stands in the room, by `build-within`.
 -- Assumes nothing.
 use borrow.Author.Needs.{needs}
-use Rattle.format.specs.Marks.{PlainBook}
+use Rattle.format.specs.Kinds.{PlainBook}
 use Rattle.answers.proofs.Calls.{build-within}
 use Rattle.cases.proofs.building.print_build.Statement.{statement}
 use Rattle.cases.proofs.building.print_build.Tie as tie

@@ -1,7 +1,7 @@
 -- `cases::building::print_folded` is safe: what an accepted folded build counts stands in the room, by `build-within`.
 -- Assumes nothing.
 use borrow.Author.Needs.{needs}
-use Rattle.format.specs.Marks.{FoldedBook}
+use Rattle.format.specs.Kinds.{FoldedBook}
 use Rattle.answers.proofs.Calls.{build-within}
 use Rattle.cases.proofs.building.print_folded.Statement.{statement}
 use Rattle.cases.proofs.building.print_folded.Tie as tie

@@ -1,19 +1,24 @@
 -- Laws of the kinds of book.
 --     capital-bounds, small-rule     65 to 90; every other byte has one symbol by all rules
---     kind-lawful       each kind's rule gives every byte a symbol from 1 to 256
+--     kind-sure, kind-layout     each kind's rule gives every byte a symbol from 1 to 256; with its form and its mark it is a layout
 --     mark-length, mark-bytes     a mark has four bytes
+--     third-tells       the third byte of a kind's mark tells the kind
+--     full-rows         the form of a full book
 -- Assumes nothing.
 use Prim.Native.Nat.{ℕ, suc, _+_, _≤_, _<_}
 use native.Mathlib.Omega.{arith}
 use mathlib.Core.Path.{_≡_, refl}
 use mathlib.Core.Bool.{Bool, true, false}
 use lib.Dec.{leb}
-use lib.ListN.{length}
+use lib.ListN.{getD, length}
 use borrow.Author.Tests.{leb-true}
-use Rattle.words.specs.Words.{Lawful, both, pick, plain}
-use Rattle.words.specs.Rising.{All, cons, nil}
-use Rattle.words.proofs.Words.{both-true}
-use Rattle.format.specs.Marks.{BookKind, FoldedBook, PlainBook, capital, folded, markOf, ruleOf}
+use Rattle.words.specs.Words.{both, pick, plain}
+use Rattle.words.specs.Rising.{All, cons, nil, Sure}
+use Rattle.words.proofs.Words.{both-true, sure-lawful}
+use Rattle.format.specs.Folded.{capital, folded}
+use Rattle.format.specs.Kinds.{BookKind, FoldedBook, PlainBook, Rows, allKinds, formOf, markOf, markedAs, ruleOf}
+use Rattle.format.specs.Layout.{Layout}
+use Rattle.format.proofs.Numbers.{all-bytes}
 
 -- ---- the letters
 
@@ -39,9 +44,9 @@ folded-high b h = go (capital b) refl
     go true e = omega (arith, capital-bounds b e)
     go false e = omega arith
 
-pub kind-lawful : (κ : BookKind) → Lawful (ruleOf κ)
-kind-lawful PlainBook = record { low = λ b. omega arith; high = λ b h. omega arith }
-kind-lawful FoldedBook = record { low = folded-low; high = folded-high }
+pub kind-sure : (κ : BookKind) → Sure (ruleOf κ)
+kind-sure PlainBook = record { low = λ b. omega arith; high = λ b h. omega arith }
+kind-sure FoldedBook = record { low = folded-low; high = folded-high }
 
 pub mark-length : (κ : BookKind) → length (markOf κ) ≡ 4
 mark-length PlainBook = refl
@@ -50,3 +55,14 @@ mark-length FoldedBook = refl
 pub mark-bytes : (κ : BookKind) → All (λ b. b < 256) (markOf κ)
 mark-bytes PlainBook = cons {a = 0x4E} (omega arith) (cons {a = 0x42} (omega arith) (cons {a = 0x4B} (omega arith) (cons {a = 0x32} (omega arith) nil)))
 mark-bytes FoldedBook = cons {a = 0x4E} (omega arith) (cons {a = 0x42} (omega arith) (cons {a = 0x46} (omega arith) (cons {a = 0x32} (omega arith) nil)))
+
+pub kind-layout : (κ : BookKind) → Layout (ruleOf κ) (formOf κ) (markOf κ)
+kind-layout κ = record { lawful = sure-lawful (kind-sure κ); four = mark-length κ; bytes = all-bytes (markOf κ) (mark-bytes κ) }
+
+pub third-tells : (κ : BookKind) → markedAs (getD (markOf κ) 2 0) allKinds ≡ κ
+third-tells PlainBook = refl
+third-tells FoldedBook = refl
+
+pub full-rows : (κ : BookKind) → formOf κ ≡ Rows
+full-rows PlainBook = refl
+full-rows FoldedBook = refl
