@@ -3,7 +3,6 @@
 --     Joins, joins-start, joins-ask, joins-less, joins-within, joins-bytes, head-inside, joins-more, joins-all     the walk over both lists
 -- Assumes nothing.
 use Prim.Native.Nat.{ℕ, _+_, _≤_, _<_, zero-le}
-use native.Mathlib.Nat.{lt-irrefl}
 use native.Mathlib.Omega.{arith}
 use mathlib.Core.Path.{_≡_, refl, sym, ap, ap₂, _∙_}
 use mathlib.Core.Bool.{Bool, true, false}
@@ -15,17 +14,11 @@ use Rattle.format.specs.Merging.{merged}
 use Rattle.format.specs.Outcomes.{over}
 use Rattle.format.proofs.Records.{encode-append}
 use Rattle.numbers.proofs.Parts.{part-length}
-use Rattle.merge.specs.Heads.{HeadAsk, HeadSays, RestOf, Step}
 use Rattle.records.specs.Putting.{RecordPut}
+use Rattle.heads.specs.Heads.{HeadAsk, HeadSays, RestOf, Step}
+use Rattle.heads.specs.declared.Next.{Next}
+use Rattle.heads.proofs.Heads.{no-records, some-left}
 use Rattle.merge.specs.Joining.{Joined, MergeAsk, MergedInto}
-use Rattle.merge.specs.declared.Next.{Next}
-use Rattle.merge.proofs.Heads.{some-left}
-
--- an empty list of names has no records, and no other has none
-pub no-records : (xs : List Bytes) → length (encode xs) ≡ 0 → xs ≡ []
-unfolding encode
-no-records [] e = refl
-no-records (x ∷ xs) e = absurd (lt-irrefl 0 (omega arith))
 
 -- the list that a head stands in
 pub in-second : {t : Bool} (first second : Bytes) → t ≡ true → second ≡ pick t second first

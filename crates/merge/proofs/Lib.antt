@@ -1,6 +1,3 @@
 -- Laws of merging. No contract cites them.
-pub mod Heads
 pub mod Joining
-pub mod Passing
-pub mod Judging
-pub mod Showing
+pub mod Merging

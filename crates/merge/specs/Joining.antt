@@ -11,7 +11,7 @@ use Rattle.words.specs.Words.{Bytes, plain}
 use Rattle.format.specs.Records.{encode}
 use Rattle.format.specs.Merging.{merged}
 use Rattle.format.specs.Outcomes.{over}
-use Rattle.merge.specs.Heads.{RestOf}
+use Rattle.heads.specs.Heads.{RestOf}
 
 pub record MergeAsk (first second : Bytes) : Type 0 where
   pub xs : List Bytes

@@ -1,3 +1,1 @@
-pub mod Heads
 pub mod Joining
-pub mod Passing

@@ -1,7 +1,7 @@
 -- `merge::merge_judged` meets its contract: what was counted tells the way out, and counting has left the room as it was.
 -- Assumes nothing.
 use borrow.Author.Needs.{needs}
-use Rattle.merge.proofs.Judging.{merging-many, merging-put, merging-short, read-ask}
+use Rattle.merge.proofs.Merging.{merging-many, merging-put, merging-short, read-ask}
 use Rattle.merge.proofs.merge_judged.Statement.{statement}
 use Rattle.merge.proofs.merge_judged.Tie as tie
 

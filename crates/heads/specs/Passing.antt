@@ -8,7 +8,7 @@ use mathlib.Core.List.{List}
 use lib.ListN.{drop, length, take}
 use Rattle.words.specs.Words.{Bytes}
 use Rattle.format.specs.Records.{encode}
-use Rattle.merge.specs.Heads.{RestOf}
+use Rattle.heads.specs.Heads.{RestOf}
 
 pub record ListAsk (s : Bytes) : Type 0 where
   pub xs : List Bytes

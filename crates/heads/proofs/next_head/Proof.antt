@@ -1,10 +1,10 @@
--- `merge::next_head` meets its contract: one list has ended, or one head is the lesser, or both are one name.
+-- `heads::next_head` meets its contract: one list has ended, or one head is the lesser, or both are one name.
 -- Assumes nothing.
 use native.Mathlib.Omega.{arith}
 use borrow.Author.Needs.{needs}
-use Rattle.merge.proofs.Heads.{alone-first, alone-second, ask-fits, ask-other-fits, lesser-both, lesser-first, lesser-second, second-fits, second-left}
-use Rattle.merge.proofs.next_head.Statement.{statement}
-use Rattle.merge.proofs.next_head.Tie as tie
+use Rattle.heads.proofs.Heads.{alone-first, alone-second, ask-fits, ask-other-fits, lesser-both, lesser-first, lesser-second, second-fits, second-left}
+use Rattle.heads.proofs.next_head.Statement.{statement}
+use Rattle.heads.proofs.next_head.Tie as tie
 
 pub next-head-spec : {M : Type 1} → statement M
 next-head-spec =

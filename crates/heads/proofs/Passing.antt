@@ -11,10 +11,9 @@ use Rattle.words.specs.Words.{Bytes}
 use Rattle.format.specs.Records.{encode}
 use Rattle.format.proofs.Records.{encode-append}
 use Rattle.numbers.proofs.Parts.{part-length}
-use Rattle.merge.specs.Heads.{RestOf}
-use Rattle.merge.specs.Passing.{ListAsk, PassedTo}
-use Rattle.merge.proofs.Heads.{headed}
-use Rattle.merge.proofs.Joining.{no-records}
+use Rattle.heads.specs.Heads.{RestOf}
+use Rattle.heads.specs.Passing.{ListAsk, PassedTo}
+use Rattle.heads.proofs.Heads.{headed, no-records}
 
 -- of the names xs those of `done` are passed, which with `left` are so many
 pub record Part (s : Bytes) (count at left : ℕ) (xs : List Bytes) : Type 0 where

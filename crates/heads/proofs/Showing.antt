@@ -15,12 +15,11 @@ use Rattle.words.specs.Words.{Bytes, pick}
 use Rattle.format.specs.Alone.{BothRead}
 use Rattle.answers.specs.Heads.{Head as Numbers, headAt, headOf, lesserHead}
 use Rattle.answers.proofs.Heads.{head-read}
-use Rattle.merge.specs.Heads.{HeadAsk, HeadSays, RestOf, Step, shownBy}
-use Rattle.merge.specs.Passing.{ListAsk, PassedTo}
-use Rattle.merge.specs.declared.Next.{Next}
-use Rattle.merge.proofs.Heads.{some-left}
-use Rattle.merge.proofs.Joining.{no-records}
-use Rattle.merge.proofs.Judging.{rest-of}
+use Rattle.heads.specs.Heads.{HeadAsk, HeadSays, RestOf, Step, shownBy}
+use Rattle.heads.specs.Passing.{ListAsk, PassedTo}
+use Rattle.heads.specs.declared.Next.{Next}
+use Rattle.heads.proofs.Heads.{no-records, some-left}
+use Rattle.heads.proofs.Judging.{rest-of}
 
 module _ {s t : Bytes} (b : BothRead s t) where
   pub first-ask : ListAsk s

@@ -2,6 +2,7 @@
 --     Headed, headed            a list that has not ended: its next record, the name in it, and the records behind
 --     shows-alone, shows-only, shows-first, shows-second     the head that is shown
 --     alone-second, alone-first, lesser-first, lesser-second, lesser-both     ways out of `next_head`
+--     no-records, rest-ended, some-left, second-left     lists that have ended, and those that have not
 -- Assumes nothing.
 use Prim.Native.Nat.{ℕ, suc, _+_, _-_, _≤_, _<_}
 use native.Mathlib.Nat.{lt-irrefl}
@@ -20,9 +21,9 @@ use Rattle.format.specs.Records.{encode}
 use Rattle.format.proofs.Merging.{merged-both, merged-first, merged-none, merged-second, rising-only}
 use Rattle.format.proofs.Records.{First, rising-first}
 use Rattle.answers.specs.Heads.{Head, lesserHead}
-use Rattle.merge.specs.Heads.{HeadAsk, LesserSays, RestOf, Step, headIn}
-use Rattle.merge.specs.declared.Lesser.{Lesser}
-use Rattle.merge.specs.declared.Lesser.the-variants.{Both, First as FirstLess, Second}
+use Rattle.heads.specs.Heads.{HeadAsk, LesserSays, RestOf, Step, headIn}
+use Rattle.heads.specs.declared.Lesser.{Lesser}
+use Rattle.heads.specs.declared.Lesser.the-variants.{Both, First as FirstLess, Second}
 
 -- the next record of a list, of `size` bytes, is that of x
 pub record Headed (s : Bytes) (at size : ℕ) (xs : List Bytes) : Type 0 where
@@ -235,6 +236,12 @@ module _ {first second : Bytes} {i j : ℕ} {xs ys : List Bytes} (a : RestOf fir
           }
 
 -- ---- lists that have ended, and those that have not
+
+-- an empty list of names has no records, and no other has none
+pub no-records : (xs : List Bytes) → length (encode xs) ≡ 0 → xs ≡ []
+unfolding encode
+no-records [] e = refl
+no-records (x ∷ xs) e = absurd (lt-irrefl 0 (omega arith))
 
 -- a list whose records are those of no names has ended
 pub rest-ended : {s : Bytes} {at : ℕ} (xs : List Bytes) → RestOf s at xs → length xs ≡ 0 → at ≡ length s

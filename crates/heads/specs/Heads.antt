@@ -15,9 +15,9 @@ use Rattle.words.specs.Words.{Bytes, less, pick, plain, word}
 use Rattle.format.specs.Records.{encode, rising}
 use Rattle.format.specs.Merging.{merged}
 use Rattle.answers.specs.Heads.{Head, lesserHead}
-use Rattle.merge.specs.declared.Next.{Next}
-use Rattle.merge.specs.declared.Lesser.{Lesser}
-use Rattle.merge.specs.declared.Lesser.the-variants.{Both, First, Second}
+use Rattle.heads.specs.declared.Next.{Next}
+use Rattle.heads.specs.declared.Lesser.{Lesser}
+use Rattle.heads.specs.declared.Lesser.the-variants.{Both, First, Second}
 
 abbrev pub LesserSays : Bytes → Bytes → Lesser → Type 0
 LesserSays x y First = less (word plain x) (word plain y) ≡ true

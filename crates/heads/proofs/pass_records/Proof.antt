@@ -1,9 +1,9 @@
--- `merge::pass_records` meets its contract. The loop keeps `Passes`; the records that are left to pass are its measure.
+-- `heads::pass_records` meets its contract. The loop keeps `Passes`; the records that are left to pass are its measure.
 -- Assumes nothing.
 use native.Mathlib.Omega.{arith}
-use Rattle.merge.proofs.Passing.{Passes, passes-all, passes-ended, passes-fits, passes-more, passes-start}
-use Rattle.merge.proofs.pass_records.Statement.{statement}
-use Rattle.merge.proofs.pass_records.Tie as tie
+use Rattle.heads.proofs.Passing.{Passes, passes-all, passes-ended, passes-fits, passes-more, passes-start}
+use Rattle.heads.proofs.pass_records.Statement.{statement}
+use Rattle.heads.proofs.pass_records.Tie as tie
 
 abbrev Inv-loop : tie.InvT-loop
 Inv-loop list count at₀ left₀ at left = Passes list count at left

@@ -1,12 +1,12 @@
--- `merge::head_judged` meets its contract: both lists have ended, or the lesser head is the one that is shown.
+-- `heads::head_judged` meets its contract: both lists have ended, or the lesser head is the one that is shown.
 -- Assumes nothing.
 use Prim.Native.Nat.{_+_, _<_, _^_}
 use native.Mathlib.Omega.{arith}
 use lib.ListN.{length}
 use borrow.Author.Needs.{needs}
-use Rattle.merge.proofs.Showing.{behind-ask, first-ask, head-some, passed-within, second-ask, showing-first, showing-none, showing-second, start-fits}
-use Rattle.merge.proofs.head_judged.Statement.{statement}
-use Rattle.merge.proofs.head_judged.Tie as tie
+use Rattle.heads.proofs.Showing.{behind-ask, first-ask, head-some, passed-within, second-ask, showing-first, showing-none, showing-second, start-fits}
+use Rattle.heads.proofs.head_judged.Statement.{statement}
+use Rattle.heads.proofs.head_judged.Tie as tie
 
 add-if1 : tie.Need-add-if1
 add-if1 c = omega (arith, passed-within (c .before .before .before .before .pre) (c .before .pass-records .ensures) (c .pass-records2 .ensures))

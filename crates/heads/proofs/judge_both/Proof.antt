@@ -1,9 +1,9 @@
--- `merge::judge_both` meets its contract: each way out is one law.
+-- `heads::judge_both` meets its contract: each way out is one law.
 -- Assumes nothing.
 use borrow.Author.Needs.{needs}
-use Rattle.merge.proofs.Judging.{judging-first, judging-second, judging-sound}
-use Rattle.merge.proofs.judge_both.Statement.{statement}
-use Rattle.merge.proofs.judge_both.Tie as tie
+use Rattle.heads.proofs.Judging.{judging-first, judging-second, judging-sound}
+use Rattle.heads.proofs.judge_both.Statement.{statement}
+use Rattle.heads.proofs.judge_both.Tie as tie
 
 returns : tie.Need-returns
 returns c =

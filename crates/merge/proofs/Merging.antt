@@ -1,64 +1,24 @@
--- Two lists that are judged, and merged where both read well.
---     judging-first, judging-second, judging-sound     ways out of `judge_both`
---     rest-of, read-ask     a list that reads well is the records of its names
+-- Two lists that read well, merged.
+--     read-ask              both are the records of their names
 --     merging-many, merging-short, merging-put     ways out of `merge_judged`
 -- Assumes nothing.
-use Prim.Native.Nat.{ℕ, _-_, _≤_, _<_, zero-le}
+use Prim.Native.Nat.{ℕ, _-_, _≤_, _<_}
 use native.Mathlib.Omega.{arith}
-use mathlib.Core.Path.{_≡_, refl, sym, ap, ap₂, _∙_}
+use mathlib.Core.Path.{_≡_, sym, ap, ap₂, _∙_}
 use mathlib.Core.List.{List, _++_}
 use lib.ListN.{drop, length, take}
 use Rattle.words.specs.Words.{Bytes, plain}
-use Rattle.format.specs.Alone.{BothRead, Reads, readAlone}
+use Rattle.format.specs.Alone.{BothRead}
 use Rattle.format.specs.Merging.{merged}
 use Rattle.format.specs.Outcomes.{Answer as Numbers, given, numbered, over}
-use Rattle.format.specs.Records.{Names, Reading, Refused, encode}
-use Rattle.format.proofs.Records.{read-names}
-use Rattle.answers.specs.Merging.{judgeLists, mergeLists}
-use Rattle.answers.proofs.Merging.{all-put, judge-one, judge-other, judge-read, merge-read, too-many, too-short}
+use Rattle.format.specs.Records.{encode}
+use Rattle.answers.specs.Merging.{mergeLists}
+use Rattle.answers.proofs.Merging.{all-put, merge-read, too-many, too-short}
 use Rattle.numbers.proofs.Parts.{none-lent}
-use Rattle.records.specs.Lists.{verdictOf}
-use Rattle.records.specs.declared.Verdict.{Verdict}
-use Rattle.records.specs.declared.Verdict.the-variants.{Good, Bad}
 use Rattle.shapes.specs.Shapes.{answered, written}
 use Rattle.shapes.specs.declared.Answer.{Answer}
-use Rattle.merge.specs.Heads.{RestOf}
+use Rattle.heads.proofs.Judging.{rest-of}
 use Rattle.merge.specs.Joining.{MergeAsk, MergedInto}
-
--- ---- verdicts
-
-was-bad : (r : Reading) (code i : ℕ) → Bad code i ≡ verdictOf r → r ≡ Refused code i
-was-bad (Names xs) code i e = let z : _≡_ {A = ℕ} 0 1 = cc in absurd (omega arith)
-was-bad (Refused c k) code i e = cc
-
-record Was (r : Reading) : Type 0 where
-  names : List Bytes
-  is : r ≡ Names names
-
-was-good : (r : Reading) (n : ℕ) → Good n ≡ verdictOf r → Was r
-was-good (Names xs) n e = record { names = xs; is = refl }
-was-good (Refused c k) n e = let z : _≡_ {A = ℕ} 0 1 = cc in absurd (omega arith)
-
-module _ (s t : Bytes) {v : Verdict} (p : v ≡ verdictOf (readAlone s)) where
-  pub judging-first : {code i : ℕ} → v ≡ Bad code i → record { code = code; first = i; second = 1 } ≡ judgeLists s t
-  judging-first {code} {i} e = sym (judge-one s t code i (was-bad (readAlone s) code i (sym e ∙ p)))
-
-  module _ {n : ℕ} (e : v ≡ Good n) {w : Verdict} (q : w ≡ verdictOf (readAlone t)) where
-    first-was : Was (readAlone s)
-    first-was = was-good (readAlone s) n (sym e ∙ p)
-
-    pub judging-second : {code i : ℕ} → w ≡ Bad code i → record { code = code; first = i; second = 2 } ≡ judgeLists s t
-    judging-second {code} {i} f = sym (judge-other s t (first-was .names) code i (first-was .is) (was-bad (readAlone t) code i (sym f ∙ q)))
-
-    pub judging-sound : {m : ℕ} → w ≡ Good m → given 0 0 ≡ judgeLists s t
-    judging-sound {m} f =
-        let second-was = was-good (readAlone t) m (sym f ∙ q) in
-        sym (judge-read {xs = first-was .names} {ys = second-was .names} (record { names = first-was .is }) (record { names = second-was .is }))
-
--- ---- merging
-
-pub rest-of : {s : Bytes} {xs : List Bytes} → Reads s xs → RestOf s 0 xs
-rest-of {s} {xs} r = let a = read-names plain (length s) s xs (r .names) in record { within = zero-le; bytes = sym (a .bytes); rises = a .rises }
 
 module _ {s t : Bytes} (b : BothRead s t) where
   pub read-ask : MergeAsk s t

@@ -1,11 +1,11 @@
--- `merge::lesser_of` meets its contract: a name that is neither below nor above another is that name.
+-- `heads::lesser_of` meets its contract: a name that is neither below nor above another is that name.
 -- Assumes nothing.
 use mathlib.Core.Path.{sym, _∙_}
 use borrow.Author.Needs.{needs}
 use Rattle.words.proofs.Words.{shared-comm}
-use Rattle.merge.proofs.Heads.{both-same}
-use Rattle.merge.proofs.lesser_of.Statement.{statement}
-use Rattle.merge.proofs.lesser_of.Tie as tie
+use Rattle.heads.proofs.Heads.{both-same}
+use Rattle.heads.proofs.lesser_of.Statement.{statement}
+use Rattle.heads.proofs.lesser_of.Tie as tie
 
 pub lesser-of-spec : {M : Type 1} → statement M
 lesser-of-spec =
