@@ -142,7 +142,7 @@ pub extern "C" fn book_batch(
 pub extern "C" fn list_judge(first: &[u8], second: &[u8]) -> Answer
     ensures { λ r. ⌜ answered r ≡ judgeLists (now (first .entry)) (now (second .entry)) ⌝ }
 {
-    heads::judge_both(first, second)
+    judging::judge_both(first, second)
 }
 
 // The names of two lists in one, a name in both once, at the front of the room. Refusals: 5, 6 of either list; 7; 4.
@@ -150,7 +150,7 @@ pub extern "C" fn list_judge(first: &[u8], second: &[u8]) -> Answer
 pub extern "C" fn list_merge(first: &[u8], second: &[u8], room: &mut [u8]) -> Answer
     ensures { λ r. ⌜ written r (now (room .exit)) ≡ mergeLists (now (first .entry)) (now (second .entry)) (now (room .entry)) ⌝ }
 {
-    let judged = heads::judge_both(first, second);
+    let judged = judging::judge_both(first, second);
     if judged.code != 0 {
         return judged;
     }
@@ -167,7 +167,7 @@ pub extern "C" fn list_head(
 ) -> Head
     ensures { λ r. ⌜ headed r ≡ headOf (now (first .entry)) (now (second .entry)) «passed_first» «passed_second» ⌝ }
 {
-    let judged = heads::judge_both(first, second);
+    let judged = judging::judge_both(first, second);
     if judged.code != 0 {
         return heads::no_head();
     }

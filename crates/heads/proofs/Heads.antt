@@ -2,9 +2,10 @@
 --     Headed, headed            a list that has not ended: its next record, the name in it, and the records behind
 --     shows-alone, shows-only, shows-first, shows-second     the head that is shown
 --     alone-second, alone-first, lesser-first, lesser-second, lesser-both     ways out of `next_head`
+--     rest-of                   a list that reads well is the records of its names
 --     no-records, rest-ended, some-left, second-left     lists that have ended, and those that have not
 -- Assumes nothing.
-use Prim.Native.Nat.{ℕ, suc, _+_, _-_, _≤_, _<_}
+use Prim.Native.Nat.{ℕ, suc, _+_, _-_, _≤_, _<_, zero-le}
 use native.Mathlib.Nat.{lt-irrefl}
 use native.Mathlib.Decide.{ℕ-discrete}
 use native.Mathlib.Omega.{arith}
@@ -16,10 +17,11 @@ use lib.ListN.{drop, getD, length, length-append, length-drop, take}
 use lib.Seq.{drop-append-seam, drop-drop, getD-drop, take-append-seam}
 use Rattle.words.specs.Words.{Bytes, less, plain, word}
 use Rattle.words.proofs.Words.{apart, equal, false≠true, greater, less-asym, less-irrefl, lesser, ordered, plain-sure, word-positive}
+use Rattle.format.specs.Alone.{Reads}
 use Rattle.format.specs.Merging.{merged}
 use Rattle.format.specs.Records.{encode}
 use Rattle.format.proofs.Merging.{merged-both, merged-first, merged-none, merged-second, rising-only}
-use Rattle.format.proofs.Records.{First, rising-first}
+use Rattle.format.proofs.Records.{First, read-names, rising-first}
 use Rattle.answers.specs.Heads.{Head, lesserHead}
 use Rattle.heads.specs.Heads.{HeadAsk, LesserSays, RestOf, Step, headIn}
 use Rattle.heads.specs.declared.Lesser.{Lesser}
@@ -234,6 +236,11 @@ module _ {first second : Bytes} {i j : ℕ} {xs ys : List Bytes} (a : RestOf fir
             record-is = p .record-is;
             lesser = shows-first i j size (p .size-is) (p .all) (q .all) (ap (less (word plain (q .x))) l ∙ less-irrefl (word plain (q .x)));
           }
+
+-- ---- a list that reads well
+
+pub rest-of : {s : Bytes} {xs : List Bytes} → Reads s xs → RestOf s 0 xs
+rest-of {s} {xs} r = let a = read-names plain (length s) s xs (r .names) in record { within = zero-le; bytes = sym (a .bytes); rises = a .rises }
 
 -- ---- lists that have ended, and those that have not
 

@@ -1,5 +1,4 @@
--- Laws of two lists that are judged and read. No contract cites them.
+-- Laws of two lists that are read. No contract cites them.
 pub mod Heads
 pub mod Passing
-pub mod Judging
 pub mod Showing

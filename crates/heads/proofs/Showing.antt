@@ -18,8 +18,7 @@ use Rattle.answers.proofs.Heads.{head-read}
 use Rattle.heads.specs.Heads.{HeadAsk, HeadSays, RestOf, Step, shownBy}
 use Rattle.heads.specs.Passing.{ListAsk, PassedTo}
 use Rattle.heads.specs.declared.Next.{Next}
-use Rattle.heads.proofs.Heads.{no-records, some-left}
-use Rattle.heads.proofs.Judging.{rest-of}
+use Rattle.heads.proofs.Heads.{no-records, rest-of, some-left}
 
 module _ {s t : Bytes} (b : BothRead s t) where
   pub first-ask : ListAsk s

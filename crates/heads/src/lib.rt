@@ -1,67 +1,15 @@
-// Two lists of names, judged and read beside each other. Both are judged by the loop that judges a list for a book. A list is gone through by
-// the offset of its next record; the lesser of two heads is found by the comparison of names that all others use, and nothing is kept of a
-// name but where it stands.
+// The heads of two lists of names that read well. A list is gone through by the offset of its next record; the lesser of two heads is found
+// by the comparison of names that all others use, and nothing is kept of a name but where it stands.
 ghost use mathlib.Core.Path.{_≡_};
 ghost use Prim.Native.Nat.{_+_, _<_};
 ghost use lib.ListN.{getD, length};
-ghost use Rattle.format.specs.Alone.{BothRead, readAlone};
+ghost use Rattle.format.specs.Alone.{BothRead};
 ghost use Rattle.answers.specs.Heads.{headOf};
-ghost use Rattle.answers.specs.Merging.{judgeLists};
-ghost use Rattle.records.specs.Lists.{verdictOf};
 ghost use Rattle.shapes.specs.Heads.{headed};
-ghost use Rattle.shapes.specs.Shapes.{answered};
 ghost use Rattle.heads.specs.Heads.{HeadAsk, HeadSays, LesserSays, headIn};
 ghost use Rattle.heads.specs.Passing.{ListAsk, PassedTo};
-use records::Verdict;
-use shapes::Answer;
 use shapes::Head;
 use symbols::Rule;
-
-// Reads a list that has no limit of its own, and notes nothing.
-fn judge_alone(list: &[u8]) -> Verdict
-    ensures { λ r. ⌜ r ≡ verdictOf (readAlone (now (list .entry))) ⌝ }
-{
-    let mut lens = [0u8; 0];
-    let mut counts = [0u8; 0];
-    let mut shares = [0u8; 0];
-    records::judge(
-        Rule::Plain,
-        list,
-        list.len(),
-        &mut lens,
-        &mut counts,
-        &mut shares,
-    )
-}
-
-// Whether both lists read well: else refusal 5 or 6, the record's number and the list's, the first list's before the second's.
-pub fn judge_both(first: &[u8], second: &[u8]) -> Answer
-    ensures { λ r. ⌜ answered r ≡ judgeLists (now (first .entry)) (now (second .entry)) ⌝ }
-{
-    let one = judge_alone(first);
-    match one {
-        Verdict::Bad(code, number) => Answer {
-            code,
-            first: number,
-            second: 1,
-        },
-        Verdict::Good(_) => {
-            let other = judge_alone(second);
-            match other {
-                Verdict::Bad(code, number) => Answer {
-                    code,
-                    first: number,
-                    second: 2,
-                },
-                Verdict::Good(_) => Answer {
-                    code: 0,
-                    first: 0,
-                    second: 0,
-                },
-            }
-        }
-    }
-}
 
 // The lesser of two heads: whether it stands in the second list, where its record begins and how many bytes that has; and where either
 // list goes on behind it.

@@ -17,7 +17,7 @@ use Rattle.answers.proofs.Merging.{all-put, merge-read, too-many, too-short}
 use Rattle.numbers.proofs.Parts.{none-lent}
 use Rattle.shapes.specs.Shapes.{answered, written}
 use Rattle.shapes.specs.declared.Answer.{Answer}
-use Rattle.heads.proofs.Judging.{rest-of}
+use Rattle.heads.proofs.Heads.{rest-of}
 use Rattle.merge.specs.Joining.{MergeAsk, MergedInto}
 
 module _ {s t : Bytes} (b : BothRead s t) where

@@ -1,25 +1,19 @@
 -- Two lists that are judged.
 --     judging-first, judging-second, judging-sound     ways out of `judge_both`
---     rest-of               a list that reads well is the records of its names
 -- Assumes nothing.
-use Prim.Native.Nat.{ℕ, zero-le}
+use Prim.Native.Nat.{ℕ}
 use native.Mathlib.Omega.{arith}
 use mathlib.Core.Path.{_≡_, refl, sym, _∙_}
 use mathlib.Core.List.{List}
-use lib.ListN.{length}
-use Rattle.words.specs.Words.{Bytes, plain}
-use Rattle.format.specs.Alone.{Reads, readAlone}
+use Rattle.words.specs.Words.{Bytes}
+use Rattle.format.specs.Alone.{readAlone}
 use Rattle.format.specs.Outcomes.{given}
 use Rattle.format.specs.Records.{Names, Reading, Refused}
-use Rattle.format.proofs.Records.{read-names}
 use Rattle.answers.specs.Merging.{judgeLists}
 use Rattle.answers.proofs.Merging.{judge-one, judge-other, judge-read}
 use Rattle.records.specs.Lists.{verdictOf}
 use Rattle.records.specs.declared.Verdict.{Verdict}
 use Rattle.records.specs.declared.Verdict.the-variants.{Good, Bad}
-use Rattle.heads.specs.Heads.{RestOf}
-
--- ---- verdicts
 
 was-bad : (r : Reading) (code i : ℕ) → Bad code i ≡ verdictOf r → r ≡ Refused code i
 was-bad (Names xs) code i e = let z : _≡_ {A = ℕ} 0 1 = cc in absurd (omega arith)
@@ -48,8 +42,3 @@ module _ (s t : Bytes) {v : Verdict} (p : v ≡ verdictOf (readAlone s)) where
     judging-sound {m} f =
         let second-was = was-good (readAlone t) m (sym f ∙ q) in
         sym (judge-read {xs = first-was .names} {ys = second-was .names} (record { names = first-was .is }) (record { names = second-was .is }))
-
--- ---- a list that reads well
-
-pub rest-of : {s : Bytes} {xs : List Bytes} → Reads s xs → RestOf s 0 xs
-rest-of {s} {xs} r = let a = read-names plain (length s) s xs (r .names) in record { within = zero-le; bytes = sym (a .bytes); rises = a .rises }

@@ -1,9 +1,9 @@
--- `heads::judge_alone` meets its contract: what was judged is the verdict of the reading.
+-- `judging::judge_alone` meets its contract: what was judged is the verdict of the reading.
 -- Assumes nothing.
 use borrow.Author.Needs.{needs}
 use Rattle.records.proofs.Verdicts.{verdict-is}
-use Rattle.heads.proofs.judge_alone.Statement.{statement}
-use Rattle.heads.proofs.judge_alone.Tie as tie
+use Rattle.judging.proofs.judge_alone.Statement.{statement}
+use Rattle.judging.proofs.judge_alone.Tie as tie
 
 returns : tie.Need-returns
 returns c = verdict-is _ _ _ _ _ _ _ (c .before .before .before .judge .ensures)

@@ -1,9 +1,9 @@
--- `heads::judge_both` meets its contract: each way out is one law.
+-- `judging::judge_both` meets its contract: each way out is one law.
 -- Assumes nothing.
 use borrow.Author.Needs.{needs}
-use Rattle.heads.proofs.Judging.{judging-first, judging-second, judging-sound}
-use Rattle.heads.proofs.judge_both.Statement.{statement}
-use Rattle.heads.proofs.judge_both.Tie as tie
+use Rattle.judging.proofs.Judging.{judging-first, judging-second, judging-sound}
+use Rattle.judging.proofs.judge_both.Statement.{statement}
+use Rattle.judging.proofs.judge_both.Tie as tie
 
 returns : tie.Need-returns
 returns c =

@@ -1,0 +1,2 @@
+-- Laws of two lists that are judged. No contract cites them.
+pub mod Judging
