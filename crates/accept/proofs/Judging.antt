@@ -28,7 +28,7 @@ use Rattle.streams.specs.Runs.{Frame, Has}
 use Rattle.streams.specs.Streams.{InBlocks}
 use Rattle.streams.proofs.InBlocks.{has-blocks}
 use Rattle.streams.proofs.Walks.{has-known, has-names}
-use Rattle.entries.specs.Judging.{WalkSays}
+use Rattle.walk.specs.Walking.{WalkSays}
 use Rattle.inspect.specs.Check.{TableAsk, isRows}
 use Rattle.numbers.proofs.Parts.{Held, held-bytes}
 use Rattle.accept.specs.Parts.{Parts, PartsSay, checkOn, checkedAs}

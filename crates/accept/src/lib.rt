@@ -21,7 +21,7 @@ fn check_parts(book: &[u8]) -> bool
     let rule = t.rule;
     let n = numbers::wide16(t.names);
     let nodes_at = numbers::wide16(t.nodes);
-    if !entries::check_entries(
+    if !walk::check_entries(
         rule,
         book,
         n,

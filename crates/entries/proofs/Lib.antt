@@ -1,3 +1,2 @@
--- Laws of reading and judging entries. No contract cites them.
+-- Laws of reading entries. No contract cites them.
 pub mod Reading
-pub mod Walking

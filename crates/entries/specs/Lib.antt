@@ -1,1 +1,1 @@
-pub mod Judging
+pub mod Reading

@@ -21,7 +21,7 @@ use Rattle.numbers.proofs.Parts.{Copied, Held, copied}
 use Rattle.streams.specs.Runs.{Rest}
 use Rattle.streams.proofs.Rereading.{block-from}
 use Rattle.streams.proofs.Walks.{has-names}
-use Rattle.entries.specs.Judging.{NameIs, ReadAsk}
+use Rattle.entries.specs.Reading.{NameIs, ReadAsk}
 use Rattle.trailer.specs.declared.Trailer.{Trailer}
 use Rattle.accept.specs.Parts.{checkOn}
 use Rattle.accept.specs.declared.Checked.{Checked}

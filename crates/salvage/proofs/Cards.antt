@@ -41,7 +41,7 @@ use Rattle.trailer.proofs.Telling.{mark-kind}
 use Rattle.trailer.specs.Trailer.{Trail, TrailSays, markBack, markFront, trailerIn}
 use Rattle.trailer.specs.declared.Trailer.{Trailer}
 use Rattle.streams.proofs.Alone.{alone-run, run-alone}
-use Rattle.entries.specs.Judging.{BlockSays}
+use Rattle.runs.specs.Judging.{BlockSays}
 use Rattle.salvage.specs.Cards.{BlockAsk, PlainSays, SpanIs, Table, WholeSays}
 
 -- ---- the trailer

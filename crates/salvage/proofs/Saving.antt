@@ -32,7 +32,7 @@ use Rattle.streams.proofs.Alone.{alone-stream}
 use Rattle.shapes.specs.Shapes.{answered, written}
 use Rattle.shapes.specs.declared.Answer.{Answer}
 use Rattle.streams.specs.Streams.{EntryAt, Stream, entryEnd, nameAt}
-use Rattle.entries.specs.Judging.{NameRead}
+use Rattle.entries.specs.Reading.{NameRead}
 use Rattle.entries.proofs.Reading.{stream-next}
 use Rattle.salvage.specs.Cards.{BlockAsk, SpanIs, WholeSays}
 use Rattle.salvage.proofs.Cards.{block-found, block-kept, mapped-is, names-found}

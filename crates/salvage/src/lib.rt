@@ -129,7 +129,7 @@ fn is_whole(card: &[u8], span: Span) -> bool
     ensures { λ r. ⌜ WholeSays (now (card .entry)) (span .start) (span .end) (span .names) r ⌝ }
 {
     let mut name = [0u8; 200];
-    let last = entries::plain_block(card, span.start, span.end, span.names, &mut name);
+    let last = runs::plain_block(card, span.start, span.end, span.names, &mut name);
     last.ok
 }
 

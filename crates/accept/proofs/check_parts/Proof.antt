@@ -3,7 +3,7 @@
 use Rattle.accept.proofs.Judging.{NumbersRead, asked, entries-fail, table-ask, table-says, walk-ask, walked-own}
 use borrow.Author.Needs.{needs}
 use Rattle.format.specs.Kinds.{ruleIn}
-use Rattle.entries.specs.Judging.{WalkSays}
+use Rattle.walk.specs.Walking.{WalkSays}
 use Rattle.accept.proofs.check_parts.Statement.{statement}
 use Rattle.accept.proofs.check_parts.Tie as tie
 

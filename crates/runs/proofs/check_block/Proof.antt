@@ -1,9 +1,9 @@
--- `entries::check_block` meets its contract: the loop by each rule has it.
+-- `runs::check_block` meets its contract: the loop by each rule has it.
 -- Assumes nothing.
 use native.Mathlib.Omega.{arith}
 use borrow.Author.Needs.{needs}
-use Rattle.entries.proofs.check_block.Statement.{statement}
-use Rattle.entries.proofs.check_block.Tie as tie
+use Rattle.runs.proofs.check_block.Statement.{statement}
+use Rattle.runs.proofs.check_block.Tie as tie
 
 returns : tie.Need-returns
 returns c = (

@@ -1,12 +1,12 @@
--- `entries::is_entry` meets its contract: most ways out are a field of `Step` or its contrary.
+-- `runs::is_entry` meets its contract: most ways out are a field of `Step` or its contrary.
 -- Assumes nothing.
 use native.Mathlib.Omega.{arith}
-use Rattle.entries.proofs.Reading.{Fitting, entry-same, entry-whole, judged-folded, judged-plain}
+use Rattle.runs.proofs.Judging.{Fitting, entry-same, entry-whole, judged-folded, judged-plain}
 use borrow.Author.Needs.{needs}
 use Rattle.symbols.specs.Rules.{ruleBy}
 use Rattle.symbols.proofs.Symbols.{rule-sure}
-use Rattle.entries.proofs.is_entry.Statement.{statement}
-use Rattle.entries.proofs.is_entry.Tie as tie
+use Rattle.runs.proofs.is_entry.Statement.{statement}
+use Rattle.runs.proofs.is_entry.Tie as tie
 
 -- what every test but the last two has shown
 fitting : (c : tie.Else6) → let a = c .before .before .before .before .before .before .before .before .before .before .before .before .args in Fitting (a .book .now) (a .prev .now) (a .at) (a .end)

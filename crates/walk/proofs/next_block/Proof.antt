@@ -1,11 +1,11 @@
--- `entries::next_block` meets its contract.
+-- `walk::next_block` meets its contract.
 -- Assumes nothing.
 use native.Mathlib.Omega.{arith}
 use lib.ListN.{take}
-use Rattle.entries.proofs.Reading.{next-judged, next-low, next-past}
+use Rattle.walk.proofs.Walking.{next-judged, next-low, next-past}
 use borrow.Author.Needs.{needs}
-use Rattle.entries.proofs.next_block.Statement.{statement}
-use Rattle.entries.proofs.next_block.Tie as tie
+use Rattle.walk.proofs.next_block.Statement.{statement}
+use Rattle.walk.proofs.next_block.Tie as tie
 
 -- the first entry goes on behind the block
 returns : tie.Need-returns

@@ -1,12 +1,12 @@
--- `entries::check_entries` meets its contract: `Walking` carries the loop.
+-- `walk::check_entries` meets its contract: `Walking` carries the loop.
 -- Assumes nothing.
 use Prim.Native.Nat.{_-_}
 use native.Mathlib.Omega.{arith}
 use borrow.Author.Needs.{needs}
 use Rattle.symbols.specs.Rules.{ruleBy}
-use Rattle.entries.proofs.Walking.{Walking, walking-apart, walking-bad, walking-end, walking-more, walking-past, walking-place, walking-room, walking-start}
-use Rattle.entries.proofs.check_entries.Statement.{statement}
-use Rattle.entries.proofs.check_entries.Tie as tie
+use Rattle.walk.proofs.Walking.{Walking, walking-apart, walking-bad, walking-end, walking-more, walking-past, walking-place, walking-room, walking-start}
+use Rattle.walk.proofs.check_entries.Statement.{statement}
+use Rattle.walk.proofs.check_entries.Tie as tie
 
 abbrev Inv-loop : tie.InvT-loop
 Inv-loop rule book n k blocks nodes at₀ slot₀ i₀ name₀ len₀ at slot i name len = Walking (ruleBy rule) book k blocks nodes n slot at name len i

@@ -1,17 +1,19 @@
--- Laws of the loop over the blocks, with its buffer: one for each way through it.
---     Walking                   what the loop keeps
+-- Laws of the walk over the blocks, one for each way through it.
+--     next-..                   a block and the name before it
+--     Walking                   what the loop over the blocks keeps, with its buffer
 --     walking-start, -more      it begins, and goes on
 --     walking-room, -place, ..  the answer of each way out
 -- Assumes nothing.
 use Prim.Native.Nat.{ℕ, _+_, _-_, _≤_, _<_, min}
+use native.Mathlib.Nat.{lt-irrefl}
 use native.Mathlib.Omega.{arith}
-use mathlib.Core.Path.{_≡_, refl, sym, subst}
+use mathlib.Core.Path.{_≡_, refl, sym, ap₂, _∙_, subst}
 use mathlib.Core.Bool.{Bool, true, false, not}
 use mathlib.Core.List.{[]}
 use lib.Dec.{eqb}
-use lib.ListN.{length, replicate, take, length-replicate}
-use borrow.Author.Tests.{eqb-false, eqb-true}
-use Rattle.words.specs.Words.{Bytes, Rule}
+use lib.ListN.{length, getD, replicate, take, drop, length-replicate}
+use borrow.Author.Tests.{eqb-false, eqb-true, not-false, not-true}
+use Rattle.words.specs.Words.{Bytes, Rule, less, word}
 use Rattle.words.specs.Rising.{Sure}
 use Rattle.words.proofs.Words.{false≠true}
 use Rattle.format.specs.Book.{number}
@@ -19,9 +21,34 @@ use Rattle.numbers.proofs.Parts.{Held, held-bytes}
 use Rattle.symbols.specs.Rules.{ruleBy}
 use Rattle.symbols.specs.declared.Rule.{Rule as ByRule}
 use Rattle.symbols.proofs.Symbols.{rule-sure}
+use Rattle.streams.specs.Streams.{nameAt}
 use Rattle.streams.specs.Runs.{Frame, endOf}
-use Rattle.streams.proofs.Walks.{Walked, walked-bad, walked-done, walked-more, walked-past, walked-place, walked-room, walked-short, walked-start, walked-table}
-use Rattle.entries.specs.Judging.{NextSays, WalkSays}
+use Rattle.streams.proofs.Walks.{Walked, first-name, run-first, walked-bad, walked-done, walked-more, walked-past, walked-place, walked-room, walked-short, walked-start, walked-table}
+use Rattle.runs.specs.Judging.{BlockSays}
+use Rattle.walk.specs.Walking.{NextSays, WalkSays}
+
+-- ---- a block and the name before it
+
+module _ (ρ : Rule) (b : Bytes) (o e m : ℕ) where
+  -- n is the length that the first entry tells
+  pub next-past : (prev name : Bytes) (n : ℕ) → n ≡ getD b (o + 1) 0 → e < o + 2 + n → 0 < m → NextSays ρ b o e m prev false name 0
+  next-past prev name n ne h some = λ l run up. lt-irrefl e (omega (arith, run-first ρ b e o [] m l some run .0 .fits))
+
+  -- r is what the code found of `&name[0..before]` and `&book[from..to]`, which is the first name
+  module _ (name : Bytes) (before n : ℕ) (r : Bool) (ne : n ≡ getD b (o + 1) 0)
+      (re : r ≡ less (word ρ (take (before - 0) name)) (word ρ (take (o + 2 + n - (o + 2)) (drop (o + 2) b)))) where
+    found : r ≡ less (word ρ (take before name)) (word ρ (nameAt b o []))
+    found = let z : before - 0 ≡ before = omega arith in
+        re ∙ ap₂ (λ (i : ℕ) (x : Bytes). less (word ρ (take i name)) (word ρ x)) z (sym (first-name b o n ne))
+
+    pub next-low : (out : Bytes) → not r ≡ true → NextSays ρ b o e m (take before name) false out 0
+    next-low out h = λ l run up. false≠true (sym (not-true r h) ∙ found ∙ up)
+
+    pub next-judged : (out : Bytes) (len : ℕ) (t : Bool) → not r ≡ false → BlockSays ρ b o e m t out len → NextSays ρ b o e m (take before name) t out len
+    next-judged out len true h k = (k, sym found ∙ not-false r h)
+    next-judged out len false h k = λ l run up. k l run
+
+-- ---- the loop over the blocks
 
 pub record Walking (ρ : Rule) (b : Bytes) (k s u n t o : ℕ) (name : Bytes) (len i : ℕ) : Type 0 where
   pub lawful : Sure ρ

@@ -1,0 +1,2 @@
+-- Laws of judging entries. No contract cites them.
+pub mod Judging
