@@ -20,7 +20,7 @@ use Rattle.shapes.specs.Salvage.{keptRow, salvaged}
 use Rattle.shapes.proofs.Salvage.{keptOf}
 use Rattle.shapes.specs.declared.Answer.{Answer}
 use Rattle.shapes.specs.declared.Kept.{Kept}
-use Rattle.salvage.specs.Cards.{BlockAsk}
+use Rattle.cards.specs.Cards.{BlockAsk}
 use Rattle.salvage.specs.Saving.{savedOf}
 use Rattle.book.proofs.Filling.{filled, filled-all}
 

@@ -205,7 +205,7 @@ pub extern "C" fn book_salvage(data: &[u8], room: &mut [u8], report: &mut [Kept]
     }
     let mut i = 0;
     while i < report.len() {
-        report[i] = salvage::judge_block(data, i);
+        report[i] = cards::judge_block(data, i);
         i += 1;
     }
     saved

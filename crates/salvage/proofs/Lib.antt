@@ -1,3 +1,2 @@
--- Laws of salvaging. No contract cites them.
-pub mod Cards
+-- Laws of saving the names of a worn card. No contract cites them.
 pub mod Saving

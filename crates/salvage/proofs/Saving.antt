@@ -34,8 +34,8 @@ use Rattle.shapes.specs.declared.Answer.{Answer}
 use Rattle.streams.specs.Streams.{EntryAt, Stream, entryEnd, nameAt}
 use Rattle.entries.specs.Reading.{NameRead}
 use Rattle.entries.proofs.Reading.{stream-next}
-use Rattle.salvage.specs.Cards.{BlockAsk, SpanIs, WholeSays}
-use Rattle.salvage.proofs.Cards.{block-found, block-kept, mapped-is, names-found}
+use Rattle.cards.specs.Cards.{BlockAsk, SpanIs, WholeSays}
+use Rattle.cards.proofs.Cards.{block-found, block-kept, mapped-is, names-found}
 use Rattle.salvage.specs.Saving.{BytesPut, NamesAsk, NamesPut, savedOf}
 
 -- ---- bytes in a room

@@ -1,152 +1,16 @@
-// What of damaged bytes can still be had: document 02, 'Books from a worn card'. The trailer and the block table are judged first, and no
-// node record is looked at. Then each block is judged alone, by the function that the check of a book uses, from its own bytes and the
-// number of its names; the names of those that stand go out as list records.
+// What of damaged bytes can still be had: document 02, 'Books from a worn card'. Crate `cards` tells which blocks stand; their names go out
+// as list records.
 ghost use mathlib.Core.Path.{_≡_};
 ghost use mathlib.Core.Bool.{true};
-ghost use Prim.Native.Nat.{_*_, _+_, _<_, _≤_};
-ghost use lib.ListN.{getD, length};
-ghost use Rattle.format.specs.Book.{told};
-ghost use Rattle.format.specs.Salvage.{Broken, blockCount, bounds, fromZero, mapped};
-ghost use Rattle.answers.specs.Salvage.{cardBlocks, recordsIn, reported, savedRecords};
-ghost use Rattle.shapes.specs.Salvage.{keptRow};
+ghost use Prim.Native.Nat.{_*_, _+_, _≤_};
+ghost use lib.ListN.{getD};
+ghost use Rattle.format.specs.Salvage.{Broken, mapped};
+ghost use Rattle.answers.specs.Salvage.{cardBlocks, recordsIn, savedRecords};
 ghost use Rattle.shapes.specs.Shapes.{written};
-ghost use Rattle.symbols.specs.Rules.{kindBy};
-ghost use Rattle.salvage.specs.Cards.{BlockAsk, PlainSays, SpanIs, Table, WholeAsk, WholeSays};
+ghost use Rattle.cards.specs.Cards.{BlockAsk};
 ghost use Rattle.salvage.specs.Saving.{BytesPut, NamesAsk, NamesPut, savedOf};
 use entries::Cursor;
 use shapes::Answer;
-use shapes::Kept;
-use symbols::Rule;
-
-// A block's span, and how many names it should have.
-pub struct Span {
-    pub start: usize,
-    pub end: usize,
-    pub names: usize,
-}
-
-// Where block i begins; behind the last one, where the entries end.
-fn bound(card: &[u8], i: usize) -> usize
-    requires { ⌜ Table (now card) i ⌝ }
-    ensures { λ r. ⌜ r ≡ getD (bounds (now (card .entry))) i 0 ⌝ }
-{
-    let table = trailer::blocks_at(card);
-    let slot = table + 2 * i;
-    if slot == trailer::nodes_at(card) {
-        return table;
-    }
-    numbers::number_at(card, slot)
-}
-
-// Whether the starts of so many blocks strictly rise from 0 on and lie before the block table.
-fn starts_rise(card: &[u8], count: usize) -> bool
-    requires { ⌜ Table (now card) count × (count ≡ blockCount (told (now card) 0) (told (now card) 1)) ⌝ }
-    ensures { λ r. ⌜ r ≡ fromZero (bounds (now (card .entry))) ⌝ }
-{
-    let mut at = bound(card, 0);
-    if at != 0 {
-        return false;
-    }
-    let mut i: usize = 0;
-    while i < count {
-        i += 1;
-        let next = bound(card, i);
-        if next <= at {
-            return false;
-        }
-        at = next;
-    }
-    true
-}
-
-// How many blocks so many names take.
-fn blocks_for(n: usize, k: usize) -> usize
-    requires { ⌜ (n ≤ 2000) × (1 ≤ k) × (k ≤ 64) ⌝ }
-    ensures { λ r. ⌜ (r ≡ blockCount n k) × (r ≤ 2000) ⌝ }
-{
-    (n + (k - 1)) / k
-}
-
-// Whether a card is a plain book's, by its rule: no other has a map.
-fn is_plain(rule: Rule) -> bool
-    ensures { λ r. ⌜ PlainSays (kindBy rule) r ⌝ }
-{
-    match rule {
-        Rule::Plain => true,
-        Rule::Folded => false,
-    }
-}
-
-// Whether the trailer and the block table make sense.
-fn is_mapped(card: &[u8]) -> bool
-    ensures { λ r. ⌜ r ≡ mapped (now (card .entry)) ⌝ }
-{
-    if !trailer::is_trailer(card) {
-        return false;
-    }
-    let t = trailer::read(card);
-    let rule = t.rule;
-    if !is_plain(rule) {
-        return false;
-    }
-    let table = numbers::wide16(t.blocks);
-    let count = blocks_for(numbers::wide16(t.names), numbers::wide16(t.block));
-    if table + 2 * count != numbers::wide16(t.nodes) {
-        return false;
-    }
-    starts_rise(card, count)
-}
-
-// How many blocks there are, where the map makes sense.
-fn block_count(card: &[u8]) -> usize
-    requires { ⌜ mapped (now card) ≡ true ⌝ }
-    ensures { λ r. ⌜ (r ≡ length (cardBlocks (now (card .entry)))) × (r ≤ 2000) ⌝ }
-{
-    let t = trailer::read(card);
-    blocks_for(numbers::wide16(t.names), numbers::wide16(t.block))
-}
-
-// The span of block i.
-fn span_of(card: &[u8], i: usize) -> Span
-    requires { ⌜ BlockAsk (now card) i ⌝ }
-    ensures { λ r. ⌜ SpanIs (now (card .entry)) i (r .start) (r .end) (r .names) ⌝ }
-{
-    let t = trailer::read(card);
-    let k = numbers::wide16(t.block);
-    let left = numbers::wide16(t.names) - i * k;
-    let start = bound(card, i);
-    let end = bound(card, i + 1);
-    Span {
-        start,
-        end,
-        names: numbers::lesser(left, k),
-    }
-}
-
-// Whether the entries of a block stand from its start to its end, judged alone.
-fn is_whole(card: &[u8], span: Span) -> bool
-    requires { ⌜ WholeAsk (now card) (span .start) (span .end) ⌝ }
-    ensures { λ r. ⌜ WholeSays (now (card .entry)) (span .start) (span .end) (span .names) r ⌝ }
-{
-    let mut name = [0u8; 200];
-    let last = runs::plain_block(card, span.start, span.end, span.names, &mut name);
-    last.ok
-}
-
-// The report row of block i.
-pub fn judge_block(card: &[u8], i: usize) -> Kept
-    requires { ⌜ BlockAsk (now card) i ⌝ }
-    ensures { λ r. ⌜ keptRow r ≡ reported (getD (cardBlocks (now (card .entry))) i Broken) ⌝ }
-{
-    let span = span_of(card, i);
-    if !is_whole(card, span) {
-        return Kept { kept: 0, names: 0 };
-    }
-    Kept {
-        kept: 1,
-        names: span.names,
-    }
-}
 
 // The records of the m names whose entries stand at `start`, behind the first `at` bytes of the room, as far as there is room for them;
 // and where they end. A name is rebuilt behind its length byte, so that its record is one part of an array.
@@ -177,8 +41,8 @@ fn put_block(card: &[u8], i: usize, room: &mut [u8], at: usize) -> usize
     requires { ⌜ BlockAsk (now card) i × (at ≤ 12864 * i) ⌝ }
     ensures { λ r. ⌜ BytesPut (recordsIn (getD (cardBlocks (now (card .entry))) i Broken)) (now (room .entry)) (now (room .exit)) at r × (r ≤ 12864 * (i + 1)) ⌝ }
 {
-    let span = span_of(card, i);
-    let whole = is_whole(card, span);
+    let span = cards::span_of(card, i);
+    let whole = cards::is_whole(card, span);
     if !whole {
         return at;
     }
@@ -190,7 +54,7 @@ fn put_blocks(card: &[u8], room: &mut [u8]) -> usize
     requires { ⌜ mapped (now card) ≡ true ⌝ }
     ensures { λ r. ⌜ BytesPut (savedRecords (cardBlocks (now (card .entry)))) (now (room .entry)) (now (room .exit)) 0 r ⌝ }
 {
-    let count = block_count(card);
+    let count = cards::block_count(card);
     let mut end: usize = 0;
     let mut i: usize = 0;
     while i < count {
@@ -205,10 +69,10 @@ fn put_blocks(card: &[u8], room: &mut [u8]) -> usize
 pub fn save_names(card: &[u8], rows: usize, room: &mut [u8]) -> Answer
     ensures { λ r. ⌜ written r (now (room .exit)) ≡ savedOf (now (card .entry)) rows (now (room .entry)) ⌝ }
 {
-    if !is_mapped(card) {
+    if !cards::is_mapped(card) {
         return shapes::refuse(13, 0);
     }
-    let count = block_count(card);
+    let count = cards::block_count(card);
     let none = 0;
     let size = put_blocks(card, &mut room[0..none]);
     if rows != count {

@@ -64,16 +64,16 @@ use Rattle.shapes.proofs.Answer.Laws as P′
 use Rattle.shapes.proofs.Salvage.{keptOf}
 use Rattle.shapes.proofs.Kept as K
 use Rattle.shapes.proofs.Kept.Laws as K′
-use Rattle.salvage.specs.Cards.{BlockAsk}
+use Rattle.cards.specs.Cards.{BlockAsk}
 use Rattle.salvage.specs.Saving.{savedOf}
 use Rattle.salvage.proofs.save_names as saves
 use Rattle.salvage.proofs.save_names.Symbol as saves-def
 use Rattle.salvage.proofs.save_names.Symbol.{name as #save-names}
 use Rattle.salvage.proofs.save_names.Met as saves-thm
-use Rattle.salvage.proofs.judge_block as judges
-use Rattle.salvage.proofs.judge_block.Symbol as judges-def
-use Rattle.salvage.proofs.judge_block.Symbol.{name as #judge-block}
-use Rattle.salvage.proofs.judge_block.Met as judges-thm
+use Rattle.cards.proofs.judge_block as judges
+use Rattle.cards.proofs.judge_block.Symbol as judges-def
+use Rattle.cards.proofs.judge_block.Symbol.{name as #judge-block}
+use Rattle.cards.proofs.judge_block.Met as judges-thm
 use Rattle.book.proofs.Filling.{filled, length-filled}
 use Rattle.book.proofs.Salvaging.{salvage-asks, salvage-done, salvage-refused, turned}
 use Rattle.book.proofs.Walking.{guards, not-not, tests, zero-holds}
@@ -374,4 +374,4 @@ book-salvage-spec 𝓤 H 𝓜 𝓖 𝓡 =
     (tables 𝓤 H 𝓜 𝓡 code.env .C) (tables 𝓤 H 𝓜 𝓡 code.env .Λ) #book-salvage code.function (code.unfolded 𝓤 H 𝓜 𝓡)
     (meets 𝓤 H (𝓖 .A) (givenOf 𝓤 H 𝓜 𝓖) (𝓜 .mem) (𝓡 .run) (tablesOf 𝓤 H 𝓜 (tables 𝓤 H 𝓜 𝓡 code.env))
     (cited 𝓤 H (Saves 𝓤 H (𝓖 .A) (𝓜 .mem) (𝓡 .run)) 𝓜 𝓡 code.env #save-names saves-def.routine code.calls-salvage·save-names (saves-thm.met 𝓤 H 𝓜 𝓖 𝓡))
-    (cited 𝓤 H (Judges 𝓤 H (𝓖 .A) (𝓜 .mem) (𝓡 .run)) 𝓜 𝓡 code.env #judge-block judges-def.routine code.calls-salvage·judge-block (judges-thm.met 𝓤 H 𝓜 𝓖 𝓡)))
+    (cited 𝓤 H (Judges 𝓤 H (𝓖 .A) (𝓜 .mem) (𝓡 .run)) 𝓜 𝓡 code.env #judge-block judges-def.routine code.calls-cards·judge-block (judges-thm.met 𝓤 H 𝓜 𝓖 𝓡)))

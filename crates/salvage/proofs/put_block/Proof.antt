@@ -2,7 +2,7 @@
 -- Assumes nothing.
 use native.Mathlib.Omega.{arith}
 use borrow.Author.Needs.{needs}
-use Rattle.salvage.proofs.Cards.{span-few}
+use Rattle.cards.proofs.Cards.{span-few}
 use Rattle.salvage.proofs.Saving.{block-left, block-put, names-ask}
 use Rattle.salvage.proofs.put_block.Statement.{statement}
 use Rattle.salvage.proofs.put_block.Tie as tie

@@ -1,7 +1,7 @@
 -- `salvage::save_names` meets its contract: what was counted tells the way out, and counting has left the room as it was.
 -- Assumes nothing.
 use borrow.Author.Needs.{needs}
-use Rattle.salvage.proofs.Cards.{mapped-is}
+use Rattle.cards.proofs.Cards.{mapped-is}
 use Rattle.salvage.proofs.Saving.{save-put, save-rows, save-short, save-unmapped}
 use Rattle.salvage.proofs.save_names.Statement.{statement}
 use Rattle.salvage.proofs.save_names.Tie as tie

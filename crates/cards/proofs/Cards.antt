@@ -42,7 +42,7 @@ use Rattle.trailer.specs.Trailer.{Trail, TrailSays, markBack, markFront, traile
 use Rattle.trailer.specs.declared.Trailer.{Trailer}
 use Rattle.streams.proofs.Alone.{alone-run, run-alone}
 use Rattle.runs.specs.Judging.{BlockSays}
-use Rattle.salvage.specs.Cards.{BlockAsk, PlainSays, SpanIs, Table, WholeSays}
+use Rattle.cards.specs.Cards.{BlockAsk, PlainSays, SpanIs, Table, WholeSays}
 
 -- ---- the trailer
 

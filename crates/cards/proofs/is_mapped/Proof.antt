@@ -1,13 +1,13 @@
--- `salvage::is_mapped` meets its contract: the trailer fails, the parts do not meet, or the starts decide.
+-- `cards::is_mapped` meets its contract: the trailer fails, the parts do not meet, or the starts decide.
 -- Assumes nothing.
 use native.Mathlib.Omega.{arith}
 use mathlib.Core.Path.{ap}
 use borrow.Author.Needs.{needs}
 use Rattle.trailer.specs.Trailer.{Trail}
 use Rattle.trailer.specs.declared.Trailer.{Trailer}
-use Rattle.salvage.proofs.Cards.{MapRead, is-plain, map-climbs, map-read, not-met, not-plain, not-trailed, table-ask, trailed}
-use Rattle.salvage.proofs.is_mapped.Statement.{statement}
-use Rattle.salvage.proofs.is_mapped.Tie as tie
+use Rattle.cards.proofs.Cards.{MapRead, is-plain, map-climbs, map-read, not-met, not-plain, not-trailed, table-ask, trailed}
+use Rattle.cards.proofs.is_mapped.Statement.{statement}
+use Rattle.cards.proofs.is_mapped.Tie as tie
 
 -- the trailer passes
 passed : (c : tie.Else1) → Trail (c .before .before .before .args .card .now)

@@ -1,9 +1,9 @@
--- `salvage::judge_block` meets its contract: the row says what the check of the block says.
+-- `cards::judge_block` meets its contract: the row says what the check of the block says.
 -- Assumes nothing.
 use borrow.Author.Needs.{needs}
-use Rattle.salvage.proofs.Cards.{row-dropped, row-kept}
-use Rattle.salvage.proofs.judge_block.Statement.{statement}
-use Rattle.salvage.proofs.judge_block.Tie as tie
+use Rattle.cards.proofs.Cards.{row-dropped, row-kept}
+use Rattle.cards.proofs.judge_block.Statement.{statement}
+use Rattle.cards.proofs.judge_block.Tie as tie
 
 returns : tie.Need-returns
 returns c =

@@ -1,9 +1,9 @@
--- `salvage::is_whole` meets its contract: it says what the check of a block says.
+-- `cards::is_whole` meets its contract: it says what the check of a block says.
 -- Assumes nothing.
 use borrow.Author.Needs.{needs}
-use Rattle.salvage.proofs.Cards.{whole-says}
-use Rattle.salvage.proofs.is_whole.Statement.{statement}
-use Rattle.salvage.proofs.is_whole.Tie as tie
+use Rattle.cards.proofs.Cards.{whole-says}
+use Rattle.cards.proofs.is_whole.Statement.{statement}
+use Rattle.cards.proofs.is_whole.Tie as tie
 
 returns : tie.Need-returns
 returns c =

@@ -1,10 +1,10 @@
--- `salvage::span_of` meets its contract: two bounds, and the names that are left, or a block's.
+-- `cards::span_of` meets its contract: two bounds, and the names that are left, or a block's.
 -- Assumes nothing.
 use native.Mathlib.Omega.{arith}
 use borrow.Author.Needs.{needs}
-use Rattle.salvage.proofs.Cards.{mapped-long, span-behind, span-few, span-first, span-is, span-names}
-use Rattle.salvage.proofs.span_of.Statement.{statement}
-use Rattle.salvage.proofs.span_of.Tie as tie
+use Rattle.cards.proofs.Cards.{mapped-long, span-behind, span-few, span-first, span-is, span-names}
+use Rattle.cards.proofs.span_of.Statement.{statement}
+use Rattle.cards.proofs.span_of.Tie as tie
 
 returns : tie.Need-returns
 returns c =

@@ -1,4 +1,4 @@
--- `salvage::block_count` meets its contract: as many as the names take.
+-- `cards::block_count` meets its contract: as many as the names take.
 -- Assumes nothing.
 use native.Mathlib.Omega.{arith}
 use mathlib.Core.Path.{_∙_, ap, ap₂, sym}
@@ -6,9 +6,9 @@ use borrow.Author.Needs.{needs}
 use Rattle.format.specs.Salvage.{blockCount}
 use Rattle.answers.proofs.Salvage.{blocks-many}
 use Rattle.trailer.specs.declared.Trailer.{Trailer}
-use Rattle.salvage.proofs.Cards.{mapped-few, mapped-high, mapped-long, mapped-low}
-use Rattle.salvage.proofs.block_count.Statement.{statement}
-use Rattle.salvage.proofs.block_count.Tie as tie
+use Rattle.cards.proofs.Cards.{mapped-few, mapped-high, mapped-long, mapped-low}
+use Rattle.cards.proofs.block_count.Statement.{statement}
+use Rattle.cards.proofs.block_count.Tie as tie
 
 blocks-for-requires : tie.Need-blocks-for-requires
 blocks-for-requires c κs =

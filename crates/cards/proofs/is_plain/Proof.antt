@@ -1,9 +1,9 @@
--- `salvage::is_plain` meets its contract.
+-- `cards::is_plain` meets its contract.
 -- Assumes nothing.
 use borrow.Author.Needs.{needs}
-use Rattle.salvage.proofs.Cards.{folded-kind, plain-kind}
-use Rattle.salvage.proofs.is_plain.Statement.{statement}
-use Rattle.salvage.proofs.is_plain.Tie as tie
+use Rattle.cards.proofs.Cards.{folded-kind, plain-kind}
+use Rattle.cards.proofs.is_plain.Statement.{statement}
+use Rattle.cards.proofs.is_plain.Tie as tie
 
 pub is-plain-spec : {M : Type 1} → statement M
 is-plain-spec =

@@ -1,11 +1,11 @@
--- `salvage::blocks_for` meets its contract: there are no more blocks than names.
+-- `cards::blocks_for` meets its contract: there are no more blocks than names.
 -- Assumes nothing.
 use native.Mathlib.Omega.{arith}
 use mathlib.Core.Path.{refl}
 use borrow.Author.Needs.{needs}
 use Rattle.format.proofs.Salvage.{count-few}
-use Rattle.salvage.proofs.blocks_for.Statement.{statement}
-use Rattle.salvage.proofs.blocks_for.Tie as tie
+use Rattle.cards.proofs.blocks_for.Statement.{statement}
+use Rattle.cards.proofs.blocks_for.Tie as tie
 
 pub blocks-for-spec : {M : Type 1} → statement M
 blocks-for-spec =

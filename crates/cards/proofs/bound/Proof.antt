@@ -1,9 +1,9 @@
--- `salvage::bound` meets its contract: it reads a start, or the last bound is where the block table begins.
+-- `cards::bound` meets its contract: it reads a start, or the last bound is where the block table begins.
 -- Assumes nothing.
 use borrow.Author.Needs.{needs}
-use Rattle.salvage.proofs.Cards.{bound-inner, bound-last}
-use Rattle.salvage.proofs.bound.Statement.{statement}
-use Rattle.salvage.proofs.bound.Tie as tie
+use Rattle.cards.proofs.Cards.{bound-inner, bound-last}
+use Rattle.cards.proofs.bound.Statement.{statement}
+use Rattle.cards.proofs.bound.Tie as tie
 
 returns : tie.Need-returns
 returns c = bound-last (c .before .before .before .before .pre) (c .before .before .blocks-at .ensures .0) (c .before .nodes-at .ensures .0) (c .if1 .taken)

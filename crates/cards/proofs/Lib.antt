@@ -1,0 +1,2 @@
+-- Laws of a worn card. No contract cites them.
+pub mod Cards
