@@ -1,6 +1,6 @@
 // The public calls. None asks anything of its caller: any bytes, any numbers and any lengths are taken, and every call ends. Each has
 // one statement: its answer and all that was lent, as they are when it ends, equal a function of what came in. They are exported for C
-// and Rust; a slice is a pointer and a length. A call over a book goes by the rule of the book's own mark, which its statement names. Inner
+// and Rust; a slice is a pointer and a length. A call over a book goes by the book's own mark. Inner
 // functions, which may ask something, stand in the crates below.
 pub use shapes::Answer;
 pub use shapes::Head;

@@ -1,4 +1,4 @@
--- Document 02, CR 3: what nearest's number says of names, of any call that answers as they do by a lawful rule (nearest is kind 4); the public call on an accepted
+-- Document 02, CR 3: what nearest's number says of names, of any call that answers as they do (nearest is kind 4); the public call on an accepted
 -- book is one (book-answers in Ranges). A place where the lit part may end is one that is 0, the question's length, or before a byte that begins a character.
 --     nearest-given     the position is the plain list's; the number is what can be lit of what that name shares
 --     nearest-number    the number by itself

@@ -1,4 +1,4 @@
--- Document 02, CR 12: testers check nearest by eye against the sorted sheet. Of any call that answers as some names do by a lawful rule (place is kind 2, range 3,
+-- Document 02, CR 12: testers check nearest by eye against the sorted sheet. Of any call that answers as some names do (place is kind 2, range 3,
 -- nearest 4), and a question that is not refused; the public call on an accepted book is one (book-answers in Ranges).
 --     neighbours-tell   nearest's number is the greater of those that the names at place less 1 and at place would give, whichever of these exist
 --     range-nested      the names in the range of a longer question all lie in the range of any beginning of it

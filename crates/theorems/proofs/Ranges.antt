@@ -1,4 +1,4 @@
--- The range of a question, by names, of any call that answers as some names do by a lawful rule (range is kind 3).
+-- The range of a question, by names, of any call that answers as some names do (range is kind 3).
 --     names-answer, book-answers     the names by themselves do; and so does the public call on every accepted book
 --     asks              what a question that is not refused gets
 --     InRange, begun, in-range     a position in the range: its name begins with the question; and the other way round

@@ -1,4 +1,4 @@
--- Document 02, CR 1: what a width says of names, of any call that answers as they do by a lawful rule: range is kind 3, width 5. The public call on an accepted book is
+-- Document 02, CR 1: what a width says of names, of any call that answers as they do: range is kind 3, width 5. The public call on an accepted book is
 -- one (book-answers in Ranges).
 --     width-given       an accepted book and a question that is not too long get an answer, also where there is no name
 --     width-most        no name of the range is longer
