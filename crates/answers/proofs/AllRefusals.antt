@@ -1,6 +1,6 @@
 -- All refusals of all calls, computed: each alone, and beside its neighbour in the order of refusals, which is then not the one that is given. What was lent
--- is left as it was. The books are document 01's by two, the same with one byte changed, and the one without names. Each line has what the documents say
--- and not what a branch of a definition says, so a wrong definition shows here by its numbers.
+-- is left as it was. The books are document 01's by two, the same with one byte changed, the same with a shared count that is smaller than it could be, and
+-- the one without names. Each line has what the documents say and not what a branch of a definition says, so a wrong definition shows here by its numbers.
 --     build-refusals    8, 5, 6, 4; lists too long for a book, 7 and 9, are computed in the theorems' Edges
 --     check-refusals, read-refusals, question-refusals
 --     batch-refusals, batch-taken, batch-rows-alone, batch-rows-none
@@ -47,9 +47,15 @@ marina = 6 ∷ text "Marina"
 abbrev pub market : Bytes
 market = 13 ∷ text "Market Square"
 
--- Marina's entry shares 2 bytes with Mar, and not the 3 that it could: no book
+-- Marina's entry says that it shares 2 bytes with Mar, so its name is Maina, which is not above Mar: no book
 abbrev pub broken : Bytes
 broken = set exampleBy2 5 2
+
+-- Marina's entry shares 2 bytes with Mar and has a rest of four, though it could share 3: the names are the same, and it is no book
+abbrev pub smallerCount : Bytes
+smallerCount =
+    0 ∷ 3 ∷ text "Mar" ++ (2 ∷ 4 ∷ text "rina" ++ (0 ∷ 13 ∷ text "Market Square" ++ (0 ∷ 0 ∷ 11 ∷ 0 ∷ take 48 (drop 29 exampleBy2) ++
+    (3 ∷ 0 ∷ 2 ∷ 0 ∷ 26 ∷ 0 ∷ 30 ∷ 0 ∷ 4 ∷ 0 ∷ 94 ∷ 0 ∷ 0x4E ∷ 0x42 ∷ 0x4B ∷ 0x32 ∷ []))))
 
 abbrev pub noNames : Bytes
 noNames = 0 ∷ 0 ∷ 2 ∷ 0 ∷ 0 ∷ 0 ∷ 0 ∷ 0 ∷ 0 ∷ 0 ∷ 16 ∷ 0 ∷ 0x4E ∷ 0x42 ∷ 0x4B ∷ 0x32 ∷ []
@@ -77,8 +83,8 @@ build-refusals = refl
 
 -- ---- check: 2
 
-pub check-refusals : map (λ (s : Bytes). check s) (broken ∷ [] ∷ take 92 exampleBy2 ∷ drop 1 exampleBy2 ∷ (exampleBy2 ++ (0 ∷ [])) ∷ set noNames 2 0 ∷ set noNames 2 65 ∷ noNames ∷ exampleBy2 ∷ exampleBy4 ∷ [])
-    ≡ refused 2 ∷ refused 2 ∷ refused 2 ∷ refused 2 ∷ refused 2 ∷ refused 2 ∷ refused 2 ∷ given 0 2 ∷ given 3 2 ∷ given 3 4 ∷ []
+pub check-refusals : map (λ (s : Bytes). check s) (smallerCount ∷ broken ∷ [] ∷ take 92 exampleBy2 ∷ drop 1 exampleBy2 ∷ (exampleBy2 ++ (0 ∷ [])) ∷ set noNames 2 0 ∷ set noNames 2 65 ∷ noNames ∷ exampleBy2 ∷ exampleBy4 ∷ [])
+    ≡ refused 2 ∷ refused 2 ∷ refused 2 ∷ refused 2 ∷ refused 2 ∷ refused 2 ∷ refused 2 ∷ refused 2 ∷ given 0 2 ∷ given 3 2 ∷ given 3 4 ∷ []
 unfolding shared less begins same depth glue groups widest rowBy tableWithin nodeTable table numbers joined entry blocksFrom front blocks offsets entryPart blockPart allFields trailer bookBy decodeFrom decode number rising sound fitsBy namesOf isBookBy opened checkOf check
 check-refusals = refl
 

@@ -46,6 +46,6 @@ pub record Faithful (s : Bytes) (a : Salvaged) : Type 0 where
   pub records : take (a .answer .first) (a .room) ≡ savedRecords blocks
   pub proper : (i : ℕ) (xs : List Bytes) → i < length blocks → getD blocks i Broken ≡ Whole xs → Proper (getD (spans s) i (0, []) .0) (getD (spans s) i (0, []) .1) xs
 
--- Marina's entry shares 2 bytes with Mar, and not the 3 that it could
+-- Marina's entry says that it shares 2 bytes with Mar, so its name is Maina, which is not above Mar
 abbrev pub worn : Bytes
 worn = set exampleBy2 5 2
