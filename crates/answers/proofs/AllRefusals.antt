@@ -6,7 +6,7 @@
 --     batch-refusals, batch-taken, batch-rows-alone, batch-rows-none
 --     judge-refusals, merge-refusals, put-2001, put-2000, merge-taken     5 and 6 of either list; 4; 7 of the names that a merge has put together
 --     head-refusals, heads-computed
---     salvage-refusals, salvage-taken-just
+--     salvage-refusals, salvage-trailers, salvage-taken-just
 -- Assumes nothing.
 use Prim.Native.Nat.{ℕ}
 use mathlib.Core.Path.{_≡_, refl}
@@ -246,6 +246,14 @@ cards =
 pub salvage-refusals : map (λ (c : CardRow). salvage (c .0) (lent (c .1)) (leftReport (c .2))) cards ≡ map (λ (c : CardRow). record { answer = refused (c .3); room = lent (c .1); rows = leftReport (c .2) }) cards
 unfolding shared less joined encode decode decodeFrom entry front rising boundsFrom climbs spansFrom mapped judgedAlone salvage salvageFrom number same begins
 salvage-refusals = refl
+
+-- each number of the trailer off by one, but for a fourth name, which has its place in the second block: 13
+pub salvage-trailers : map (λ (s : Bytes). salvage s (lent 25) (leftReport 2))
+    (set exampleBy2 77 2 ∷ set exampleBy2 79 1 ∷ set exampleBy2 79 3 ∷ set exampleBy2 81 24 ∷ set exampleBy2 81 26 ∷ set exampleBy2 83 28 ∷ set exampleBy2 83 30
+    ∷ set exampleBy2 85 3 ∷ set exampleBy2 85 5 ∷ set exampleBy2 87 92 ∷ set exampleBy2 87 94 ∷ [])
+    ≡ replicate 11 (record { answer = refused 13; room = lent 25; rows = leftReport 2 })
+unfolding shared less joined encode decode decodeFrom entry front rising boundsFrom climbs spansFrom mapped judgedAlone salvage salvageFrom number same begins
+salvage-trailers = refl
 
 -- a room of just the length; and n = 0: no rows and no bytes
 pub salvage-taken-just : salvage exampleBy2 (lent 25) (leftReport 2) ∷ salvage broken (lent 14) (leftReport 2) ∷ salvage noNames [] [] ∷ []
