@@ -2,6 +2,7 @@
 -- is left as it was. The books are document 01's by two, the same with one byte changed, the same with a shared count that is smaller than it could be, and
 -- the one without names. Each line has what the documents say and not what a branch of a definition says, so a wrong definition shows here by its numbers.
 --     build-refusals    8, 5, 6, 4; lists too long for a book, 7 and 9, are computed in the theorems' Edges
+--     mar-twice         a folded build of Mar and mar: 6
 --     check-refusals, read-refusals, question-refusals
 --     batch-refusals, batch-taken, batch-rows-alone, batch-rows-none
 --     judge-refusals, merge-refusals, put-2001, put-2000, merge-taken     5 and 6 of either list; 4; 7 of the names that a merge has put together
@@ -16,7 +17,7 @@ use Rattle.words.specs.Words.{Bytes, begins, less, same, shared}
 use Rattle.format.specs.Book.{blockPart, bookBy, entryPart, fitsBy, isBookBy, joined, namesOf, number, numbers, opened, trailer}
 use Rattle.format.specs.Entries.{blocks, blocksFrom, decode, decodeFrom, entry, front, offsets}
 use Rattle.format.specs.Example.{exampleBy2, exampleBy4, text}
-use Rattle.format.specs.Kinds.{PlainBook}
+use Rattle.format.specs.Kinds.{FoldedBook, PlainBook}
 use Rattle.format.specs.Merging.{kept, merged}
 use Rattle.format.specs.Nodes.{allFields, depth, glue, groups, rowBy, table, tableWithin}
 use Rattle.format.specs.Outcomes.{Answer, Written, checkOf, given, numbered, refused}
@@ -80,6 +81,11 @@ builds =
 pub build-refusals : map (λ (c : BuildRow). build PlainBook (c .0) (c .1) (lent (c .2))) builds ≡ map (λ (c : BuildRow). record { answer = numbered (c .3 .0) (c .3 .1); room = lent (c .2) }) builds
 unfolding shared less depth glue groups widest rowBy tableWithin nodeTable table numbers joined entry blocksFrom front blocks offsets entryPart blockPart allFields trailer bookBy encode readFrom readList builtFrom buildBy
 build-refusals = refl
+
+-- two names of a plain list, which are one name once folded: 6 with the second record, and the room as it was
+pub mar-twice : build FoldedBook (mar ++ (3 ∷ text "mar")) 2 (lent 99) ≡ record { answer = numbered 6 1; room = lent 99 }
+unfolding shared less depth glue groups widest rowBy tableWithin nodeTable table numbers joined entry blocksFrom front blocks offsets entryPart blockPart allFields trailer bookBy encode readFrom readList builtFrom buildBy
+mar-twice = refl
 
 -- ---- check: 2
 

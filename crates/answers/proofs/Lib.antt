@@ -2,7 +2,6 @@
 pub mod Accents
 pub mod AllRefusals
 pub mod Beside
-pub mod Doubles
 pub mod Places
 pub mod Nearest
 pub mod Widths
