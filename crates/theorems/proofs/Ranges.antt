@@ -1,5 +1,5 @@
 -- The range of a question, by names, of any call that answers as some names do (range is kind 3).
---     names-answer, book-answers     the names by themselves do; and so does the public call on every accepted book
+--     names-answer, layout-answers, book-answers     the names by themselves do; so do those that a book by any layout tells; and so does the public call on every accepted book
 --     asks              what a question that is not refused gets
 --     InRange, begun, in-range     a position in the range: its name begins with the question; and the other way round
 -- Assumes nothing.
@@ -14,8 +14,9 @@ use lib.ListN.{getD, length, length-map}
 use borrow.Author.Tests.{le-leb, leb-true, lt-ltb, ltb-true}
 use Rattle.words.specs.Words.{Bytes, Rule, begins, both, word}
 use Rattle.words.proofs.Words.{both-true}
-use Rattle.format.specs.Kinds.{BookKind, ruleOf}
-use Rattle.format.specs.Book.{Book, opened}
+use Rattle.format.specs.Kinds.{BookKind, Form, ruleOf}
+use Rattle.format.specs.Layout.{Layout}
+use Rattle.format.specs.Book.{Book, namesOf, opened}
 use Rattle.format.specs.Outcomes.{Answer, given}
 use Rattle.format.specs.Records.{longest, sound}
 use Rattle.format.proofs.Book.{book-opened, fits-parts}
@@ -23,13 +24,19 @@ use Rattle.answers.specs.Calls.{namesAnswer, question, questionOf}
 use Rattle.answers.specs.Questions.{answer, ask, range}
 use Rattle.answers.proofs.Calls.{question-given}
 use Rattle.answers.proofs.Places.{range-le}
-use Rattle.theorems.specs.Layouts.{AllLettered, Answers}
-use Rattle.theorems.proofs.Lettered.{kind-names}
+use Rattle.theorems.specs.Layouts.{AllLettered, Answers, BookBy}
+use Rattle.theorems.proofs.Books.{book-fits, layout-iff}
+use Rattle.theorems.proofs.Lettered.{kind-names, lawful-names}
 use Rattle.theorems.proofs.Questions.{range-is}
 
 -- the names by themselves
 pub names-answer : (ρ : Rule) (xs : List Bytes) → AllLettered ρ xs → sound ρ xs ≡ true → Answers ρ xs (λ kind q. namesAnswer ρ kind q xs)
 names-answer ρ xs letters is = record { letters = letters; sound = is; is = λ kind q. refl }
+
+-- the names that a book tells, by any lawful rule, form of table and mark
+pub layout-answers : {ρ : Rule} {f : Form} {mark : Bytes} → Layout ρ f mark → {s : Bytes} {k : ℕ} {xs : List Bytes} → BookBy ρ f mark s k xs → Answers ρ xs (λ kind q. namesAnswer ρ kind q (namesOf s))
+layout-answers {ρ} y {s} {k} {xs} b =
+    record { letters = lawful-names ρ (y .lawful) xs (b .letters); sound = fits-parts k xs (book-fits y b) .sound; is = λ kind q. ap (namesAnswer ρ kind q) (layout-iff y s k xs .1 b .3) }
 
 -- an accepted book, of every kind
 pub book-answers : (κ : BookKind) (s : Bytes) (k : ℕ) (xs : List Bytes) → opened s ≡ Book κ k xs → Answers (ruleOf κ) xs (λ kind q. question kind s q)
