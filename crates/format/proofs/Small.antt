@@ -80,7 +80,6 @@ pub table-small : (ws : Words) → Rises ws → All Modest ws → length ws ≤ 
 unfolding table nodeTable
 table-small ws r a n = within-small (length ws) 0 0 ws r a (omega arith) (omega arith) (omega arith)
 
--- field j of node v, in the row of all fields
 -- ---- names of bytes
 
 abbrev Small : Bytes → Type 0
