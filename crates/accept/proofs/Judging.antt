@@ -14,7 +14,7 @@ use lib.ListN.{length}
 use lib.Seq.{slice}
 use Rattle.words.specs.Words.{Bytes, InBytes, Rule, same}
 use Rattle.words.proofs.Words.{false≠true}
-use Rattle.format.specs.Kinds.{Form, formOf, kindOf, ruleIn, tableIn}
+use Rattle.format.specs.Kinds.{Form, kindOf, ruleIn, tableIn}
 use Rattle.format.specs.Spans.{isTable, nodePart, wordsOf}
 use Rattle.format.proofs.BookKinds.{full-rows, kind-layout, kind-sure}
 use Rattle.format.specs.Book.{Book, NoBook, Opened, numbers, opened, trailerSize, namesOf, told}

@@ -5,7 +5,7 @@
 use Prim.Native.Nat.{ℕ}
 use mathlib.Core.Path.{_≡_, refl}
 use mathlib.Core.Bool.{false, true}
-use mathlib.Core.List.{List, [], _∷_, _++_, map}
+use mathlib.Core.List.{[], _∷_, _++_, map}
 use Rattle.words.specs.Words.{Bytes, begins, less, same, shared}
 use Rattle.format.specs.Book.{blockPart, bookBy, entryPart, fitsBy, isBookBy, joined, namesOf, number, numbers, opened, trailer}
 use Rattle.format.specs.Entries.{blocks, blocksFrom, decode, decodeFrom, entry, front, offsets}

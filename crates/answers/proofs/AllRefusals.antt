@@ -12,7 +12,7 @@
 use Prim.Native.Nat.{ℕ}
 use mathlib.Core.Path.{_≡_, refl}
 use mathlib.Core.List.{List, [], _∷_, _++_, map}
-use lib.ListN.{drop, length, replicate, set, take}
+use lib.ListN.{drop, replicate, set, take}
 use Rattle.words.specs.Words.{Bytes, begins, less, same, shared}
 use Rattle.format.specs.Book.{blockPart, bookBy, entryPart, fitsBy, isBookBy, joined, namesOf, number, numbers, opened, trailer}
 use Rattle.format.specs.Entries.{blocks, blocksFrom, decode, decodeFrom, entry, front, offsets}
@@ -20,17 +20,17 @@ use Rattle.format.specs.Example.{exampleBy2, exampleBy4, text}
 use Rattle.format.specs.Kinds.{FoldedBook, PlainBook}
 use Rattle.format.specs.Merging.{kept, merged}
 use Rattle.format.specs.Nodes.{allFields, depth, glue, groups, rowBy, table, tableWithin}
-use Rattle.format.specs.Outcomes.{Answer, Written, checkOf, given, numbered, refused}
+use Rattle.format.specs.Outcomes.{Answer, checkOf, given, numbered, refused}
 use Rattle.format.specs.Records.{encode, readFrom, readList, rising, sound}
 use Rattle.format.specs.Salvage.{boundsFrom, climbs, judgedAlone, mapped, spansFrom}
 use Rattle.format.specs.Spans.{nodeTable}
 use Rattle.format.specs.Widths.{widest}
-use Rattle.answers.specs.Calls.{Batched, Row, batch, batchOf, build, buildBy, builtFrom, check, namesAnswer, question, questionOf, readBack, readBackOf, rowAnswer}
+use Rattle.answers.specs.Calls.{Row, batch, batchOf, build, buildBy, builtFrom, check, namesAnswer, question, questionOf, readBack, readBackOf, rowAnswer}
 use Rattle.answers.specs.Heads.{Head, headOf, lesserHead}
 use Rattle.answers.specs.Lit.{lit, mayEnd}
 use Rattle.answers.specs.Merging.{judgeLists, mergeLists, ofReadings, putNames}
 use Rattle.answers.specs.Questions.{answer, ask, childOf, count, exact, exactFrom, nearest, place, range, reachWithin, reached}
-use Rattle.answers.specs.Salvage.{Salvaged, salvage, salvageFrom}
+use Rattle.answers.specs.Salvage.{salvage, salvageFrom}
 use Rattle.answers.specs.Widths.{width}
 
 -- ---- what comes in

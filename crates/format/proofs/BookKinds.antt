@@ -12,7 +12,7 @@ use mathlib.Core.Bool.{Bool, true, false}
 use lib.Dec.{leb}
 use lib.ListN.{getD, length}
 use borrow.Author.Tests.{leb-true}
-use Rattle.words.specs.Words.{both, pick, plain}
+use Rattle.words.specs.Words.{pick, plain}
 use Rattle.words.specs.Rising.{All, cons, nil, Sure}
 use Rattle.words.proofs.Words.{both-true, sure-lawful}
 use Rattle.format.specs.Folded.{capital, folded}

@@ -18,7 +18,7 @@ use mathlib.Core.List.{[], _∷_}
 use lib.Dec.{eqb, leb, ltb}
 use borrow.Author.Tests.{eq-eqb, eqb-false, eqb-true, le-leb, leb-false, leb-true, le-ltb, lt-leb, lt-ltb, ltb-false, ltb-true, ne-eqb, not-false, not-true}
 use lib.ListN.{length, getD, length-map}
-use Rattle.words.specs.Words.{Bytes, at, both, less, pick, plain, shared, word}
+use Rattle.words.specs.Words.{Bytes, at, less, pick, plain, shared, word}
 use Rattle.words.specs.Rising.{Sure}
 use Rattle.words.proofs.Words.{at-past, false≠true, less-by, part-at, shared-comm, shared-le, shared-more, shared-other, word-at}
 use Rattle.format.specs.Folded.{capital}

@@ -9,7 +9,7 @@
 --     check-iff, check-no     the check gives 0, n and k just where the bytes are the book of some kind, of some n names with block size k; and 2 just where they are the book of none
 --     one-list          one book, one kind, one list of names and one block size
 -- Assumes nothing.
-use Prim.Native.Nat.{ℕ, suc, _≤_, _<_}
+use Prim.Native.Nat.{ℕ, suc, _≤_}
 use native.Mathlib.Omega.{arith}
 use mathlib.Core.Path.{_≡_, refl, sym, ap, _∙_, subst}
 use mathlib.Core.Logic.{_↔_}

@@ -10,7 +10,7 @@ use mathlib.Core.Bool.{false, true}
 use mathlib.Core.List.{List, [], _∷_, _++_, map}
 use lib.ListN.{replicate}
 use Rattle.words.specs.Words.{Bytes, less, shared}
-use Rattle.format.specs.Book.{blockPart, book, bookBy, entryPart, joined, numbers, trailer}
+use Rattle.format.specs.Book.{blockPart, bookBy, entryPart, joined, numbers, trailer}
 use Rattle.format.specs.Entries.{blocks, blocksFrom, entry, front, offsets}
 use Rattle.format.specs.Example.{text}
 use Rattle.format.specs.Kinds.{PlainBook}

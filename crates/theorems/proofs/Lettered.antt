@@ -3,8 +3,7 @@
 --     kind-lettered, kind-names         by a kind's rule
 --     lettered-positive, names-symbols  no symbol of them is the end symbol
 -- Assumes nothing.
-use Prim.Native.Nat.{ℕ, zero, suc, _<_}
-use native.Mathlib.Nat.{not-suc-le-zero}
+use Prim.Native.Nat.{ℕ, suc, _<_}
 use native.Mathlib.Omega.{arith}
 use mathlib.Core.List.{List, [], _∷_}
 use lib.ListN.{getD, length}

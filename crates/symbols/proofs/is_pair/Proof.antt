@@ -1,6 +1,5 @@
 -- `symbols::is_pair` meets its contract.
 -- Assumes nothing.
-use native.Mathlib.Omega.{arith}
 use borrow.Author.Needs.{needs}
 use Rattle.symbols.proofs.Symbols.{pair-capital, pair-fits, pair-small}
 use Rattle.symbols.proofs.is_pair.Statement.{statement}
