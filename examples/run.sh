@@ -3,9 +3,10 @@
 #
 #   examples/run.sh [ARCHIVE]        without ARCHIVE: what `rt staticlib book` writes, made again only where sources changed
 #
-# stops.c goes through all calls. renamed.c is linked with a copy of the archive in which the calls have other names, where there is an objcopy
-# that knows x86-64 (of binutils or LLVM, or what OBJCOPY names); else it is left out, and a line says so. blocks.c tries what the header itself
-# computes, and wants no library. Where there is a C++ compiler, it compiles the last two, too, and empty.cpp.
+# stops.c goes through all calls, and renamed.c has a table of them; both are held to the header's. renamed.c is linked with a copy of the
+# archive in which the calls have other names, where there is an objcopy that knows x86-64 (of binutils or LLVM, or what OBJCOPY names); else it
+# is left out, and a line says so. blocks.c tries what the header itself computes, and wants no library. Where there is a C++ compiler, it
+# compiles the last two, too, and empty.cpp.
 #
 # Each failure ends it with status 1. The library is for x86-64, and there the system's compilers are used (CC and CXX, else cc and
 # c++). Elsewhere the system's compiler only puts in what the examples include; the kit's compiles them for x86-64, and the kit's emulator
@@ -64,6 +65,16 @@ with_the_kit() {
 
 with=with_the_system
 if [ "$machine" != x86_64 ] || [ "${MISTROGU_KIT:-0}" = 1 ]; then with=with_the_kit; fi
+
+# Both have every call that the header declares: stops.c makes it, and the table of renamed.c has it by its new name, and no other.
+sed -n 's/.* MISTROGU_CALL(\(.*\))($/\1/p' include/mistrogu.h | sort >"$work/calls.txt"
+while read -r call; do
+    grep -qE "(^|[^a-z_])$call\\(" examples/stops.c || fail "stops.c does not call $call"
+done <"$work/calls.txt"
+grep -o '(any_call)transit_[a-z_]*' examples/renamed.c | sed 's/.*)transit_//' | sort >"$work/renamed.txt"
+odd=$(comm -3 "$work/calls.txt" "$work/renamed.txt")
+[ -z "$odd" ] || fail "the table of renamed.c and the header differ in these calls:
+$odd"
 
 "$with" stops "$archive" || fail "the library does not answer stops.c as documents 01 and 02 say"
 
