@@ -137,7 +137,7 @@ row kind start size = record { kind = kind; start = start; size = size }
 abbrev pub leftRows : ℕ → List Answer
 leftRows n = replicate n (record { code = 7; first = 7; second = 7 })
 
--- 214 bytes: Marina, 201 letters, Maxim and M
+-- 214 bytes: Marina, 201 letters, Maxim and MM
 abbrev pub buffer : Bytes
 buffer = text "Marina" ++ (over200 ++ text "Maxim" ++ text "MM")
 

@@ -1,4 +1,4 @@
--- How a salvage goes, by the ways that its parts go. How names are saved and what a block's row is, is in the crate salvage.
+-- How a salvage goes, by the ways that its parts go. How names are saved is in the crate salvage, and what a block's row is, in cards.
 --     turned                    what turn number i stores
 --     salvage-refused, salvage-accepts, salvage-done     the call's equation, where saving refuses; what has been shown where it doesn't; the equation then
 -- Assumes nothing.

@@ -1,5 +1,5 @@
--- `book::book_salvage` meets its contract: a walk of its MIR, by hand, with one loop. What it calls, `save_names` and `judge_block` of
--- the crate salvage, it knows by their contracts; what it says of lists is in proofs/Salvaging.antt.
+-- `book::book_salvage` meets its contract: a walk of its MIR, by hand, with one loop. What it calls, `save_names` of the crate
+-- salvage and `judge_block` of cards, it knows by their contracts; what it says of lists is in proofs/Salvaging.antt.
 --     the invariant     after i turns the report rows are `filled .. i`; the card is lent as it was; of the room only its last list is known
 --     the measure       how many rows are left
 -- The room is handed to `save_names` for good: what is had of it from then on says its last bytes. The report rows are opened once, before
