@@ -51,8 +51,8 @@
  *   an empty std::vector may give null, so with a `uint8_t none` of your own lend
  *   `names.empty() ? &none : names.data(), names.size()`.
  * - Nobody else writes to that memory while the call runs: a call trusts what it
- *   has checked, and whoever can write to a book or a list in the midst of a call
- *   gets the caller's stack. Copy what another guest can write to, or map it so
+ *   has checked, and whoever can write to a book or a list during a call can take
+ *   over the caller's stack. Copy what another guest can write to, or map it so
  *   that it can't (docs/TRUST.md).
  * - What a call writes to (a room, answer rows, report rows) overlaps nothing else
  *   that is lent to it. What is only read may overlap.

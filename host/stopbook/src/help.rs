@@ -42,9 +42,9 @@ with larger blocks it is shorter.
 Where the text has no names, as after an export that failed, no book is written either, and
 an old one stays as it was; with --empty a book without names is made.
 
-Names that are hardly meant so are taken and told, with their lines: those with blanks
-before or behind them, those of blanks alone, and those that look like another one, from
-which they differ only in capitals, in blanks or in how accents are composed (Latin letters).
+It warns, by line number, about what was hardly meant so, and continues: leading or trailing
+blanks, lines of blanks alone, and look-alike names, which differ only in capitals, in blanks
+or in how accents are composed (Latin letters).
 
 A folded book takes capitals A to Z as small letters wherever it compares, so that MAR is
 found by mar; letters with accents stay apart. It gives names back as they are spelt. Names
@@ -121,9 +121,9 @@ Asks a book one question of at most 200 bytes:
   exact     is this a stop, and which?
   place     where does it stand, or where would it?
   range     which names begin with it?
-  nearest   which name has the longest common beginning with it? What they share is lit, but
-            no half letter: in reverse video on a terminal, unless NO_COLOR is set, and
-            elsewhere in brackets.
+  nearest   which name has the longest common beginning with it? The part of the name that
+            matches is highlighted, or lit, but no half letter: in reverse video on a
+            terminal, unless NO_COLOR is set, and elsewhere in brackets.
   width     how many bytes has the longest of the names that begin with it?
 
 A folded book answers without regard to case; of a stop that it spells otherwise than it
