@@ -1,7 +1,9 @@
 -- What the check answers, way by way.
 --     unsound, sound    bytes of which a part fails; of which all stand
---     walked-own, walk-ask, entries-fail, table-ask, table-says     after a trailer that passes: what the two walks ask, and what their answers
---                       come to
+--     trail-fails, walked-own, walk-ask, framed-says     a trailer that fails; after one that passes, what the walk over the entries asks, and
+--                       what its answer comes to
+--     names-told, table-ask, table-is     behind trailer and entries that stand: what the walk over the table asks, and what it answers
+--     frame-fails, frame-stands, table-says     what both come to
 --     SoundBook, sound-book, checked-sound     what an accepting answer says
 --     sound-numbers, unsound-numbers     document 01's numbers for either answer
 -- Assumes nothing.
@@ -20,18 +22,20 @@ use Rattle.format.proofs.BookKinds.{full-rows, kind-layout, kind-sure}
 use Rattle.format.specs.Book.{Book, NoBook, Opened, numbers, opened, trailerSize, namesOf, told}
 use Rattle.format.specs.Outcomes.{checkOf, given}
 use Rattle.format.proofs.Book.{book-opened, fits-parts, read-field}
-use Rattle.symbols.specs.Rules.{ruleBy}
+use Rattle.symbols.specs.Rules.{byKind, ruleBy}
+use Rattle.symbols.specs.declared.Rule.{Rule as ByRule}
 use Rattle.symbols.proofs.Symbols.{rule-by}
+use Rattle.kinds.specs.Known.{kindBy}
+use Rattle.kinds.proofs.Telling.{kind-told}
 use Rattle.trailer.specs.Trailer.{Trail, TrailSays, trailerIn}
 use Rattle.trailer.specs.declared.Trailer.{Trailer}
 use Rattle.streams.specs.Runs.{Frame, Has}
-use Rattle.streams.specs.Streams.{InBlocks}
 use Rattle.streams.proofs.InBlocks.{has-blocks}
 use Rattle.streams.proofs.Walks.{has-known, has-names}
 use Rattle.walk.specs.Walking.{WalkSays}
 use Rattle.inspect.specs.Check.{TableAsk, isRows}
 use Rattle.numbers.proofs.Parts.{Held, held-bytes}
-use Rattle.accept.specs.Parts.{Parts, PartsSay, checkOn, checkedAs}
+use Rattle.accept.specs.Parts.{Framed, FramedSays, Parts, PartsSay, checkOn, checkedAs}
 use Rattle.accept.specs.declared.Checked.{Checked}
 use Rattle.accept.specs.declared.Checked.the-variants.{Sound, Unsound}
 use Rattle.accept.proofs.Opens.{has-at, opened-parts, parts-opened}
@@ -69,13 +73,13 @@ pub parts-unsound : (b : Bytes) (r : Bool) → r ≡ false → PartsSay b r → 
 parts-unsound b true h = absurd (false≠true (sym h))
 parts-unsound b false h = unsound b
 
-pub trail-fails : (b : Bytes) (r : Bool) → r ≡ false → TrailSays b r → PartsSay b false
-trail-fails b true h = absurd (false≠true (sym h))
-trail-fails b false h = λ says p. says (p .framed .trail)
+pub trail-fails : (b : Bytes) (r : Bool) → not r ≡ true → TrailSays b r → FramedSays b false
+trail-fails b true h = absurd (false≠true h)
+trail-fails b false h = λ says f. says (f .trail)
 
-pub trail-passes : (b : Bytes) (r : Bool) → r ≡ true → TrailSays b r → Trail b
+pub trail-passes : (b : Bytes) (r : Bool) → not r ≡ false → TrailSays b r → Trail b
 trail-passes b true h says = says
-trail-passes b false h says = absurd (false≠true h)
+trail-passes b false h says = absurd (false≠true (sym h))
 
 -- the trailer passes, and its numbers were read
 pub record NumbersRead (b : Bytes) (n k s u : ℕ) : Type 0 where
@@ -85,23 +89,22 @@ pub record NumbersRead (b : Bytes) (n k s u : ℕ) : Type 0 where
   pub table : s ≡ told b 2
   pub nodes : u ≡ told b 3
 
-pub asked : (b : Bytes) (n k s u : ℕ) (t : Trailer) → Trail b → t ≡ trailerIn b → n ≡ t .names → k ≡ t .block → s ≡ t .blocks → u ≡ t .nodes → NumbersRead b n k s u
+pub asked : (b : Bytes) (n k s u : ℕ) (t : Trailer) → Trail b → t ≡ trailerIn b → n ≡ t .names → k ≡ t .block → s ≡ t .«blocks_at» → u ≡ t .«nodes_at» → NumbersRead b n k s u
 asked b n k s u t p e ne ke se ue = record {
   trail = p;
   names = ne ∙ ap (λ (x : Trailer). x .names) e;
   block = ke ∙ ap (λ (x : Trailer). x .block) e;
-  table = se ∙ ap (λ (x : Trailer). x .blocks) e;
-  nodes = ue ∙ ap (λ (x : Trailer). x .nodes) e;
+  table = se ∙ ap (λ (x : Trailer). x .«blocks_at») e;
+  nodes = ue ∙ ap (λ (x : Trailer). x .«nodes_at») e;
 }
 
--- the walk over the entries goes by the rule that the trailer tells
-pub walked-own : (b : Bytes) (t : Trailer) (k s u n : ℕ) (r : Bool) → t ≡ trailerIn b → WalkSays (ruleBy (t .rule)) b k s u n r → WalkSays (ruleIn b) b k s u n r
-walked-own b t k s u n r e says = subst (λ (ρ : Rule). WalkSays ρ b k s u n r) (ap (λ (x : Trailer). ruleBy (x .rule)) e ∙ rule-by (kindOf b)) says
+-- the walk over the entries goes by the rule of the kind that the trailer tells
+pub walked-own : (b : Bytes) (t : Trailer) (rule : ByRule) (k s u n : ℕ) (r : Bool) → t ≡ trailerIn b → rule ≡ byKind (kindBy (t .kind)) → WalkSays (ruleBy rule) b k s u n r → WalkSays (ruleIn b) b k s u n r
+walked-own b t rule k s u n r e f says =
+    subst (λ (ρ : Rule). WalkSays ρ b k s u n r)
+    (ap ruleBy (f ∙ ap (λ (x : Trailer). byKind (kindBy (x .kind))) e ∙ ap byKind (kind-told (kindOf b))) ∙ rule-by (kindOf b)) says
 
 module _ (b : Bytes) (n k s u : ℕ) (a : NumbersRead b n k s u) where
-  abbrev inside : s ≤ length b
-  inside = omega (arith, a .trail .total, a .trail .order, a .table, a .nodes)
-
   pub walk-ask : Frame b k s u
   walk-ask = record {
     one = omega (arith, a .trail .low, a .block);
@@ -116,36 +119,52 @@ module _ (b : Bytes) (n k s u : ℕ) (a : NumbersRead b n k s u) where
   there : Has (ruleIn b) b k s u n s 0 [] → Has (ruleIn b) b (told b 1) (told b 2) (told b 3) (told b 0) (told b 2) 0 []
   there = has-at (ruleIn b) b k (told b 1) s (told b 2) u (told b 3) n (told b 0) (a .block) (a .table) (a .nodes) (a .names)
 
-  pub entries-fail : (r : Bool) → not r ≡ true → WalkSays (ruleIn b) b k s u n r → PartsSay b false
-  entries-fail true h = absurd (false≠true h)
-  entries-fail false h = λ says p. says (here (p .framed .entries))
+  -- the entries decide
+  pub framed-says : (r : Bool) → WalkSays (ruleIn b) b k s u n r → FramedSays b r
+  framed-says true has = record { trail = a .trail; entries = there has }
+  framed-says false says = λ f. says (here (f .entries))
 
-  pub table-ask : (r : Bool) → not r ≡ false → WalkSays (ruleIn b) b k s u n r → TableAsk b u (length b - trailerSize) n
-  table-ask false h says = absurd (false≠true (sym h))
-  table-ask true h has =
-      let low : 1 ≤ k = omega (arith, a .trail .low, a .block) in
-      let e : namesOf b ≡ has .names = has-names (ruleIn b) b k s u n inside has low (sym (a .table)) in
-      let c : length (namesOf b) ≡ n = ap length e ∙ has .count in
-      record {
-        known = has-known (ruleIn b) b k s u n inside has low (sym (a .table)) (kind-sure (kindOf b)) (omega (arith, a .trail .few, a .names)) (a .trail .short);
-        blocks = subst (λ (m : ℕ). InBlocks b m (told b 2)) (a .block) (subst (InBlocks b k) (a .table) (has-blocks (ruleIn b) (kind-sure (kindOf b)) b k s u n walk-ask has (sym (a .table))));
-        count = sym c;
-        order = omega (arith, a .trail .total, a .nodes);
-        long = omega (arith, a .trail .long);
-      }
+-- ---- the table, behind trailer and entries that stand
 
-  -- the node table is the table of a full book
-  told-table : isRows b u (length b - trailerSize) ≡ isTable b (told b 3) (length b - trailerSize)
-  unfolding isRows isTable nodePart wordsOf
-  told-table =
-      ap (λ (x : ℕ). isRows b x (length b - trailerSize)) (a .nodes)
-      ∙ ap (λ (f : Form). same (numbers (tableIn f (ruleIn b) (namesOf b))) (slice (told b 3) (length b - trailerSize) b)) (sym (full-rows (kindOf b)))
+module _ (b : Bytes) (f : Framed b) where
+  within : told b 2 ≤ length b
+  within = omega (arith, f .trail .total, f .trail .order)
 
-  -- the node table decides
-  pub table-says : (r : Bool) → not r ≡ false → WalkSays (ruleIn b) b k s u n r → (q : Bool) → q ≡ isRows b u (length b - trailerSize) → PartsSay b q
-  table-says false h says q e = absurd (false≠true (sym h))
-  table-says true h has true e = record { framed = record { trail = a .trail; entries = there has }; nodes = sym (e ∙ told-table) }
-  table-says true h has false e = λ p. false≠true (e ∙ told-table ∙ p .nodes)
+  -- the names are as many as the trailer tells
+  pub names-told : told b 0 ≡ length (namesOf b)
+  names-told = sym (ap length (has-names (ruleIn b) b (told b 1) (told b 2) (told b 3) (told b 0) within (f .entries) (f .trail .low) refl) ∙ f .entries .count)
+
+  module _ (u n : ℕ) (ue : u ≡ told b 3) (ne : n ≡ told b 0) where
+    pub table-ask : TableAsk b u (length b - trailerSize) n
+    table-ask = record {
+      known = has-known (ruleIn b) b (told b 1) (told b 2) (told b 3) (told b 0) within (f .entries) (f .trail .low) refl (kind-sure (kindOf b)) (f .trail .few) (f .trail .short);
+      blocks = has-blocks (ruleIn b) (kind-sure (kindOf b)) b (told b 1) (told b 2) (told b 3) (told b 0) (record { one = f .trail .low; small = f .trail .short; order = f .trail .order; room = omega (arith, f .trail .total) }) (f .entries) refl;
+      count = ne ∙ names-told;
+      order = omega (arith, f .trail .total);
+      long = omega (arith, f .trail .long);
+    }
+
+    -- the node table is the table of a full book
+    pub table-is : (q : Bool) → q ≡ isRows b u (length b - trailerSize) → q ≡ isTable b (told b 3) (length b - trailerSize)
+    unfolding isRows isTable nodePart wordsOf
+    table-is q e =
+        e ∙ ap (λ (x : ℕ). isRows b x (length b - trailerSize)) ue
+        ∙ ap (λ (g : Form). same (numbers (tableIn g (ruleIn b) (namesOf b))) (slice (told b 3) (length b - trailerSize) b)) (sym (full-rows (kindOf b)))
+
+-- ---- both
+
+pub frame-fails : (b : Bytes) (r : Bool) → r ≡ false → FramedSays b r → PartsSay b false
+frame-fails b true h = absurd (false≠true (sym h))
+frame-fails b false h = λ says p. says (p .framed)
+
+pub frame-stands : (b : Bytes) (r : Bool) → r ≡ true → FramedSays b r → Framed b
+frame-stands b true h says = says
+frame-stands b false h says = absurd (false≠true h)
+
+-- the table decides
+pub table-says : (b : Bytes) → Framed b → (q : Bool) → q ≡ isTable b (told b 3) (length b - trailerSize) → PartsSay b q
+table-says b f true e = record { framed = f; nodes = sym e }
+table-says b f false e = λ p. false≠true (e ∙ p .nodes)
 
 -- what an accepting answer says
 pub record SoundBook (b : Bytes) (t : Trailer) : Type 0 where
@@ -153,13 +172,6 @@ pub record SoundBook (b : Bytes) (t : Trailer) : Type 0 where
   pub told : t ≡ trailerIn b
   pub book : opened b ≡ Book (kindOf b) (t .block) (namesOf b)
   pub count : t .names ≡ length (namesOf b)
-
--- the names are as many as the trailer tells
-names-told : (b : Bytes) → Parts b → told b 0 ≡ length (namesOf b)
-names-told b p =
-    let inside : told b 2 ≤ length b = omega (arith, p .framed .trail .total, p .framed .trail .order) in
-    let has = p .framed .entries in
-    sym (ap length (has-names (ruleIn b) b (told b 1) (told b 2) (told b 3) (told b 0) inside has (p .framed .trail .low) refl) ∙ has .count)
 
 pub sound-book : (b : Bytes) (t : Trailer) → InBytes b → Sound t ≡ checkOn b (opened b) → SoundBook b t
 unfolding checkOn
@@ -174,7 +186,7 @@ sound-book b t bytes s = go (opened b) refl s
           parts = p;
           told = is;
           book = parts-opened b bytes p ∙ ap (λ (x : Trailer). Book (kindOf b) (x .block) (namesOf b)) (sym is);
-          count = ap (λ (x : Trailer). x .names) is ∙ names-told b p;
+          count = ap (λ (x : Trailer). x .names) is ∙ names-told b (p .framed);
         }
 
 -- the numbers of what the check gives are the check's

@@ -11,15 +11,16 @@ use lib.Seq.{drop-append-le, getD-drop, length-take-le, slice, take-at, take-len
 use Rattle.words.specs.Words.{Bytes, InBytes, Rule, same}
 use Rattle.words.proofs.Words.{same-refl, same-true}
 use Rattle.format.specs.Spans.{isTable}
-use Rattle.format.specs.Kinds.{BookKind, FoldedBook, PlainBook, countIn, formOf, kindOf, markOf, ruleIn, ruleOf, tableIn}
+use Rattle.format.specs.Kinds.{BookKind, FoldedBook, PlainBook, countIn, formOf, kindOf, markOf, recordSize, ruleIn, ruleOf, tableIn}
 use Rattle.format.specs.Layout.{Layout}
 use Rattle.format.specs.Book.{Book, blockPart, book, entryPart, number, numbers, opened, trailer, trailerSize, namesOf, told}
-use Rattle.format.proofs.Book.{Fits, blocksAt, book-length, book-opened, fits-parts, from-nodes, from-trailer, kind-of-book, full-count, full-length, nodesAt, opened-book, parts-fits, read-field, trailerAt, trailerNumbers}
+use Rattle.format.proofs.Book.{Fits, blocksAt, book-length, book-opened, fits-parts, from-nodes, from-trailer, kind-of-book, nodesAt, opened-book, parts-fits, read-field, table-count, table-length, trailerAt, trailerNumbers}
 use Rattle.format.proofs.BookKinds.{kind-layout}
 use Rattle.format.proofs.Book as layout
 use Rattle.format.proofs.Records.{sound-few}
 use Rattle.format.proofs.Numbers.{numbers-are}
-use Rattle.trailer.specs.Trailer.{Trail, markBack, markFront}
+use Rattle.kinds.specs.Known.{markBack, markFront}
+use Rattle.trailer.specs.Trailer.{Trail}
 use Rattle.trailer.proofs.Telling.{trailer-is as numbers-trailer}
 use Rattle.streams.specs.Runs.{Has}
 use Rattle.streams.proofs.Laid.{book-stands}
@@ -97,7 +98,7 @@ module _ (b : Bytes) (bytes : InBytes b) (p : Parts b) where
       ends-at b (blockPart k xs) (told b 2) (told b 3) inside (omega (arith, trail .total)) (stand .rest .places) in
       let l3 : told b 3 + length ns ≡ length b - trailerSize =
       ends-at b ns (told b 3) (length b - trailerSize) (omega (arith, trail .total)) (omega arith) table-is in
-      let count : told b 4 ≡ countIn (formOf (kindOf b)) (ruleIn b) xs = full-count (kindOf b) (ruleIn b) xs (told b 4) (omega (arith, trail .total)) in
+      let count : told b 4 ≡ countIn (formOf (kindOf b)) (ruleIn b) xs = table-count (formOf (kindOf b)) (ruleIn b) xs (told b 4) (omega (arith, trail .total)) in
       let t : drop (length b - trailerSize) b ≡ numbers (trailerNumbers y k xs) ++ markOf (kindOf b) =
       trailer-is b bytes (length xs) k (blocksAt y k xs) (nodesAt y k xs) (countIn (formOf (kindOf b)) (ruleIn b) xs) (trailerAt y k xs + trailerSize) trail
       (sym (stand .count)) refl (sym l1) (omega arith) count
@@ -177,6 +178,7 @@ module _ (κ : BookKind) (k : ℕ) (xs : List Bytes) (f : Fits κ k xs) where
       let tm : told B 4 ≡ countIn (formOf κ) (ruleOf κ) xs = read-field z k xs f 4 (omega arith) in
       let tt : told B 5 ≡ trailerAt z k xs + trailerSize = read-field z k xs f 5 (omega arith) in
       let l : length B ≡ trailerAt z k xs + trailerSize = book-length z k xs in
+      let size : told B 4 * recordSize (formOf (kindOf B)) ≡ countIn (formOf κ) (ruleOf κ) xs * recordSize (formOf κ) = ap₂ (λ (m : ℕ) (μ : BookKind). m * recordSize (formOf μ)) tm own in
       let nm : namesOf B ≡ xs = has-names (ruleOf κ) B k (blocksAt z k xs) (nodesAt z k xs) (length xs) (omega arith) here (f .low) ts in
       record {
         framed = record {
@@ -187,7 +189,7 @@ module _ (κ : BookKind) (k : ℕ) (xs : List Bytes) (f : Fits κ k xs) where
             low = omega (arith, tk, f .low);
             high = omega (arith, tk, f .high);
             order = omega (arith, ts, tu);
-            total = omega (arith, tu, tm, l, full-length κ (ruleOf κ) xs);
+            total = omega (arith, tu, size, l, table-length (formOf κ) (ruleOf κ) xs);
             whole = omega (arith, tt, l);
             front = marked 6 ∙ marks .0;
             back = marked 7 ∙ marks .1 ∙ ap markBack (sym own);

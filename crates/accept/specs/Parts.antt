@@ -1,5 +1,5 @@
 -- The tests that make bytes a book, part by part.
---     Framed            the trailer, and the entries with their block table: what every kind of book has
+--     Framed, FramedSays     the trailer, and the entries with their block table: what every kind of book has; whether they stand
 --     Parts, PartsSay   these and the table; whether all of them stand
 --     checkOn           what the check gives, by what the bytes open to: what their trailer tells, or nothing
 --     checkedAs         document 01's numbers for each case of what the check gives: 0 with the names and the block size, or 2
@@ -22,6 +22,10 @@ use Rattle.accept.specs.declared.Checked.the-variants.{Sound, Unsound}
 pub record Framed (b : Bytes) : Type 0 where
   pub trail : Trail b
   pub entries : Has (ruleIn b) b (told b 1) (told b 2) (told b 3) (told b 0) (told b 2) 0 []
+
+abbrev pub FramedSays : Bytes → Bool → Type 0
+FramedSays b true = Framed b
+FramedSays b false = Framed b → ⊥
 
 pub record Parts (b : Bytes) : Type 0 where
   pub framed : Framed b

@@ -1,10 +1,13 @@
-// Whether bytes are a book of the kind that their mark tells: the trailer's numbers, then a walk over the entries, then one over the node
-// table.
+// Whether bytes are a book of the kind that their mark tells: the trailer's numbers, then a walk over the entries, then one over the table,
+// which goes by its form.
 ghost use mathlib.Core.Path.{_≡_};
-ghost use Rattle.format.specs.Book.{opened};
+ghost use Prim.Native.Nat.{_-_};
+ghost use lib.ListN.{length};
+ghost use Rattle.format.specs.Book.{opened, told, trailerSize};
 ghost use Rattle.format.specs.Outcomes.{checkOf};
-ghost use Rattle.trailer.specs.Trailer.{Trail};
-ghost use Rattle.accept.specs.Parts.{PartsSay, checkOn, checkedAs};
+ghost use Rattle.format.specs.Spans.{isTable};
+ghost use Rattle.accept.specs.Parts.{Framed, FramedSays, PartsSay, checkOn, checkedAs};
+use kinds::Form;
 
 // A book, and what its trailer tells, which no one need read again; or that the bytes are no book.
 pub enum Checked {
@@ -12,26 +15,39 @@ pub enum Checked {
     Unsound,
 }
 
-// Whether bytes whose trailer passes are a book: the entries with their block table, then the node table.
-fn check_parts(book: &[u8]) -> bool
-    requires { ⌜ Trail (now book) ⌝ }
-    ensures { λ r. ⌜ PartsSay (now (book .entry)) r ⌝ }
+// Whether the trailer and the entries with their block table stand: what every kind of book has.
+fn is_framed(book: &[u8]) -> bool
+    ensures { λ r. ⌜ FramedSays (now (book .entry)) r ⌝ }
 {
-    let t = trailer::read(book);
-    let rule = t.rule;
-    let n = numbers::wide16(t.names);
-    let nodes_at = numbers::wide16(t.nodes);
-    if !walk::check_entries(
-        rule,
-        book,
-        n,
-        numbers::wide16(t.block),
-        numbers::wide16(t.blocks),
-        nodes_at,
-    ) {
+    if !trailer::is_trailer(book) {
         return false;
     }
-    inspect::check_table(book, nodes_at, book.len() - trailer::SIZE, n)
+    let t = trailer::read(book);
+    let kind = t.kind;
+    walk::check_entries(
+        kinds::rule_of(kind),
+        book,
+        numbers::wide16(t.names),
+        numbers::wide16(t.block),
+        numbers::wide16(t.blocks_at),
+        numbers::wide16(t.nodes_at),
+    )
+}
+
+// Whether the table stands that the trailer tells of: an arm for each form of table.
+fn is_table(book: &[u8]) -> bool
+    requires { ⌜ Framed (now book) ⌝ }
+    ensures { λ r. ⌜ r ≡ isTable (now (book .entry)) (told (now (book .entry)) 3) (length (now (book .entry)) - trailerSize) ⌝ }
+{
+    let form = kinds::form_of(trailer::kind(book));
+    match form {
+        Form::Rows => inspect::check_table(
+            book,
+            trailer::nodes_at(book),
+            book.len() - trailer::SIZE,
+            trailer::names(book),
+        ),
+    }
 }
 
 // Whether all parts of a book stand. It hands no number on: what it would keep of the trailer while it walks would lie below every level
@@ -39,8 +55,8 @@ fn check_parts(book: &[u8]) -> bool
 pub fn is_book(book: &[u8]) -> bool
     ensures { λ r. ⌜ PartsSay (now (book .entry)) r ⌝ }
 {
-    if trailer::is_trailer(book) {
-        check_parts(book)
+    if is_framed(book) {
+        is_table(book)
     } else {
         false
     }

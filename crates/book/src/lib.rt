@@ -2,11 +2,11 @@
 // one statement: its answer and all that was lent, as they are when it ends, equal a function of what came in. They are exported for C
 // and Rust; a slice is a pointer and a length. A call over a book goes by the book's own mark. Inner
 // functions, which may ask something, stand in the crates below.
+use kinds::Kind;
 pub use shapes::Answer;
 pub use shapes::Head;
 pub use shapes::Kept;
 pub use shapes::Row;
-use symbols::Rule;
 ghost use mathlib.Core.Path.{_≡_};
 ghost use mathlib.Core.List.{map};
 ghost use Rattle.format.specs.Kinds.{FoldedBook, PlainBook};
@@ -23,7 +23,7 @@ ghost use Rattle.shapes.specs.Shapes.{answered, rowOf, batched, written};
 pub extern "C" fn book_build(list: &[u8], block: usize, room: &mut [u8]) -> Answer
     ensures { λ r. ⌜ written r (now (room .exit)) ≡ build PlainBook (now (list .entry)) block (now (room .entry)) ⌝ }
 {
-    build::build_list(Rule::Plain, list, block, room)
+    build::build_list(Kind::Plain, list, block, room)
 }
 
 // Builds the folded book, in which capital and small letters are one symbol: 6 is also given for names that are equal once folded.
@@ -31,7 +31,7 @@ pub extern "C" fn book_build(list: &[u8], block: usize, room: &mut [u8]) -> Answ
 pub extern "C" fn book_build_folded(list: &[u8], block: usize, room: &mut [u8]) -> Answer
     ensures { λ r. ⌜ written r (now (room .exit)) ≡ build FoldedBook (now (list .entry)) block (now (room .entry)) ⌝ }
 {
-    build::build_list(Rule::Folded, list, block, room)
+    build::build_list(Kind::Folded, list, block, room)
 }
 
 // Whether bytes are a book: then how many names it has, in blocks of how many. Refusal: 2.

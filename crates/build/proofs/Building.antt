@@ -5,12 +5,12 @@
 -- Assumes nothing.
 use Prim.Native.Nat.{ℕ, _≤_, _<_}
 use native.Mathlib.Omega.{arith}
-use mathlib.Core.Path.{_≡_, refl, sym, ap, _∙_, subst}
+use mathlib.Core.Path.{_≡_, refl, sym, ap, ap₂, _∙_, subst}
 use mathlib.Core.Bool.{Bool, true, false}
 use mathlib.Core.List.{List}
 use lib.ListN.{length}
 use borrow.Author.Tests.{le-leb, lt-leb}
-use Rattle.words.specs.Words.{Bytes, pick}
+use Rattle.words.specs.Words.{Bytes, Rule, pick}
 use Rattle.format.specs.Kinds.{BookKind, ruleOf}
 use Rattle.format.proofs.BookKinds.{kind-sure}
 use Rattle.format.specs.Book.{goodBlock}
@@ -18,6 +18,8 @@ use Rattle.format.specs.Records.{Names, Reading, Refused, mostNames, readList, 
 use Rattle.format.proofs.Records.{read-refused, read-sound, sound-few}
 use Rattle.format.specs.Outcomes.{Answer as Numbers, Written, given, numbered, refused}
 use Rattle.answers.specs.Calls.{build, buildBy, builtFrom}
+use Rattle.symbols.specs.Rules.{ruleBy}
+use Rattle.symbols.specs.declared.Rule.{Rule as ByRule}
 use Rattle.records.specs.Lists.{Judged, Noted, names, namesIn, verdictNumbers, readingOf}
 use Rattle.records.proofs.Names.{names-are}
 use Rattle.build.specs.Whole.{BuildAsk, builtOf, shownBuilt}
@@ -47,21 +49,24 @@ module _ (κ : BookKind) (s : Bytes) (k : ℕ) (room : Bytes) where
     build-good : (w : Written) → w ≡ builtOf κ k room (readList (ruleOf κ) mostNames s) → w ≡ build κ s k room
     build-good w p = p ∙ sym (gate true (rw (le-leb 1 k (omega arith), le-leb k 64 h) refl))
 
-    pub build-bad : (r : Answer) (code i : ℕ) → Ends r code i → {most : ℕ} {lens counts shares : List ℕ} {v : Verdict} → Judged (ruleOf κ) s most lens counts shares v → most ≡ mostNames → v ≡ Bad code i
+    pub build-bad : (rule : ByRule) → ruleBy rule ≡ ruleOf κ → (r : Answer) (code i : ℕ) → Ends r code i → {most : ℕ} {lens counts shares : List ℕ} {v : Verdict} → Judged (ruleBy rule) s most lens counts shares v → most ≡ mostNames → v ≡ Bad code i
         → written r room ≡ build κ s k room
     unfolding builtFrom readingOf
-    build-bad r code i e j limit u =
+    build-bad rule re r code i e j limit u =
         build-good (written r room) (ap (λ (a : Numbers). record { answer = a; room = room }) e ∙ go (readList (ruleOf κ) mostNames s)
-        (ap verdictNumbers (sym u) ∙ j .verdict ∙ ap (λ (m : ℕ). readingOf (readList (ruleOf κ) m s)) limit))
+        (ap verdictNumbers (sym u) ∙ j .verdict ∙ ap₂ (λ (ρ : Rule) (m : ℕ). readingOf (readList ρ m s)) re limit))
       where
         go : (x : Reading) → numbered code i ≡ readingOf x → record { answer = numbered code i; room = room } ≡ builtOf κ k room x
         go (Names xs) f = absurd (let y : code ≡ 0 = ap (λ (a : Numbers). a .code) f in omega (arith, j .refuses code i u))
         go (Refused c j) f = ap (λ (a : Numbers). record { answer = a; room = room }) f
 
-    pub judged-asks : (n : ℕ) (lens counts shares : List ℕ) (v : Verdict) → Judged (ruleOf κ) s mostNames lens counts shares v → v ≡ Good n → length lens ≡ mostNames → BuildAsk κ s n lens counts shares k
+    pub judged-asks : (rule : ByRule) → ruleBy rule ≡ ruleOf κ → (n : ℕ) (lens counts shares : List ℕ) (v : Verdict) → Judged (ruleBy rule) s mostNames lens counts shares v → v ≡ Good n → length lens ≡ mostNames → BuildAsk κ s n lens counts shares k
     unfolding readingOf
-    judged-asks n lens counts shares v j e places = go (readList (ruleOf κ) mostNames s) refl (ap verdictNumbers (sym e) ∙ j .verdict)
+    judged-asks rule re n lens counts shares v by-rule e places = go (readList (ruleOf κ) mostNames s) refl (ap verdictNumbers (sym e) ∙ j .verdict)
       where
+        j : Judged (ruleOf κ) s mostNames lens counts shares v
+        j = subst (λ (ρ : Rule). Judged ρ s mostNames lens counts shares v) re by-rule
+
         go : (x : Reading) → readList (ruleOf κ) mostNames s ≡ x → given n 0 ≡ readingOf x → BuildAsk κ s n lens counts shares k
         go (Refused c i) p f = absurd (let y : 0 ≡ c = ap (λ (a : Numbers). a .code) f in omega (arith, read-refused (ruleOf κ) mostNames s c i p))
         go (Names xs) p f =

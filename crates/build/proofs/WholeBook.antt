@@ -1,13 +1,15 @@
 -- Laws of the whole book.
---     sizes-are, nodes-fit, ..        the sizes, by counting
+--     rows-counted, rows-put, rows-ask     the arm for node rows: what it counts, what it writes, what it asks
+--     sizes-are, table-fits, ..       the sizes, by counting
 --     trailer-is                      the trailer as eight numbers
 --     sized-..                        how the parts lie in a room that is large enough
---     put, nodes-part, book-lent      four parts, each from where the one before ended, are the book
+--     put, table-part, book-lent      four parts, each from where the one before ended, are the book
 --     ends-nine, ends-four, ends-done how a build ends
 -- Assumes nothing.
 use Prim.Native.Nat.{ℕ, zero, suc, _+_, _-_, _*_, _≤_, _<_}
+use native.Mathlib.Nat.{mul-le-mul}
 use native.Mathlib.Omega.{arith}
-use mathlib.Core.Path.{_≡_, refl, sym, ap, ap₂, _∙_}
+use mathlib.Core.Path.{_≡_, refl, sym, ap, ap₂, _∙_, subst}
 use mathlib.Core.Bool.{Bool, true, false}
 use mathlib.Core.List.{List, [], _∷_, _++_, map, append-assoc}
 use lib.Dec.{leb}
@@ -15,14 +17,14 @@ use lib.ListN.{length, take, drop, length-append}
 use mir.Val.{Fits}
 use mir.Syntax.{w64}
 use borrow.Author.Tests.{le-leb, lt-leb}
-use Rattle.words.specs.Words.{Bytes, Words, pick, word}
-use Rattle.format.specs.Kinds.{BookKind, formOf, markOf, ruleOf, tableIn}
+use Rattle.words.specs.Words.{Bytes, Rule, Words, pick, word}
+use Rattle.format.specs.Kinds.{BookKind, countIn, formOf, markOf, recordSize, ruleOf, tableIn}
 use Rattle.format.specs.Book.{blockPart, book, entryPart, longestBook, numbers, trailer}
 use Rattle.format.specs.Spans.{nodePart}
 use Rattle.format.specs.Nodes.{table, nodeSize}
 use Rattle.format.specs.Records.{mostNames, readList}
 use Rattle.format.proofs.BookKinds.{kind-layout, mark-length}
-use Rattle.format.proofs.Book.{book-length, book-parts, full-length, full-nodes, full-number, nodes-length, trailerAt, trailerNumbers}
+use Rattle.format.proofs.Book.{book-length, book-parts, full-length, full-nodes, full-number, table-length, trailerAt, trailerNumbers}
 use Rattle.format.proofs.Numbers.{numbers-length}
 use Rattle.format.proofs.Groups.{table-empty}
 use Rattle.format.proofs.Spans.{table-few}
@@ -31,55 +33,88 @@ use Rattle.answers.specs.Calls.{builtFrom}
 use Rattle.numbers.proofs.Parts.{lent, over-length, part-length}
 use Rattle.records.specs.Lists.{names, words}
 use Rattle.records.proofs.Starts.{ready-rises, words-length}
-use Rattle.nodes.specs.Writing.{NodesPut}
+use Rattle.symbols.specs.Rules.{ruleBy}
+use Rattle.symbols.specs.declared.Rule.{Rule as ByRule}
+use Rattle.nodes.specs.Writing.{NodesAsk, NodesPut}
 use Rattle.nodes.specs.Counting.{NodeCount}
 use Rattle.blocks.specs.Writing.{SumsAre, Surveyed}
-use Rattle.build.specs.Whole.{builtOf, BuildAsk, Sized}
+use Rattle.build.specs.Whole.{builtOf, BuildAsk, RecordCount, Sized, TablePut}
 
 -- a room with a part of it lent and filled
 abbrev pub put : Bytes → ℕ → ℕ → Bytes → Bytes
 put room from to x = take from room ++ (x ++ drop (to - from) (drop from room))
 
-module _ {κ : BookKind} {s : Bytes} {n : ℕ} {lens counts shares : List ℕ} {k : ℕ} (a : BuildAsk κ s n lens counts shares k) where
-  module _ (m : ℕ) (p : NodeCount n shares m) where
-    nodes-are : m ≡ length (table (words (ruleOf κ) s))
-    unfolding NodeCount
-    nodes-are = p (ruleOf κ) s lens counts (a .ready)
+-- ---- the table by its form: node rows, which every kind has
 
-    nodes-few : m ≤ 4000
-    nodes-few = go n refl
+-- the words of a list's names, by a kind's rule
+names-words : (κ : BookKind) (s : Bytes) → map (word (ruleOf κ)) (names s) ≡ words (ruleOf κ) s
+unfolding words
+names-words κ s = refl
+
+pub rows-counted : (κ : BookKind) (n : ℕ) (shares : List ℕ) (m : ℕ) → NodeCount n shares m → RecordCount κ n shares m
+unfolding NodeCount RecordCount
+rows-counted κ n shares m p s lens counts ready = p (ruleOf κ) s lens counts ready ∙ ap (λ (ws : Words). length (table ws)) (sym (names-words κ s)) ∙ sym (full-number κ (ruleOf κ) (names s))
+
+pub rows-put : (κ : BookKind) (rule : ByRule) {s room after : Bytes} {m : ℕ} → ruleBy rule ≡ ruleOf κ → NodesPut (ruleBy rule) s room after m → TablePut κ s room after
+rows-put κ rule {s} {room} {after} {m} e p = record {
+  put = λ h.
+      own .put (h ∙ sym (full-size (names s)) ∙ full-length κ (ruleOf κ) (names s) ∙ ap (λ (x : ℕ). x * nodeSize) (full-number κ (ruleOf κ) (names s) ∙ ap (λ (ws : Words). length (table ws)) (names-words κ s)))
+      ∙ ap (λ (ws : Words). nodePart (table ws)) (sym (names-words κ s)) ∙ sym (full-nodes κ (ruleOf κ) (names s));
+}
+  where
+    own : NodesPut (ruleOf κ) s room after m
+    own = subst (λ (ρ : Rule). NodesPut ρ s room after m) e p
+
+    full-size : (xs : List Bytes) → length (numbers (tableIn (formOf κ) (ruleOf κ) xs)) ≡ countIn (formOf κ) (ruleOf κ) xs * recordSize (formOf κ)
+    full-size xs = table-length (formOf κ) (ruleOf κ) xs
+
+-- the rule that is handed on is the kind's
+pub rows-ask : (κ : BookKind) (rule : ByRule) {s : Bytes} {n : ℕ} {lens shares : List ℕ} → ruleBy rule ≡ ruleOf κ → NodesAsk (ruleOf κ) s n lens shares → NodesAsk (ruleBy rule) s n lens shares
+rows-ask κ rule {s} {n} {lens} {shares} e a = subst (λ (ρ : Rule). NodesAsk ρ s n lens shares) (sym e) a
+
+module _ {κ : BookKind} {s : Bytes} {n : ℕ} {lens counts shares : List ℕ} {k : ℕ} (a : BuildAsk κ s n lens counts shares k) where
+  -- size is that of a record
+  module _ (m : ℕ) (p : RecordCount κ n shares m) {size : ℕ} (se : size ≡ recordSize (formOf κ)) (small : size ≤ nodeSize) where
+    records-are : m ≡ countIn (formOf κ) (ruleOf κ) (names s)
+    unfolding RecordCount
+    records-are = p s lens counts (a .ready)
+
+    nodes-are : m ≡ length (table (words (ruleOf κ) s))
+    nodes-are = records-are ∙ full-number κ (ruleOf κ) (names s) ∙ ap (λ (ws : Words). length (table ws)) (names-words κ s)
+
+    records-few : m ≤ 4000
+    records-few = go n refl
       where
         go : (i : ℕ) → i ≡ n → m ≤ 4000
         go zero e = omega (arith, nodes-are, ap length (table-empty (words (ruleOf κ) s) (omega (arith, words-length (ruleOf κ) s, a .ready .total))))
         go (suc i) e = omega (arith, nodes-are, table-few (words (ruleOf κ) s) (ready-rises (a .ready)) (omega (arith, words-length (ruleOf κ) s, a .ready .total)), words-length (ruleOf κ) s, a .ready .total, a .ready .few)
 
-    pub nodes-fit : Fits w64 (m * nodeSize)
-    nodes-fit = omega (arith, nodes-few)
+    short : m * size ≤ 4000 * nodeSize
+    short = mul-le-mul records-few small
+
+    pub table-fits : Fits w64 (m * size)
+    table-fits = omega (arith, short)
 
     module _ {c e : ℕ} (t : SumsAre s k c e) where
-      pub sizes-are : Sized κ s k e (e + 2 * c) m (e + 2 * c + m * nodeSize + 16)
+      pub sizes-are : Sized κ s k e (e + 2 * c) m (e + 2 * c + m * size + 16)
       sizes-are = record {
         blocks-start = t .size-is;
         nodes-start = omega (arith, t .count-is);
-        number = nodes-are;
-        whole = refl;
-        few = omega (arith, t .small, t .few, nodes-few);
+        number = records-are;
+        whole = ap (λ (x : ℕ). e + 2 * c + m * x + 16) se;
+        few = omega (arith, t .small, t .few, short);
       }
 
-      pub tables-fit : Fits w64 (e + 2 * c + m * nodeSize)
+      pub tables-fit : Fits w64 (e + 2 * c + m * size)
       tables-fit = omega (arith, sizes-are .few)
 
-      pub book-fits : Fits w64 (e + 2 * c + m * nodeSize + 16)
+      pub book-fits : Fits w64 (e + 2 * c + m * size + 16)
       book-fits = omega (arith, sizes-are .few)
-
-  names-words : map (word (ruleOf κ)) (names s) ≡ words (ruleOf κ) s
-  unfolding words
-  names-words = refl
 
   module _ {blocks nodes count total : ℕ} (z : Sized κ s k blocks nodes count total) where
     trailer-at : trailerAt (kind-layout κ) k (names s) ≡ total - 16
     trailer-at =
-        omega (arith, z .blocks-start, z .nodes-start, z .whole, z .number, full-length κ (ruleOf κ) (names s), full-number κ (ruleOf κ) (names s), ap (λ (ws : Words). length (table ws)) names-words)
+        omega (arith, z .blocks-start, z .nodes-start, z .whole, table-length (formOf κ) (ruleOf κ) (names s), ap (λ (m : ℕ). m * recordSize (formOf κ)) (z .number))
 
     pub book-size : length (book κ k (names s)) ≡ total
     book-size = book-length (kind-layout κ) k (names s) ∙ omega (arith, trailer-at, z .whole)
@@ -89,7 +124,7 @@ module _ {κ : BookKind} {s : Bytes} {n : ℕ} {lens counts shares : List ℕ} {
     trailer-is =
         ap (λ (l : List ℕ). numbers l ++ markOf κ)
         (six (a .ready .total) (z .blocks-start) (omega (arith, z .nodes-start, z .blocks-start))
-        (z .number ∙ ap (λ (ws : Words). length (table ws)) (sym names-words) ∙ sym (full-number κ (ruleOf κ) (names s))) (omega (arith, trailer-at, z .whole)))
+        (z .number) (omega (arith, trailer-at, z .whole)))
       where
         six : {a₁ a₂ b₁ b₂ c₁ c₂ d₁ d₂ e₁ e₂ : ℕ} → a₁ ≡ a₂ → b₁ ≡ b₂ → c₁ ≡ c₂ → d₁ ≡ d₂ → e₁ ≡ e₂
             → _≡_ {A = List ℕ} (a₁ ∷ k ∷ b₁ ∷ c₁ ∷ d₁ ∷ e₁ ∷ []) (a₂ ∷ k ∷ b₂ ∷ c₂ ∷ d₂ ∷ e₂ ∷ [])
@@ -125,19 +160,19 @@ module _ {κ : BookKind} {s : Bytes} {n : ℕ} {lens counts shares : List ℕ} {
       l₁₂ : length (x ++ y) ≡ nodes
       l₁₂ = length-append x y ∙ omega (arith, l₁, l₂, z .nodes-start)
 
-      nodes-part : length (take (total - 16 - nodes) (drop nodes (put (put room 0 blocks x) blocks nodes y))) ≡ count * nodeSize
-      nodes-part =
+      table-part : length (take (total - 16 - nodes) (drop nodes (put (put room 0 blocks x) blocks nodes y))) ≡ count * recordSize (formOf κ)
+      table-part =
           part-length r₂ nodes (total - 16 - nodes) (omega (arith, ap length p₂ ∙ over-length (x ++ y) room (omega (arith, l₁₂, z .whole)), z .whole)) ∙ omega (arith, z .whole)
 
-      module _ (w v : Bytes) {m : ℕ} (q : NodesPut (ruleOf κ) s (take (total - 16 - nodes) (drop nodes (put (put room 0 blocks x) blocks nodes y))) w m) (v-is : v ≡ trailer (markOf κ) n k blocks nodes count total) where
+      module _ (w v : Bytes) (q : TablePut κ s (take (total - 16 - nodes) (drop nodes (put (put room 0 blocks x) blocks nodes y))) w) (v-is : v ≡ trailer (markOf κ) n k blocks nodes count total) where
         abbrev r₃ : Bytes
         r₃ = put r₂ nodes (total - 16) w
 
-        w-is : w ≡ nodePart (table (words (ruleOf κ) s))
-        w-is = q .put (nodes-part ∙ ap (λ (i : ℕ). i * nodeSize) (z .number))
+        w-is : w ≡ numbers (tableIn (formOf κ) (ruleOf κ) (names s))
+        w-is = q .put (table-part ∙ ap (λ (i : ℕ). i * recordSize (formOf κ)) (z .number))
 
         l₃ : length w ≡ total - 16 - nodes
-        l₃ = ap length w-is ∙ omega (arith, nodes-length (table (words (ruleOf κ) s)), z .number, z .whole)
+        l₃ = ap length w-is ∙ omega (arith, table-length (formOf κ) (ruleOf κ) (names s), ap (λ (i : ℕ). i * recordSize (formOf κ)) (z .number), z .whole)
 
         l₄ : length v ≡ 16
         l₄ =
@@ -155,7 +190,7 @@ module _ {κ : BookKind} {s : Bytes} {n : ℕ} {lens counts shares : List ℕ} {
             let end : Bytes = numbers (trailerNumbers (kind-layout κ) k (names s)) ++ markOf κ in
             let grouped : ((es ++ bs) ++ ns) ++ end ≡ es ++ (bs ++ (ns ++ end)) = simp append-assoc in
             ap₂ (λ (i j : Bytes). ((i ++ y) ++ w) ++ j) x-is (v-is ∙ trailer-is)
-            ∙ ap₂ (λ (i j : Bytes). ((es ++ i) ++ j) ++ end) y-is (w-is ∙ ap (λ (ws : Words). nodePart (table ws)) (sym names-words) ∙ sym (full-nodes κ (ruleOf κ) (names s)))
+            ∙ ap₂ (λ (i j : Bytes). ((es ++ i) ++ j) ++ end) y-is w-is
             ∙ grouped ∙ sym (book-parts (kind-layout κ) k (names s))
 
         pub book-lent : put (put (put (put room 0 blocks x) blocks nodes y) nodes (total - 16) w) (total - 16) total v ≡ over (book κ k (names s)) room

@@ -1,6 +1,7 @@
 -- What building a judged list asks and gives.
 --     BuildAsk          a judged list, and a block size 1 to 64
---     Sized             where the tables begin, the number of nodes, the length
+--     RecordCount, TablePut     how many records the table has; what stands in a part that is as long
+--     Sized             where the tables begin, the number of records, the length
 --     builtOf           what a list that was read comes to
 --     shownBuilt        how it ended, with the room that it left, as document 01's numbers
 -- The laws are in proofs/. Assumes nothing: these are definitions.
@@ -9,13 +10,12 @@ use mathlib.Core.Path.{_≡_}
 use mathlib.Core.List.{List}
 use lib.ListN.{length}
 use Rattle.words.specs.Words.{Bytes}
-use Rattle.format.specs.Kinds.{BookKind, formOf, markOf, ruleOf}
-use Rattle.format.specs.Nodes.{table, nodeSize}
+use Rattle.format.specs.Kinds.{BookKind, countIn, formOf, markOf, recordSize, ruleOf, tableIn}
 use Rattle.format.specs.Records.{Names, Reading, mostNames, readList}
-use Rattle.format.specs.Book.{entryPart, blockPart}
+use Rattle.format.specs.Book.{blockPart, entryPart, numbers}
 use Rattle.format.specs.Outcomes.{Written, given, refused}
 use Rattle.answers.specs.Calls.{builtFrom}
-use Rattle.records.specs.Lists.{Ready, names, words}
+use Rattle.records.specs.Lists.{Ready, names}
 use Rattle.build.specs.declared.Built.{Built}
 use Rattle.build.specs.declared.Built.the-variants.{Written as Wrote, Refused}
 
@@ -25,11 +25,18 @@ pub record BuildAsk (κ : BookKind) (s : Bytes) (n : ℕ) (lens counts shares : 
   pub low : 1 ≤ k
   pub high : k ≤ 64
 
+-- of any list of which a judged list's notes tell that
+unfoldable pub RecordCount : BookKind → ℕ → List ℕ → ℕ → Type 0
+RecordCount κ n shares m = (s : Bytes) (lens counts : List ℕ) → Ready (ruleOf κ) s n lens counts shares → m ≡ countIn (formOf κ) (ruleOf κ) (names s)
+
+pub record TablePut (κ : BookKind) (s room after : Bytes) : Type 0 where
+  pub put : length room ≡ countIn (formOf κ) (ruleOf κ) (names s) * recordSize (formOf κ) → after ≡ numbers (tableIn (formOf κ) (ruleOf κ) (names s))
+
 pub record Sized (κ : BookKind) (s : Bytes) (k blocks nodes count total : ℕ) : Type 0 where
   pub blocks-start : blocks ≡ length (entryPart k (names s))
   pub nodes-start : nodes ≡ blocks + length (blockPart k (names s))
-  pub number : count ≡ length (table (words (ruleOf κ) s))
-  pub whole : total ≡ nodes + count * nodeSize + 16
+  pub number : count ≡ countIn (formOf κ) (ruleOf κ) (names s)
+  pub whole : total ≡ nodes + count * recordSize (formOf κ) + 16
   pub few : total ≤ 1000000
 
 -- what a list that was read comes to, by a kind of book

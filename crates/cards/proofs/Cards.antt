@@ -1,7 +1,7 @@
 -- Laws of a worn card's map and of its blocks.
 --     mark-told, told-mark      the mark as bytes, and as two numbers
 --     mapped-trail              a map that makes sense has a trailer that passes
---     mapped-kind, not-plain, is-plain     it is a plain book's
+--     mapped-kind, plain-full, not-by-plain, not-plain, is-plain     it is a plain book's
 --     not-trailed, trailed, MapRead, map-read, not-met, table-ask, map-climbs, mapped-is     whether a map makes sense, by the code's tests
 --     mapped-long, mapped-few, mapped-low, mapped-high, mapped-table     what it shows
 --     bound-inner, bound-last   a bound, where the code reads it
@@ -26,19 +26,22 @@ use Rattle.words.specs.Words.{Bytes, InBytes, both, pick, plain, same}
 use Rattle.words.proofs.Words.{apart, both-true, false≠true, same-refl, same-true}
 use Rattle.format.specs.Book.{number, numbers, told, trailerSize}
 use Rattle.format.specs.Entries.{decode}
-use Rattle.format.specs.Kinds.{PlainBook, kindOf, markOf}
+use Rattle.format.specs.Kinds.{BookKind, FoldedBook, PlainBook, formOf, kindOf, markOf, recordSize}
+use Rattle.format.specs.Nodes.{nodeSize}
 use Rattle.format.specs.Salvage.{Block, Broken, Whole, blockCount, bounds, climbs, fromZero, judgedAlone, mapped}
 use Rattle.format.proofs.Numbers.{numbers-are, numbers-told}
 use Rattle.format.proofs.Salvage.{bounds-inner, bounds-last, bounds-long, bounds-rise, climbs-end, climbs-next, count-few, count-starts, from-first, span-at, whole-alone, whole-tells}
 use Rattle.answers.specs.Salvage.{cardBlocks, reported}
 use Rattle.answers.proofs.Salvage.{Mapped, block-at, blocks-many, mapped-parts}
 use Rattle.numbers.proofs.Parts.{Held, held-bytes}
-use Rattle.symbols.specs.Rules.{kindBy}
+use Rattle.symbols.specs.Rules.{byKind}
+use Rattle.symbols.proofs.Symbols.{folded-other}
+use Rattle.kinds.specs.Known.{isFull, kindBy, markBack, markFront}
+use Rattle.kinds.proofs.Telling.{kind-told}
 use Rattle.symbols.specs.declared.Rule.{Rule as ByRule}
 use Rattle.symbols.specs.declared.Rule.the-variants.{Folded, Plain}
-use Rattle.symbols.proofs.Symbols.{kind-by}
 use Rattle.trailer.proofs.Telling.{mark-kind}
-use Rattle.trailer.specs.Trailer.{Trail, TrailSays, markBack, markFront, trailerIn}
+use Rattle.trailer.specs.Trailer.{Trail, TrailSays, trailerIn}
 use Rattle.trailer.specs.declared.Trailer.{Trailer}
 use Rattle.streams.proofs.Alone.{alone-run, run-alone}
 use Rattle.runs.specs.Judging.{BlockSays}
@@ -80,6 +83,10 @@ number-fits s bytes o = omega (arith, bytes o, bytes (o + 1))
 pub mapped-kind : {s : Bytes} → InBytes s → Mapped s → kindOf s ≡ PlainBook
 mapped-kind {s} bytes m = mark-kind s (m .sized) bytes PlainBook (mark-told s (m .sized) (m .marked) .1)
 
+-- the records of a plain book's table
+records-plain : (s : Bytes) → kindOf s ≡ PlainBook → told s 4 * recordSize (formOf (kindOf s)) ≡ told s 4 * nodeSize
+records-plain s e = ap (λ (κ : BookKind). told s 4 * recordSize (formOf κ)) e
+
 pub mapped-trail : {s : Bytes} → InBytes s → Mapped s → Trail s
 mapped-trail {s} bytes m =
     let size = both-true (leb 1 (told s 1)) (leb (told s 1) 64) (m .block) in
@@ -91,7 +98,7 @@ mapped-trail {s} bytes m =
       low = leb-true 1 (told s 1) (size .0);
       high = leb-true (told s 1) 64 (size .1);
       order = omega (arith, m .table);
-      total = omega (arith, m .nodes);
+      total = omega (arith, m .nodes, records-plain s (mapped-kind bytes m));
       whole = m .long;
       front = marks .0;
       back = marks .1 ∙ ap markBack (sym (mapped-kind bytes m));
@@ -110,20 +117,22 @@ pub trailed : (s : Bytes) (r : Bool) → TrailSays s r → not r ≡ false → T
 trailed s true says h = says
 trailed s false says h = absurd (false≠true (sym h))
 
-pub plain-kind : (r : ByRule) → r ≡ Plain → kindBy r ≡ PlainBook
-plain-kind r e = ap kindBy e
+-- a full book by the plain rule is a plain one
+pub plain-full : (κ : BookKind) (r : ByRule) (full : Bool) → r ≡ byKind κ → r ≡ Plain → full ≡ isFull κ → PlainSays κ full
+plain-full PlainBook r full e h f = rw f refl
+plain-full FoldedBook r full e h f = absurd (folded-other (sym e ∙ h))
 
-pub folded-kind : (r : ByRule) → r ≡ Folded → kindBy r ≡ PlainBook → ⊥
-folded-kind r e h = absurd (lt-irrefl 0 (omega (arith, ap markBack (sym (ap kindBy e) ∙ h))))
+pub not-by-plain : (κ : BookKind) (r : ByRule) → r ≡ byKind κ → r ≡ Folded → PlainSays κ false
+not-by-plain κ r e h = λ z. folded-other (sym h ∙ e ∙ ap byKind z)
 
 -- the mark is not a plain book's
-pub not-plain : (s : Bytes) (t : Trailer) → Held s → t ≡ trailerIn s → (r : Bool) → PlainSays (kindBy (t .rule)) r → not r ≡ true → false ≡ mapped s
+pub not-plain : (s : Bytes) (t : Trailer) → Held s → t ≡ trailerIn s → (r : Bool) → PlainSays (kindBy (t .kind)) r → not r ≡ true → false ≡ mapped s
 not-plain s t held e true says h = absurd (false≠true h)
 not-plain s t held e false says h =
-    no-map (mapped s) (λ m. says (ap (λ (x : Trailer). kindBy (x .rule)) e ∙ kind-by (kindOf s) ∙ mapped-kind (held-bytes s held) (mapped-parts s m)))
+    no-map (mapped s) (λ m. says (ap (λ (x : Trailer). kindBy (x .kind)) e ∙ kind-told (kindOf s) ∙ mapped-kind (held-bytes s held) (mapped-parts s m)))
 
-pub is-plain : (s : Bytes) (t : Trailer) → t ≡ trailerIn s → (r : Bool) → PlainSays (kindBy (t .rule)) r → not r ≡ false → kindOf s ≡ PlainBook
-is-plain s t e true says h = sym (ap (λ (x : Trailer). kindBy (x .rule)) e ∙ kind-by (kindOf s)) ∙ says
+pub is-plain : (s : Bytes) (t : Trailer) → t ≡ trailerIn s → (r : Bool) → PlainSays (kindBy (t .kind)) r → not r ≡ false → kindOf s ≡ PlainBook
+is-plain s t e true says h = sym (ap (λ (x : Trailer). kindBy (x .kind)) e ∙ kind-told (kindOf s)) ∙ says
 is-plain s t e false says h = absurd (false≠true (sym h))
 
 -- the numbers that the code has read
@@ -134,13 +143,13 @@ pub record MapRead (s : Bytes) (table count nodes : ℕ) : Type 0 where
   pub count-is : count ≡ blockCount (told s 0) (told s 1)
   pub nodes-is : nodes ≡ told s 3
 
-pub map-read : {s : Bytes} {t : Trailer} {n k table count nodes : ℕ} → Trail s → kindOf s ≡ PlainBook → t ≡ trailerIn s → n ≡ t .names → k ≡ t .block → table ≡ t .blocks → nodes ≡ t .nodes → count ≡ blockCount n k → MapRead s table count nodes
+pub map-read : {s : Bytes} {t : Trailer} {n k table count nodes : ℕ} → Trail s → kindOf s ≡ PlainBook → t ≡ trailerIn s → n ≡ t .names → k ≡ t .block → table ≡ t .«blocks_at» → nodes ≡ t .«nodes_at» → count ≡ blockCount n k → MapRead s table count nodes
 map-read trail plain e ne ke te ue ce = record {
   trail = trail;
   plain = plain;
-  table-is = te ∙ ap (λ (t : Trailer). t .blocks) e;
+  table-is = te ∙ ap (λ (t : Trailer). t .«blocks_at») e;
   count-is = ce ∙ ap₂ blockCount (ne ∙ ap (λ (t : Trailer). t .names) e) (ke ∙ ap (λ (t : Trailer). t .block) e);
-  nodes-is = ue ∙ ap (λ (t : Trailer). t .nodes) e;
+  nodes-is = ue ∙ ap (λ (t : Trailer). t .«nodes_at») e;
 }
 
 module _ {s : Bytes} {table count nodes : ℕ} (w : MapRead s table count nodes) where
@@ -158,7 +167,7 @@ module _ {s : Bytes} {table count nodes : ℕ} (w : MapRead s table count nodes)
     unfolding mapped
     map-climbs held e =
         let t = w .trail in
-        rw (le-leb trailerSize (length s) (t .long), le-leb (told s 0) 2000 (t .few), le-leb 1 (told s 1) (t .low), le-leb (told s 1) 64 (t .high), eq-eqb (told s 2 + 2 * blockCount (told s 0) (told s 1)) (told s 3) size, eq-eqb (told s 3 + 12 * told s 4 + trailerSize) (length s) (omega (arith, t .total)), eq-eqb (told s 5) (length s) (t .whole), told-mark s (t .long) (held-bytes s held) (t .front) (t .back ∙ ap markBack (w .plain)))
+        rw (le-leb trailerSize (length s) (t .long), le-leb (told s 0) 2000 (t .few), le-leb 1 (told s 1) (t .low), le-leb (told s 1) 64 (t .high), eq-eqb (told s 2 + 2 * blockCount (told s 0) (told s 1)) (told s 3) size, eq-eqb (told s 3 + 12 * told s 4 + trailerSize) (length s) (omega (arith, t .total, records-plain s (w .plain))), eq-eqb (told s 5) (length s) (t .whole), told-mark s (t .long) (held-bytes s held) (t .front) (t .back ∙ ap markBack (w .plain)))
         e
 
 pub mapped-is : (s : Bytes) {m : Bool} → m ≡ mapped s → not m ≡ false → mapped s ≡ true

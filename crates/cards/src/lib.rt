@@ -9,8 +9,9 @@ ghost use Rattle.format.specs.Book.{told};
 ghost use Rattle.format.specs.Salvage.{Broken, blockCount, bounds, fromZero, mapped};
 ghost use Rattle.answers.specs.Salvage.{cardBlocks, reported};
 ghost use Rattle.shapes.specs.Salvage.{keptRow};
-ghost use Rattle.symbols.specs.Rules.{kindBy};
+ghost use Rattle.kinds.specs.Known.{kindBy};
 ghost use Rattle.cards.specs.Cards.{BlockAsk, PlainSays, SpanIs, Table, WholeAsk, WholeSays};
+use kinds::Kind;
 use shapes::Kept;
 use symbols::Rule;
 
@@ -63,12 +64,13 @@ fn blocks_for(n: usize, k: usize) -> usize
     (n + (k - 1)) / k
 }
 
-// Whether a card is a plain book's, by its rule: no other has a map.
-fn is_plain(rule: Rule) -> bool
-    ensures { λ r. ⌜ PlainSays (kindBy rule) r ⌝ }
+// Whether a kind is the plain full book: no other has a map.
+fn is_plain(kind: Kind) -> bool
+    ensures { λ r. ⌜ PlainSays (kindBy kind) r ⌝ }
 {
+    let rule = kinds::rule_of(kind);
     match rule {
-        Rule::Plain => true,
+        Rule::Plain => kinds::is_full(kind),
         Rule::Folded => false,
     }
 }
@@ -81,13 +83,13 @@ pub fn is_mapped(card: &[u8]) -> bool
         return false;
     }
     let t = trailer::read(card);
-    let rule = t.rule;
-    if !is_plain(rule) {
+    let kind = t.kind;
+    if !is_plain(kind) {
         return false;
     }
-    let table = numbers::wide16(t.blocks);
+    let table = numbers::wide16(t.blocks_at);
     let count = blocks_for(numbers::wide16(t.names), numbers::wide16(t.block));
-    if table + 2 * count != numbers::wide16(t.nodes) {
+    if table + 2 * count != numbers::wide16(t.nodes_at) {
         return false;
     }
     starts_rise(card, count)

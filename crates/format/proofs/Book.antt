@@ -1,7 +1,7 @@
 -- A book tells its parts, its block size and its names; and `opened` says just what bytes are a book.
 -- All but the last part holds over any rule, form and mark of four bytes; the kinds are instances.
---     table-length, count-low    the table's bytes are so many records
---     full-length, full-count, full-nodes, full-number     of a full book they are nodes, and so many
+--     table-length, count-low, table-count     the table's bytes are so many records
+--     full-length, full-nodes, full-number     of a full book they are nodes, and so many
 --     FitsBy, Fits, fits-parts, parts-fits     what `fits` asks
 --     book-parts, book-split, book-length      a book is its parts, its body and its trailer; how long it is
 --     from-blocks, from-nodes, from-trailer, from-mark     what stands from each part on
@@ -52,12 +52,13 @@ table-length Rows ρ xs = let rs : List Node = table (map (word ρ) xs) in omega
 pub count-low : (f : Form) (ρ : Rule) (xs : List Bytes) → countIn f ρ xs ≤ length (numbers (tableIn f ρ xs))
 count-low Rows ρ xs = omega (arith, table-length Rows ρ xs)
 
+-- so they tell how many there are
+pub table-count : (f : Form) (ρ : Rule) (xs : List Bytes) (m : ℕ) → m * recordSize f ≡ length (numbers (tableIn f ρ xs)) → m ≡ countIn f ρ xs
+table-count Rows ρ xs m e = omega (arith, table-length Rows ρ xs)
+
 -- of a full book, by the size of a node
 pub full-length : (κ : BookKind) (ρ : Rule) (xs : List Bytes) → length (numbers (tableIn (formOf κ) ρ xs)) ≡ countIn (formOf κ) ρ xs * nodeSize
 full-length κ ρ xs = subst (λ (f : Form). length (numbers (tableIn f ρ xs)) ≡ countIn f ρ xs * nodeSize) (sym (full-rows κ)) (table-length Rows ρ xs)
-
-pub full-count : (κ : BookKind) (ρ : Rule) (xs : List Bytes) (m : ℕ) → m * nodeSize ≡ length (numbers (tableIn (formOf κ) ρ xs)) → m ≡ countIn (formOf κ) ρ xs
-full-count κ ρ xs m e = omega (arith, full-length κ ρ xs)
 
 pub full-nodes : (κ : BookKind) (ρ : Rule) (xs : List Bytes) → numbers (tableIn (formOf κ) ρ xs) ≡ nodePart (table (map (word ρ) xs))
 unfolding nodePart

@@ -86,7 +86,7 @@ fn say_lines(book: &[u8], t: trailer::Trailer)
 fn say_head(t: trailer::Trailer, bytes: usize) {
     say(b"names ", numbers::wide16(t.names));
     say(b" block ", numbers::wide16(t.block));
-    say(b" nodes ", numbers::wide16(t.count));
+    say(b" nodes ", numbers::wide16(t.nodes));
     say(b" bytes ", bytes);
     io::write_all(STDOUT_FILENO, b"\n");
 }

@@ -35,7 +35,7 @@ pub position-sound : {b : Bytes} {t : Trailer} {position : ℕ} → SoundBook b 
 position-sound f h = record {
   framed = f .parts .framed;
   block = ap (λ (x : Trailer). x .block) (f .told);
-  table = ap (λ (x : Trailer). x .blocks) (f .told);
+  table = ap (λ (x : Trailer). x .«blocks_at») (f .told);
   within = omega (arith, f .count);
 }
 
@@ -87,7 +87,7 @@ found-told b t position a =
       };
     }
 
-pub found : {b : Bytes} {t : Trailer} {k position table block : ℕ} → PositionAsk b t position → k ≡ t .block → table ≡ t .blocks → block ≡ position / k → BlockFound b k position table block
+pub found : {b : Bytes} {t : Trailer} {k position table block : ℕ} → PositionAsk b t position → k ≡ t .block → table ≡ t .«blocks_at» → block ≡ position / k → BlockFound b k position table block
 found {b} {t} {k} {position} {table} a ke te f =
     subst (BlockFound b k position table) (sym f)
     (subst (λ (n : ℕ). BlockFound b n position table (position / n)) (sym ke)

@@ -17,7 +17,7 @@ use Rattle.accept.specs.Parts.{Framed}
 pub record PositionAsk (b : Bytes) (t : Trailer) (position : ℕ) : Type 0 where
   pub framed : Framed b
   pub block : t .block ≡ told b 1
-  pub table : t .blocks ≡ told b 2
+  pub table : t .«blocks_at» ≡ told b 2
   pub within : position < length (namesOf b)
 
 pub record Named (x : Bytes) (len : ℕ) (name : Bytes) : Type 0 where

@@ -23,7 +23,7 @@ pub fn read_name(book: &[u8], t: trailer::Trailer, position: usize) -> entries::
     ensures { λ r. ⌜ Named (getD (namesOf (now (book .entry))) position []) (r .len) (r .name) ⌝ }
 {
     let k = numbers::wide16(t.block);
-    let table = numbers::wide16(t.blocks);
+    let table = numbers::wide16(t.blocks_at);
     let block = block_of(k, position);
     let start = numbers::number_at(book, table + 2 * block);
     entries::name_of(book, start, position - block * k)

@@ -34,7 +34,7 @@ use Rattle.accept.proofs.Judging.{SoundBook, sound-book}
 use Rattle.search.specs.Asks.{KindAsk}
 use Rattle.shapes.specs.Shapes.{answered}
 use Rattle.shapes.specs.declared.Answer.{Answer}
-use Rattle.questions.specs.Asking.{Asking, KindNumber}
+use Rattle.questions.specs.Asking.{Asking, KindNumber, Looking}
 use Rattle.questions.proofs.Checks.{no-book}
 
 pub ask-unsound : (kind : ℕ) (b q : Bytes) (r : Answer) → answered r ≡ refused 2 → (v : Checked) → v ≡ checkOn b (opened b) → v ≡ Unsound
@@ -53,12 +53,25 @@ none-found (suc (suc (suc (suc zero)))) h n q = absurd (n refl)
 none-found (suc (suc (suc (suc (suc zero))))) h n q = refl
 none-found (suc (suc (suc (suc (suc (suc kind)))))) h n q = absurd (lt-irrefl 5 (omega (arith, h .high)))
 
+-- an accepted book with names, whose table is node rows, can be searched
+pub askable : (b : Bytes) (t : Trailer) (kind : ℕ) → Held b → Looking b t kind → KindAsk b t kind
+askable b t kind held l =
+    let f = sound-book b t (held-bytes b held) (l .asking .checked) in
+    record {
+      askable = record {
+        parts = f .parts;
+        block = ap (λ (x : Trailer). x .block) (f .told);
+        table = ap (λ (x : Trailer). x .«blocks_at») (f .told);
+        nodes = ap (λ (x : Trailer). x .«nodes_at») (f .told);
+        searchable = opened-searchable (kindOf b) (full-rows (kindOf b)) b (t .block) (namesOf b) (f .book) (held-bytes b held) (omega (arith, f .count, l .some));
+      };
+      low = l .asking .number .low;
+      high = l .asking .number .high;
+    }
+
 module _ (b q : Bytes) (t : Trailer) (kind : ℕ) (held : Held b) (s : Asking b t kind) where
   abbrev n : ℕ
   n = t .names
-
-  abbrev k : ℕ
-  k = t .block
 
   bytes : InBytes b
   bytes = held-bytes b held
@@ -94,21 +107,6 @@ module _ (b q : Bytes) (t : Trailer) (kind : ℕ) (held : Held b) (s : Asking b 
         none (x ∷ xs) l = absurd (lt-irrefl 0 (omega arith))
 
     module _ (some : n ≡ 0 → ⊥) where
-      pub askable : KindAsk b t kind
-      askable =
-          let f = shown in
-          record {
-            askable = record {
-              parts = f .parts;
-              block = ap (λ (x : Trailer). x .block) (f .told);
-              table = ap (λ (x : Trailer). x .blocks) (f .told);
-              nodes = ap (λ (x : Trailer). x .nodes) (f .told);
-              searchable = opened-searchable (kindOf b) (full-rows (kindOf b)) b k (namesOf b) (f .book) bytes (omega (arith, names));
-            };
-            low = s .number .low;
-            high = s .number .high;
-          }
-
       module _ {x y : ℕ} (e : (x, y) ≡ ask kind (asked (ruleIn b) q) (wordsOf (ruleIn b) b)) where
         pub ask-some : (kind ≡ 4 → ⊥) → given x y ≡ question kind b q
         unfolding asked wordsOf

@@ -1,5 +1,6 @@
 -- What the functions ask of each other, and how a batch opens. An answer and a row as document 01's numbers are in the crate shapes.
---     KindNumber, Asking    the kind of a question, 1 to 5; that, and that the check of these bytes gives what the trailer tells
+--     KindNumber, Asking, Looking     the kind of a question, 1 to 5; that, and that the check of these bytes gives what the trailer tells; that, of a
+--                       book with names
 --     takesRows, openingOf, closedBy    how a batch opens: its rows are taken or not; 12, 2 or accepted; an opening that refuses
 --     Accepted          a book of which an accepting opening has the trailer
 -- Assumes nothing: these are definitions.
@@ -11,7 +12,7 @@ use Rattle.words.specs.Words.{Bytes, both}
 use Rattle.format.specs.Book.{Book, NoBook, Opened, opened}
 use Rattle.answers.specs.Widths.{lastKind}
 use Rattle.trailer.specs.Trailer.{trailerIn}
-use Rattle.symbols.specs.declared.Rule.the-variants.{Plain}
+use Rattle.kinds.specs.declared.Kind.the-variants.{Plain}
 use Rattle.trailer.specs.declared.Trailer.{Trailer}
 use Rattle.accept.specs.Parts.{checkOn}
 use Rattle.accept.specs.declared.Checked.the-variants.{Sound}
@@ -25,10 +26,15 @@ pub record Asking (b : Bytes) (t : Trailer) (kind : ℕ) : Type 0 where
   pub checked : Sound t ≡ checkOn b (opened b)
   pub number : KindNumber kind
 
+-- .. of a book with names
+pub record Looking (b : Bytes) (t : Trailer) (kind : ℕ) : Type 0 where
+  pub asking : Asking b t kind
+  pub some : t .names ≡ 0 → ⊥
+
 -- ---- batches
 
 abbrev pub noTrailer : Trailer
-noTrailer = record { names = 0; block = 0; blocks = 0; nodes = 0; count = 0; rule = Plain }
+noTrailer = record { names = 0; block = 0; «blocks_at» = 0; «nodes_at» = 0; nodes = 0; kind = Plain }
 
 abbrev pub closedBy : ℕ → Opening
 closedBy code = record { answer = record { code = code; first = 0; second = 0 }; trailer = noTrailer }

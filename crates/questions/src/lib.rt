@@ -1,13 +1,31 @@
 // What the public calls stand on: a question to a book that the check has accepted, how a batch opens, and what one of its rows gets.
 // Whoever asks here has to know what the check answered; the calls above ask nothing.
+use kinds::Form;
+use kinds::Kind;
 use shapes::Answer;
 use shapes::Row;
-use symbols::Rule;
 ghost use mathlib.Core.Path.{_≡_};
 ghost use Rattle.format.specs.Book.{opened};
+ghost use Rattle.format.specs.Kinds.{ruleIn};
+ghost use Rattle.format.specs.Spans.{wordsOf};
 ghost use Rattle.answers.specs.Calls.{question as askedOf, rowAnswer};
+ghost use Rattle.answers.specs.Questions.{ask as answerOf};
+ghost use Rattle.descent.specs.Vocabulary.{asked};
+ghost use Rattle.search.specs.Asks.{pairOf};
 ghost use Rattle.shapes.specs.Shapes.{answered, rowOf};
-ghost use Rattle.questions.specs.Asking.{Accepted, Asking, KindNumber, closedBy, openingOf, takesRows};
+ghost use Rattle.questions.specs.Asking.{Accepted, Asking, KindNumber, Looking, closedBy, openingOf, takesRows};
+
+// The two numbers that an accepted book with names answers to a question of a kind from 1 to 5: an arm for each form of table.
+fn look_up(book: &[u8], t: trailer::Trailer, kind: usize, question: &[u8]) -> search::Pair
+    requires { ⌜ Looking (now book) t kind ⌝ }
+    ensures { λ r. ⌜ pairOf r ≡ answerOf kind (asked (ruleIn (now (book .entry))) (now (question .entry))) (wordsOf (ruleIn (now (book .entry))) (now (book .entry))) ⌝ }
+{
+    let book_kind = t.kind;
+    let form = kinds::form_of(book_kind);
+    match form {
+        Form::Rows => search::answer(book, t, kind, question),
+    }
+}
 
 // A question of a kind from 1 to 5 to a book that the check has accepted, by what its trailer tells: whoever has many questions checks
 // once. Of what nearest's name shares, what can be lit of the question is given. Refusals: 1, 10.
@@ -24,7 +42,7 @@ pub fn ask(book: &[u8], t: trailer::Trailer, kind: usize, question: &[u8]) -> An
         }
         return shapes::refuse(0, 0);
     }
-    let pair = search::answer(book, t, kind, question);
+    let pair = look_up(book, t, kind, question);
     if kind == 4 {
         return Answer {
             code: 0,
@@ -65,10 +83,10 @@ fn closed(code: usize) -> Opening
     let trailer = trailer::Trailer {
         names: 0,
         block: 0,
-        blocks: 0,
+        blocks_at: 0,
+        nodes_at: 0,
         nodes: 0,
-        count: 0,
-        rule: Rule::Plain,
+        kind: Kind::Plain,
     };
     Opening { answer, trailer }
 }

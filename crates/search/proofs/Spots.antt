@@ -149,7 +149,7 @@ module _ (b q : Bytes) {start : ℕ} (o : Searchable (ruleIn b) b (rowsAt start)
         }
 
 -- the table starts where the trailer tells
-pub starts : {b : Bytes} {t : Trailer} {start : ℕ} → Askable b t → start ≡ t .nodes → Searchable (ruleIn b) b (rowsAt start)
+pub starts : {b : Bytes} {t : Trailer} {start : ℕ} → Askable b t → start ≡ t .«nodes_at» → Searchable (ruleIn b) b (rowsAt start)
 starts {b} a e = subst (λ (o : ℕ). Searchable (ruleIn b) b (rowsAt o)) (sym (e ∙ a .nodes)) (a .searchable)
 
 -- the name that is reached can be read

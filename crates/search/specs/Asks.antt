@@ -92,8 +92,8 @@ pub record AtSpot (b : Bytes) (start : ℕ) (q : Bytes) (v m s : ℕ) : Type 0 w
 pub record Askable (b : Bytes) (t : Trailer) : Type 0 where
   pub parts : Parts b
   pub block : t .block ≡ told b 1
-  pub table : t .blocks ≡ told b 2
-  pub nodes : t .nodes ≡ told b 3
+  pub table : t .«blocks_at» ≡ told b 2
+  pub nodes : t .«nodes_at» ≡ told b 3
   pub searchable : Searchable (ruleIn b) b (rowsAt (told b 3))
 
 pub record KindAsk (b : Bytes) (t : Trailer) (kind : ℕ) : Type 0 where

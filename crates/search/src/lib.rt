@@ -217,7 +217,7 @@ fn meet(book: &[u8], t: trailer::Trailer, question: &[u8]) -> Near
     requires { ⌜ Askable (now book) t ⌝ }
     ensures { λ r. ⌜ NearSays (wordsOf (ruleIn (now (book .entry))) (now (book .entry))) (asked (ruleIn (now (book .entry))) (now (question .entry))) (r .position) (r .shared) (r .len) ⌝ }
 {
-    let start = numbers::wide16(t.nodes);
+    let start = numbers::wide16(t.nodes_at);
     let position = reach(book, start, question);
     let entry = names::read_name(book, t, position);
     let name = entry.name;
@@ -235,7 +235,7 @@ fn locate(book: &[u8], t: trailer::Trailer, question: &[u8]) -> Spot
     requires { ⌜ Askable (now book) t ⌝ }
     ensures { λ r. ⌜ SpotSays (wordsOf (ruleIn (now (book .entry))) (now (book .entry))) (asked (ruleIn (now (book .entry))) (now (question .entry))) (r .node) (r .shared) (r .symbol) ⌝ }
 {
-    let start = numbers::wide16(t.nodes);
+    let start = numbers::wide16(t.nodes_at);
     let way = descend(book, start, question);
     let position = first_of(book, start, way.last);
     let met = compare(book, t, position, question);
@@ -300,7 +300,7 @@ fn ask_place(book: &[u8], t: trailer::Trailer, question: &[u8]) -> Pair
     requires { ⌜ Askable (now book) t ⌝ }
     ensures { λ r. ⌜ pairOf r ≡ (place (asked (ruleIn (now (book .entry))) (now (question .entry))) (wordsOf (ruleIn (now (book .entry))) (now (book .entry))), 0) ⌝ }
 {
-    let start = numbers::wide16(t.nodes);
+    let start = numbers::wide16(t.nodes_at);
     let spot = locate(book, t, question);
     Pair {
         first: seat(book, start, question, spot),
@@ -313,7 +313,7 @@ fn ask_range(book: &[u8], t: trailer::Trailer, question: &[u8]) -> Pair
     requires { ⌜ Askable (now book) t ⌝ }
     ensures { λ r. ⌜ pairOf r ≡ range (asked (ruleIn (now (book .entry))) (now (question .entry))) (wordsOf (ruleIn (now (book .entry))) (now (book .entry))) ⌝ }
 {
-    let start = numbers::wide16(t.nodes);
+    let start = numbers::wide16(t.nodes_at);
     let spot = locate(book, t, question);
     let first = seat(book, start, question, spot);
     if spot.shared < question.len() {
@@ -340,7 +340,7 @@ fn ask_width(book: &[u8], t: trailer::Trailer, question: &[u8]) -> Pair
     requires { ⌜ Askable (now book) t ⌝ }
     ensures { λ r. ⌜ pairOf r ≡ (width (asked (ruleIn (now (book .entry))) (now (question .entry))) (wordsOf (ruleIn (now (book .entry))) (now (book .entry))), 0) ⌝ }
 {
-    let start = numbers::wide16(t.nodes);
+    let start = numbers::wide16(t.nodes_at);
     let spot = locate(book, t, question);
     if spot.shared != question.len() {
         return Pair {

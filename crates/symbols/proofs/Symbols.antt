@@ -3,7 +3,7 @@
 --     symbol-plain, -small, -capital    a byte's symbol, way by way
 --     pair-..                   a byte and a greater one, by the folded rule
 --     alike-.., higher-.., has-..   two bytes and their symbols; a byte and a symbol
---     kind-by, rule-by, rule-sure     the code's rules are the kinds' rules, and lawful
+--     rule-by, folded-other, rule-sure     the code's rules are the kinds' rules, two of them, and lawful
 --     symbol-in-.., symbol-past     a name's symbol; past the last byte stands the end symbol
 --     Sharing, sharing-..       the loop over what two names share
 --     parted-..                 names that part at their first bytes
@@ -25,7 +25,7 @@ use Rattle.format.specs.Folded.{capital}
 use Rattle.format.specs.Kinds.{BookKind, FoldedBook, PlainBook, ruleOf}
 use Rattle.format.proofs.BookKinds.{capital-bounds, kind-sure, small-rule}
 use Rattle.symbols.specs.Parting.{Parted}
-use Rattle.symbols.specs.Rules.{byKind, kindBy, ruleBy}
+use Rattle.symbols.specs.Rules.{byKind, ruleBy}
 use Rattle.symbols.specs.declared.Rule.{Rule as ByRule}
 use Rattle.symbols.specs.declared.Rule.the-variants.{Folded, Plain}
 
@@ -37,13 +37,17 @@ capital-below x h = rw (lt-leb 65 x h) refl
 pub capital-within : (x : ℕ) → 65 ≤ x → leb x 90 ≡ capital x
 capital-within x g = rw (le-leb 65 x g) refl
 
+small-by : (r : ByRule) (x : ℕ) → capital x ≡ false → ruleBy r x ≡ suc x
+small-by Plain x e = small-rule PlainBook x e
+small-by Folded x e = small-rule FoldedBook x e
+
 -- t is the byte, wider; v is whether it is a capital letter
 module _ (r : ByRule) (x t : ℕ) where
   pub symbol-plain : r ≡ Plain → t ≡ x → t < 256 → (t + 1 ≡ ruleBy r x) × (t + 1 < 257)
   symbol-plain e w h = rw e (omega arith, omega arith)
 
   pub symbol-small : (v : Bool) → v ≡ capital x → v ≡ false → t ≡ x → t < 256 → (t + 1 ≡ ruleBy r x) × (t + 1 < 257)
-  symbol-small v e n w h = (omega (arith, small-rule (kindBy r) x (sym e ∙ n)), omega arith)
+  symbol-small v e n w h = (omega (arith, small-by r x (sym e ∙ n)), omega arith)
 
   pub symbol-capital : (v : Bool) → v ≡ capital x → v ≡ true → r ≡ Folded → t ≡ x → (t + 1 + 32 ≡ ruleBy r x) × (t + 1 + 32 < 257)
   symbol-capital v e is q w =
@@ -127,15 +131,17 @@ has-plain r x s t e w = let z : t + 1 ≡ suc x = omega arith in rw e (ap (eqb s
 pub has-folded : (r : ByRule) (x s t : ℕ) → r ≡ Folded → t ≡ ruleBy Folded x → eqb s t ≡ eqb s (ruleBy r x)
 has-folded r x s t e p = rw e (ap (eqb s) p)
 
-pub kind-by : (κ : BookKind) → kindBy (byKind κ) ≡ κ
-kind-by PlainBook = refl
-kind-by FoldedBook = refl
-
 pub rule-by : (κ : BookKind) → ruleBy (byKind κ) ≡ ruleOf κ
-rule-by κ = ap ruleOf (kind-by κ)
+rule-by PlainBook = refl
+rule-by FoldedBook = refl
+
+-- the two rules are two: byte 65 tells them apart
+pub folded-other : _≡_ {A = ByRule} Folded Plain → ⊥
+folded-other e = lt-irrefl 0 (omega (arith, ap (λ (r : ByRule). ruleBy r 65) e))
 
 pub rule-sure : (r : ByRule) → Sure (ruleBy r)
-rule-sure r = kind-sure (kindBy r)
+rule-sure Plain = kind-sure PlainBook
+rule-sure Folded = kind-sure FoldedBook
 
 -- ---- a name's symbol
 

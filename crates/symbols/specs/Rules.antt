@@ -1,18 +1,16 @@
 -- The rule that the code takes along, as the definitions have it.
---     kindBy, ruleBy    the kind of book whose rule it is; the rule itself
---     byKind            the other way round
+--     ruleBy            the rule itself
+--     byKind            the one that a kind of book has
 -- Assumes nothing: these are definitions.
-use Rattle.words.specs.Words.{Rule}
-use Rattle.format.specs.Kinds.{BookKind, FoldedBook, PlainBook, ruleOf}
+use Rattle.words.specs.Words.{Rule, plain}
+use Rattle.format.specs.Folded.{folded}
+use Rattle.format.specs.Kinds.{BookKind, FoldedBook, PlainBook}
 use Rattle.symbols.specs.declared.Rule.{Rule as ByRule}
 use Rattle.symbols.specs.declared.Rule.the-variants.{Folded, Plain}
 
-abbrev pub kindBy : ByRule → BookKind
-kindBy Plain = PlainBook
-kindBy Folded = FoldedBook
-
 abbrev pub ruleBy : ByRule → Rule
-ruleBy r = ruleOf (kindBy r)
+ruleBy Plain = plain
+ruleBy Folded = folded
 
 abbrev pub byKind : BookKind → ByRule
 byKind PlainBook = Plain

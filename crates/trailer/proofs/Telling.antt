@@ -1,31 +1,37 @@
 -- The trailer, number by number.
 --     trailer-told      the numbers that were read are those that the trailer tells
 --     rule-folded, rule-plain     the third byte of the mark tells the rule
---     mark-kind, mark-own, unmarked     the back of the mark tells the kind; a kind's own; none of them
---     mark-by           the back of the mark, by the rule that the code has
+--     mark-kind         the back of the mark tells the kind
+--     mark-is, size-is  the back of a mark, and the size of a record, by the kind that the third byte tells
+--     trail-marked      the test of the mark's back, behind all others
+--     records-few       how many bytes records take at the most
 --     trailer-is        eight numbers, the last two of which are the mark
 -- Assumes nothing.
-use Prim.Native.Nat.{ℕ, _+_, _-_, _*_, _≤_}
+use Prim.Native.Nat.{ℕ, _+_, _-_, _*_, _<_, _≤_}
+use native.Mathlib.Nat.{mul-le-mul}
 use native.Mathlib.Omega.{arith}
 use mathlib.Core.Path.{_≡_, refl, sym, ap, ap₂, _∙_}
 use mathlib.Core.Bool.{Bool, false, true}
 use mathlib.Core.List.{[], _∷_}
 use lib.ListN.{getD, length}
 use lib.Dec.{eqb}
-use borrow.Author.Tests.{ne-eqb}
+use borrow.Author.Tests.{eqb-false, eqb-true, ne-eqb}
 use Rattle.words.specs.Words.{Bytes, InBytes, pick}
 use Rattle.format.specs.Book.{number, numbers, told, trailer, trailerSize}
-use Rattle.format.specs.Kinds.{BookKind, FoldedBook, PlainBook, allKinds, kindOf, markOf, markedAs}
+use Rattle.format.specs.Kinds.{BookKind, FoldedBook, PlainBook, allKinds, formOf, kindOf, markOf, markedAs, recordSize}
+use Rattle.format.specs.Nodes.{nodeSize}
 use Rattle.format.proofs.BookKinds.{third-tells}
-use Rattle.numbers.proofs.Parts.{Held, held-bytes}
-use Rattle.symbols.specs.Rules.{byKind, kindBy}
-use Rattle.symbols.specs.declared.Rule.{Rule}
+use Rattle.symbols.specs.Rules.{byKind}
 use Rattle.symbols.specs.declared.Rule.the-variants.{Folded, Plain}
-use Rattle.trailer.specs.Trailer.{Trail, markBack, markFront, trailerIn}
+use Rattle.kinds.specs.Known.{formBy, kindBy, kindFor, markBack, markFront}
+use Rattle.kinds.specs.declared.Form.{Form}
+use Rattle.kinds.specs.declared.Kind.{Kind}
+use Rattle.kinds.proofs.Telling.{kind-told}
+use Rattle.trailer.specs.Trailer.{Trail, TrailSays, trailerIn}
 
-pub trailer-told : (b : Bytes) (n k s u m : ℕ) (r : Rule) → n ≡ told b 0 → k ≡ told b 1 → s ≡ told b 2 → u ≡ told b 3 → m ≡ told b 4 → r ≡ byKind (kindOf b)
-    → record { names = n; block = k; blocks = s; nodes = u; count = m; rule = r } ≡ trailerIn b
-trailer-told b n k s u m r ne ke se ue me re = rw (ne, ke, se, ue, me, re) refl
+pub trailer-told : (b : Bytes) (n k s u m : ℕ) (κ : Kind) → n ≡ told b 0 → k ≡ told b 1 → s ≡ told b 2 → u ≡ told b 3 → m ≡ told b 4 → κ ≡ kindFor (kindOf b)
+    → record { names = n; block = k; «blocks_at» = s; «nodes_at» = u; nodes = m; kind = κ } ≡ trailerIn b
+trailer-told b n k s u m κ ne ke se ue me κe = rw (ne, ke, se, ue, me, κe) refl
 
 pub rule-folded : (b : Bytes) → getD b (length b - 2) 0 ≡ 0x46 → Folded ≡ byKind (kindOf b)
 rule-folded b e = ap (λ (x : ℕ). byKind (markedAs x allKinds)) (sym e)
@@ -54,18 +60,26 @@ mark-kind b long bytes κ e = ap (λ (x : ℕ). markedAs x allKinds) (is κ e) �
     is PlainBook h = omega (arith, third b long bytes 0x324B h, bytes (length b - 2), bytes (length b - 1))
     is FoldedBook h = omega (arith, third b long bytes 0x3246 h, bytes (length b - 2), bytes (length b - 1))
 
-pub mark-own : (b : Bytes) → trailerSize ≤ length b → Held b → (κ : BookKind) (x : ℕ) → x ≡ told b 7 → x ≡ markBack κ → told b 7 ≡ markBack (kindOf b)
-mark-own b long held κ x e h = sym e ∙ h ∙ ap markBack (sym (mark-kind b long (held-bytes b held) κ (sym e ∙ h)))
+-- the back of the kind that the third byte tells
+pub mark-is : (b : Bytes) (kind : Kind) (back : ℕ) → kind ≡ kindFor (kindOf b) → back ≡ markBack (kindBy kind) → back ≡ markBack (kindOf b)
+mark-is b kind back e h = h ∙ ap (λ (x : Kind). markBack (kindBy x)) e ∙ ap markBack (kind-told (kindOf b))
 
-pub unmarked : (b : Bytes) (x : ℕ) → x ≡ told b 7 → (x ≡ markBack PlainBook → ⊥) → (x ≡ markBack FoldedBook → ⊥) → Trail b → ⊥
-unmarked b x e n m t = go (kindOf b) (e ∙ t .back)
+-- the size of a record in the table of that kind
+pub size-is : (b : Bytes) (kind : Kind) (form : Form) (size : ℕ) → kind ≡ kindFor (kindOf b) → formBy form ≡ formOf (kindBy kind) → size ≡ recordSize (formBy form)
+    → size ≡ recordSize (formOf (kindOf b))
+size-is b kind form size e f h = h ∙ ap recordSize (f ∙ ap (λ (x : Kind). formOf (kindBy x)) e ∙ ap formOf (kind-told (kindOf b)))
+
+-- the back of the mark is asked for last
+pub trail-marked : (b : Bytes) (x y : ℕ) → x ≡ told b 7 → y ≡ markBack (kindOf b) → (told b 7 ≡ markBack (kindOf b) → Trail b) → TrailSays b (eqb x y)
+trail-marked b x y xe ye fits = go (eqb x y) refl
   where
-    go : (κ : BookKind) → x ≡ markBack κ → ⊥
-    go PlainBook h = n h
-    go FoldedBook h = m h
+    go : (v : Bool) → eqb x y ≡ v → TrailSays b v
+    go true q = fits (sym xe ∙ eqb-true x y q ∙ ye)
+    go false q = λ t. eqb-false x y q (xe ∙ t .back ∙ sym ye)
 
-pub mark-by : (r arm : Rule) → r ≡ arm → markBack (kindBy arm) ≡ markBack (kindBy r)
-mark-by r arm e = ap (λ (x : Rule). markBack (kindBy x)) (sym e)
+-- so many records are no more bytes than nodes would be
+pub records-few : (n size : ℕ) → n < 65536 → size ≤ nodeSize → n * size ≤ 65536 * nodeSize
+records-few n size h k = let few : n ≤ 65536 = omega arith in mul-le-mul few k
 
 pub trailer-is : (κ : BookKind) (part : Bytes) (n k s u m total back : ℕ) → back ≡ markBack κ
     → part ≡ numbers (n ∷ k ∷ s ∷ u ∷ m ∷ total ∷ markFront ∷ back ∷ []) → part ≡ trailer (markOf κ) n k s u m total

@@ -5,33 +5,30 @@ ghost use Prim.Native.Nat.{_<_, _≤_};
 ghost use lib.ListN.{length};
 ghost use Rattle.format.specs.Book.{told, trailer, trailerSize};
 ghost use Rattle.format.specs.Kinds.{kindOf, markOf};
-ghost use Rattle.symbols.specs.Rules.{byKind, kindBy};
-ghost use Rattle.trailer.specs.Trailer.{TrailSays, markBack, trailerIn};
+ghost use Rattle.symbols.specs.Rules.{byKind};
+ghost use Rattle.kinds.specs.Known.{kindBy, kindFor};
+ghost use Rattle.trailer.specs.Trailer.{TrailSays, trailerIn};
+use kinds::Kind;
 use symbols::Rule;
 
 // How many bytes a trailer has.
 pub const SIZE: usize = 16;
 
-// A mark as two numbers, its front and its back: 4E 42 4B 32 for plain books, 4E 42 46 32 for folded ones.
+// The front of every mark as a number, 4E 42. The back is its kind's.
 const FRONT: usize = 0x424E;
 
-const PLAIN: usize = 0x324B;
-
-const FOLDED: usize = 0x3246;
-
-// What the trailer tells of its book, but for its length. As narrow as they are stored, the numbers cost a guest no more stack than two
-// of them did.
+// What the trailer tells of its book, but for its length. Numbers are u16, as stored, to save stack.
 pub struct Trailer {
     // How many names, in blocks of how many.
     pub names: u16,
     pub block: u16,
     // Where the block table and the node table start.
-    pub blocks: u16,
-    pub nodes: u16,
+    pub blocks_at: u16,
+    pub nodes_at: u16,
     // How many nodes.
-    pub count: u16,
-    // By which rule its names have their symbols.
-    pub rule: Rule,
+    pub nodes: u16,
+    // The kind of book that its mark tells.
+    pub kind: Kind,
 }
 
 // Number j of the trailer.
@@ -40,6 +37,14 @@ fn number(book: &[u8], j: usize) -> usize
     ensures { λ r. ⌜ (r ≡ told (now (book .entry)) j) × (r < 65536) ⌝ }
 {
     numbers::number_at(book, book.len() - SIZE + 2 * j)
+}
+
+// How many names there are.
+pub fn names(book: &[u8]) -> usize
+    requires { ⌜ trailerSize ≤ length (now book) ⌝ }
+    ensures { λ r. ⌜ (r ≡ told (now (book .entry)) 0) × (r < 65536) ⌝ }
+{
+    number(book, 0)
 }
 
 // How many names a block has. Who walks in a recursion asks for it where it is wanted: each number that is handed down costs every level
@@ -67,7 +72,15 @@ pub fn nodes_at(book: &[u8]) -> usize
     number(book, 3)
 }
 
-// By which rule the names have their symbols: the third byte of the mark tells it. Who walks in a recursion asks for it where it is wanted.
+// The kind of book that the third byte of the mark tells.
+pub fn kind(book: &[u8]) -> Kind
+    requires { ⌜ trailerSize ≤ length (now book) ⌝ }
+    ensures { λ r. ⌜ r ≡ kindFor (kindOf (now (book .entry))) ⌝ }
+{
+    kinds::marked(book[book.len() - 2])
+}
+
+// By which rule the names have their symbols: one test of one byte. Who walks in a recursion asks for it where it is wanted.
 pub fn rule(book: &[u8]) -> Rule
     requires { ⌜ trailerSize ≤ length (now book) ⌝ }
     ensures { λ r. ⌜ r ≡ byKind (kindOf (now (book .entry))) ⌝ }
@@ -84,12 +97,12 @@ pub fn read(book: &[u8]) -> Trailer
     ensures { λ r. ⌜ r ≡ trailerIn (now (book .entry)) ⌝ }
 {
     Trailer {
-        names: number(book, 0) as u16,
+        names: names(book) as u16,
         block: block(book) as u16,
-        blocks: blocks_at(book) as u16,
-        nodes: number(book, 3) as u16,
-        count: number(book, 4) as u16,
-        rule: rule(book),
+        blocks_at: blocks_at(book) as u16,
+        nodes_at: nodes_at(book) as u16,
+        nodes: number(book, 4) as u16,
+        kind: kind(book),
     }
 }
 
@@ -103,7 +116,7 @@ pub fn is_trailer(book: &[u8]) -> bool
     if 65535 < book.len() {
         return false;
     }
-    if 2000 < number(book, 0) {
+    if 2000 < names(book) {
         return false;
     }
     let k = block(book);
@@ -113,11 +126,13 @@ pub fn is_trailer(book: &[u8]) -> bool
     if 64 < k {
         return false;
     }
-    let nodes_at = number(book, 3);
-    if nodes_at < blocks_at(book) {
+    let start = nodes_at(book);
+    if start < blocks_at(book) {
         return false;
     }
-    if nodes_at + number(book, 4) * fields::SIZE + SIZE != book.len() {
+    let kind = kind(book);
+    let size = kinds::record_size(kinds::form_of(kind));
+    if start + number(book, 4) * size + SIZE != book.len() {
         return false;
     }
     if number(book, 5) != book.len() {
@@ -126,24 +141,7 @@ pub fn is_trailer(book: &[u8]) -> bool
     if number(book, 6) != FRONT {
         return false;
     }
-    let back = number(book, 7);
-    if back == PLAIN {
-        return true;
-    }
-    if back != FOLDED {
-        return false;
-    }
-    true
-}
-
-// The back of the mark of a kind of book.
-fn mark_back(rule: Rule) -> usize
-    ensures { λ r. ⌜ r ≡ markBack (kindBy rule) ⌝ }
-{
-    match rule {
-        Rule::Plain => PLAIN,
-        Rule::Folded => FOLDED,
-    }
+    number(book, 7) == kinds::mark_back(kind)
 }
 
 // The trailer of a book of so many names in blocks of so many, with these starts of its tables, so many nodes and so many bytes in all, and
@@ -156,12 +154,12 @@ pub fn put_trailer(
     nodes: usize,
     count: usize,
     total: usize,
-    rule: Rule,
+    kind: Kind,
 )
     requires { ⌜ length (now part) ≡ trailerSize ⌝ }
-    ensures { λ _. ⌜ now (part .exit) ≡ trailer (markOf (kindBy rule)) names block blocks nodes count total ⌝ }
+    ensures { λ _. ⌜ now (part .exit) ≡ trailer (markOf (kindBy kind)) names block blocks nodes count total ⌝ }
 {
-    let back = mark_back(rule);
+    let back = kinds::mark_back(kind);
     let fields = [names, block, blocks, nodes, count, total, FRONT, back];
     numbers::put_numbers(part, &fields);
 }

@@ -64,8 +64,8 @@ use Rattle.shapes.proofs.Row as R
 use Rattle.shapes.proofs.Row.Laws as R′
 use Rattle.shapes.proofs.Answer as P
 use Rattle.shapes.proofs.Answer.Laws as P′
-use Rattle.symbols.specs.declared.Rule.{Rule}
-use Rattle.symbols.specs.declared.Rule.the-variants.{Folded, Plain}
+use Rattle.kinds.specs.declared.Kind.{Kind}
+use Rattle.kinds.specs.declared.Kind.the-variants.{Folded, Plain}
 use Rattle.questions.specs.Asking.{Accepted}
 use Rattle.questions.specs.declared.Opening.{Opening}
 use Rattle.questions.proofs.Opening as O
@@ -87,14 +87,14 @@ use Rattle.book.proofs.book_batch.Statement as stated
 use Rattle.book.proofs.book_batch.Code as code
 use Rattle.book.proofs.book_batch.Code.Mir as mir′
 
--- an opening as the machine has it: the rule in its trailer is a case of an enum, and each case computes
+-- an opening as the machine has it: the kind in its trailer is a case of an enum, and each case computes
 vals-are : (o : Opening) → LL.vals O.the-type O′.the-laws o ≡ O′.lowered o ∷ []
-vals-are o = by-rule (o .answer) (o .trailer .names) (o .trailer .block) (o .trailer .blocks) (o .trailer .nodes) (o .trailer .count) (o .trailer .rule)
+vals-are o = by-kind (o .answer) (o .trailer .names) (o .trailer .block) (o .trailer .«blocks_at») (o .trailer .«nodes_at») (o .trailer .nodes) (o .trailer .kind)
   where
-    by-rule : (a : Answer) (n k s u m : ℕ) (r : Rule) → let x : Opening = record { answer = a; trailer = record { names = n; block = k; blocks = s; nodes = u; count = m; rule = r } } in
+    by-kind : (a : Answer) (n k s u m : ℕ) (κ : Kind) → let x : Opening = record { answer = a; trailer = record { names = n; block = k; «blocks_at» = s; «nodes_at» = u; nodes = m; kind = κ } } in
         LL.vals O.the-type O′.the-laws x ≡ O′.lowered x ∷ []
-    by-rule a n k s u m Plain = refl
-    by-rule a n k s u m Folded = refl
+    by-kind a n k s u m Plain = refl
+    by-kind a n k s u m Folded = refl
 
 abbrev stayed : Stays (f.ended .signature .params) (f.ended .kept)
 stayed = (stay-dropped (shrSliceOf (0 ∷ []) tt (plainOf (λ _. u8))) yes, (stay-dropped (shrSliceOf (1 ∷ []) tt (plainOf (λ _. u8))) yes, (stay-dropped (shrSliceOf (2 ∷ []) tt (plainOf (λ _. R.the-row))) yes, (stay-slice (3 ∷ []) tt (plainOf (λ _. P.the-row)), tt))))

@@ -11,7 +11,7 @@ returns c =
     book-lent (start .pre .0) (start .pre .1 .0) _ _ _ (start .pre .1 .1)
     (c .before .before .before .before .before .before .before .before .before .before .before .before .before .before .write-entries .ensures)
     (c .before .before .before .before .before .before .before .before .before .before .write-table .ensures) _ _
-    (c .before .before .before .before .before .before .write-nodes .ensures) (c .before .before .put-trailer .ensures)
+    (c .before .before .before .before .before .before .write-records .ensures) (c .before .before .put-trailer .ensures)
 
 pub write-book-spec : {M : Type 1} → statement M
 write-book-spec =

@@ -1,7 +1,7 @@
 -- `cards::is_plain` meets its contract.
 -- Assumes nothing.
 use borrow.Author.Needs.{needs}
-use Rattle.cards.proofs.Cards.{folded-kind, plain-kind}
+use Rattle.cards.proofs.Cards.{not-by-plain, plain-full}
 use Rattle.cards.proofs.is_plain.Statement.{statement}
 use Rattle.cards.proofs.is_plain.Tie as tie
 
@@ -9,7 +9,9 @@ pub is-plain-spec : {M : Type 1} → statement M
 is-plain-spec =
     tie.close
     (tie.spec
+    (λ c κs. search needs)
     (λ c. search needs)
+    (λ c κs. search needs)
     (λ c. search needs)
-    (λ c. plain-kind _ (c .enum-told .given .1))
-    (λ c. folded-kind _ (c .enum-told2 .given .1)))
+    (λ c. plain-full _ _ _ (c .before .before .before .rule-of .ensures) (c .before .enum-told .given .1) (c .is-full .ensures))
+    (λ c. not-by-plain _ _ (c .before .before .rule-of .ensures) (c .enum-told2 .given .1)))

@@ -4,7 +4,7 @@ use Prim.Native.Nat.{_≤_}
 use native.Mathlib.Omega.{arith}
 use lib.ListN.{length}
 use borrow.Author.Needs.{needs}
-use Rattle.questions.proofs.Asking.{ask-lit, ask-long, ask-none, ask-some, askable, nearest-none}
+use Rattle.questions.proofs.Asking.{ask-lit, ask-long, ask-none, ask-some, nearest-none}
 use Rattle.questions.proofs.ask.Statement.{statement}
 use Rattle.questions.proofs.ask.Tie as tie
 
@@ -27,7 +27,7 @@ returns-4 c =
     let some = answer .before in
     let shorter = some .before .before in
     let known = shorter .before .before in
-    ask-lit _ _ _ _ (known .shared-slice-known .given) (known .before .pre) (short shorter) (some .if2 .left) (answer .answer .ensures) (c .before .if4 .taken) (c .lit-part .ensures)
+    ask-lit _ _ _ _ (known .shared-slice-known .given) (known .before .pre) (short shorter) (some .if2 .left) (answer .look-up .ensures) (c .before .if4 .taken) (c .lit-part .ensures)
 
 pub ask-spec : {M : Type 1} → statement M
 ask-spec =
@@ -39,7 +39,7 @@ ask-spec =
     returns-2
     (λ c κs. search needs)
     (λ c. search ask-none)
-    (λ c κs. search askable)
+    (λ c κs. search needs)
     (λ c κs. search needs)
     returns-4
     (λ c. search (ask-some, short (c .before .before .before .before))))

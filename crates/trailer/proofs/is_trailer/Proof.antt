@@ -1,18 +1,32 @@
 -- `trailer::is_trailer` meets its contract: each way out is a test that fails, and behind the last one the tests have shown every part of
--- `Trail`.
+-- `Trail`. How many bytes a record has is that of the kind which the third byte of the mark tells, and so is the mark.
 -- Assumes nothing.
+use Prim.Native.Nat.{_*_, _≤_}
 use native.Mathlib.Omega.{arith}
 use borrow.Author.Needs.{needs}
-use mathlib.Core.Path.{_≡_}
+use mathlib.Core.Path.{_≡_, ap₂}
 use Rattle.format.specs.Book.{told}
-use Rattle.format.specs.Kinds.{FoldedBook, PlainBook, kindOf}
-use Rattle.trailer.specs.Trailer.{Trail, markBack}
-use Rattle.trailer.proofs.Telling.{mark-own, unmarked}
+use Rattle.format.specs.Kinds.{formOf, kindOf, recordSize}
+use Rattle.format.specs.Nodes.{nodeSize}
+use Rattle.kinds.specs.Known.{markBack}
+use Rattle.trailer.specs.Trailer.{Trail}
+use Rattle.trailer.proofs.Telling.{mark-is, records-few, size-is, trail-marked}
 use Rattle.trailer.proofs.is_trailer.Statement.{statement}
 use Rattle.trailer.proofs.is_trailer.Tie as tie
 
--- what every test but those of the mark's back has shown
-fitting : (c : tie.Else9) → let b = c .before .before .before .before .before .before .before .before .before .before .before .before .before .before .before .before .before .args .book .now in told b 7 ≡ markBack (kindOf b) → Trail b
+-- the table's bytes, as they are counted
+few : (c : tie.After-number) → c .number .result * c .before .record-size .result ≤ 65536 * nodeSize
+few c = records-few _ _ (c .number .ensures .1) (c .before .record-size .ensures .1)
+
+counted : (c : tie.After-number) → let b = c .before .before .before .before .before .before .before .before .before .before .before .before .before .before .before .args .book .now in
+    c .number .result * c .before .record-size .result ≡ told b 4 * recordSize (formOf (kindOf b))
+counted c =
+    let sized = c .before in
+    let start = sized .before .before .before .before .before .before .before .before .before .before .before .before .before .before in
+    ap₂ _*_ (c .number .ensures .0) (size-is (start .args .book .now) _ (sized .before .form-of .result) _ (sized .before .before .kind .ensures) (sized .before .form-of .ensures) (sized .record-size .ensures .0))
+
+-- what every test but that of the mark's back has shown
+fitting : (c : tie.Else9) → let b = c .before .before .before .before .before .before .before .before .before .before .before .before .before .before .before .before .before .before .before .before .args .book .now in told b 7 ≡ markBack (kindOf b) → Trail b
 fitting c back = record {
   long = omega arith;
   short = omega arith;
@@ -20,19 +34,11 @@ fitting c back = record {
   low = omega arith;
   high = omega arith;
   order = omega arith;
-  total = omega arith;
+  total = omega (arith, counted (c .before .before .before .before .before));
   whole = omega arith;
   front = omega arith;
   back = back;
 }
-
--- the mark is a plain book's
-plain-passes : tie.Need-returns-10
-plain-passes c = fitting (c .before .before) (mark-own _ (omega arith) (search needs) PlainBook _ (c .before .number6 .ensures .0) (c .if10 .taken))
-
--- or a folded one's
-folded-passes : tie.Need-returns-12
-folded-passes c = fitting (c .before .before .before) (mark-own _ (omega arith) (search needs) FoldedBook _ (c .before .before .number6 .ensures .0) (omega arith))
 
 pub is-trailer-spec : {M : Type 1} → statement M
 is-trailer-spec =
@@ -49,15 +55,21 @@ is-trailer-spec =
     (λ c κs. search needs)
     (λ c. search needs)
     (λ c κs. search needs)
-    (λ c. search needs)
-    (λ c. search needs)
-    (λ c. search needs)
-    (λ c. search needs)
+    (λ c κs. search needs)
+    (λ c κs. search needs)
+    (λ c κs. search needs)
+    (λ c. omega (arith, few c))
+    (λ c. omega (arith, few c))
+    (λ c. omega (arith, few c))
+    (λ c t. c .if7 .taken (omega (arith, counted (c .before), t .total)))
     (λ c κs. search needs)
     (λ c. search needs)
     (λ c κs. search needs)
     (λ c. search needs)
     (λ c κs. search needs)
-    plain-passes
-    (λ c. search unmarked)
-    folded-passes)
+    (λ c κs. search needs)
+    (λ c.
+    let tested = c .before .before in
+    let told = tested .before .before .before .before .before .before .before .before in
+    let start = told .before .before .before .before .before .before .before .before .before .before .before .before in
+    trail-marked _ _ _ (c .before .number4 .ensures .0) (mark-is (start .args .book .now) (told .kind .result) _ (told .kind .ensures) (c .mark-back .ensures)) (fitting tested)))

@@ -1,0 +1,15 @@
+-- `build::count_records` meets its contract: every form of table has its arm.
+-- Assumes nothing.
+use borrow.Author.Needs.{needs}
+use Rattle.kinds.specs.Known.{kindBy}
+use Rattle.build.proofs.WholeBook.{rows-counted}
+use Rattle.build.proofs.count_records.Statement.{statement}
+use Rattle.build.proofs.count_records.Tie as tie
+
+pub count-records-spec : {M : Type 1} → statement M
+count-records-spec =
+    tie.close
+    (tie.spec
+    (λ c κs. search needs)
+    (λ c κs. search needs)
+    (λ c. rows-counted (kindBy (c .before .before .before .args .kind)) _ _ _ (c .count-nodes .ensures)))

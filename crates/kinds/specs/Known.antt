@@ -1,0 +1,37 @@
+-- The kinds and forms that the code has, as the definitions have them.
+--     kindBy, formBy    a kind; a form
+--     kindFor           a kind of book, as the code has it
+--     markFront, markBack     a mark as two numbers: 4E 42 stands in front of every one, 4B 32 or 46 32 at the back
+--     isFull            a full book: its table is rows of node records
+-- The laws are in proofs/Telling.antt. Assumes nothing: these are definitions.
+use Prim.Native.Nat.{ℕ}
+use mathlib.Core.Bool.{Bool, true}
+use Rattle.format.specs.Kinds.{BookKind, FoldedBook, Form, PlainBook, Rows, formOf}
+use Rattle.kinds.specs.declared.Form.{Form as CodeForm}
+use Rattle.kinds.specs.declared.Form.the-variants.{Rows as InRows}
+use Rattle.kinds.specs.declared.Kind.{Kind}
+use Rattle.kinds.specs.declared.Kind.the-variants.{Folded, Plain}
+
+abbrev pub kindBy : Kind → BookKind
+kindBy Plain = PlainBook
+kindBy Folded = FoldedBook
+
+abbrev pub kindFor : BookKind → Kind
+kindFor PlainBook = Plain
+kindFor FoldedBook = Folded
+
+abbrev pub formBy : CodeForm → Form
+formBy InRows = Rows
+
+abbrev pub markFront : ℕ
+markFront = 0x424E
+
+abbrev pub markBack : BookKind → ℕ
+markBack PlainBook = 0x324B
+markBack FoldedBook = 0x3246
+
+abbrev pub byRows : Form → Bool
+byRows Rows = true
+
+abbrev pub isFull : BookKind → Bool
+isFull κ = byRows (formOf κ)
