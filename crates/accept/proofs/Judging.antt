@@ -30,7 +30,7 @@ use Rattle.kinds.proofs.Telling.{kind-told}
 use Rattle.trailer.specs.Trailer.{Trail, TrailSays, trailerIn}
 use Rattle.trailer.specs.declared.Trailer.{Trailer}
 use Rattle.streams.specs.Runs.{Frame, Has}
-use Rattle.streams.proofs.InBlocks.{has-blocks}
+use Rattle.streams.proofs.InBlocks.{has-blocks, has-end}
 use Rattle.streams.proofs.Walks.{has-known, has-names}
 use Rattle.walk.specs.Walking.{WalkSays}
 use Rattle.inspect.specs.Check.{TableAsk, isRows}
@@ -135,10 +135,15 @@ module _ (b : Bytes) (f : Framed b) where
   names-told = sym (ap length (has-names (ruleIn b) b (told b 1) (told b 2) (told b 3) (told b 0) within (f .entries) (f .trail .low) refl) ∙ f .entries .count)
 
   module _ (u n : ℕ) (ue : u ≡ told b 3) (ne : n ≡ told b 0) where
+    -- the trailer's numbers lie within the bytes
+    frame : Frame b (told b 1) (told b 2) (told b 3)
+    frame = record { one = f .trail .low; small = f .trail .short; order = f .trail .order; room = omega (arith, f .trail .total) }
+
     pub table-ask : TableAsk b u (length b - trailerSize) n
     table-ask = record {
       known = has-known (ruleIn b) b (told b 1) (told b 2) (told b 3) (told b 0) within (f .entries) (f .trail .low) refl (kind-sure (kindOf b)) (f .trail .few) (f .trail .short);
-      blocks = has-blocks (ruleIn b) (kind-sure (kindOf b)) b (told b 1) (told b 2) (told b 3) (told b 0) (record { one = f .trail .low; small = f .trail .short; order = f .trail .order; room = omega (arith, f .trail .total) }) (f .entries) refl;
+      blocks = has-blocks (ruleIn b) (kind-sure (kindOf b)) b (told b 1) (told b 2) (told b 3) (told b 0) frame (f .entries) refl;
+      ended = sym (has-end (ruleIn b) (kind-sure (kindOf b)) b (told b 1) (told b 2) (told b 3) (told b 0) frame (f .entries) refl);
       count = ne ∙ names-told;
       order = omega (arith, f .trail .total);
       long = omega (arith, f .trail .long);

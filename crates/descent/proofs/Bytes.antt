@@ -91,6 +91,9 @@ module _ {ρ : Rule} {mark : Bytes} (y : Layout ρ Rows mark) (k : ℕ) (xs : Li
       let size : length (wordsOf ρ (bookBy ρ Rows mark k xs)) ≡ length xs = ap length names ∙ count in
       let few : length xs ≤ mostNames = sound-few ρ xs (f .sound) in
       record {
+        long = omega (arith, book-length y k xs);
+        held = f .short;
+        paced = record { some = omega arith; few = omega arith };
         rises = subst Rises (sym names) up;
         some = omega arith;
         few = omega arith;

@@ -8,7 +8,7 @@
 --     Passed, Descended      the nodes passed so far, the last one v; the whole descent
 --     Highest, Found       the highest node of a path that is deep enough; it holds the names that share most with q
 --     Group                the names from lo up to hi are those that share most with q, n symbols
---     asked                the word of a question; shut, so that it can be inferred
+--     asked, askedIn       the word of a question, shut, so that it can be inferred; by the rule of some bytes' own mark
 --     NodesAt, Searchable  bytes hold the records of a table; what every step of a search asks of its book
 -- Laws: Cuts, Reach, Rows, Paths, Bytes. Assumes nothing: these are definitions.
 use Prim.Native.Nat.{ℕ, _+_, _*_, _≤_, _<_, suc, pred}
@@ -18,10 +18,12 @@ use mathlib.Core.List.{List, _++_}
 use lib.ListN.{length, getD, drop}
 use Rattle.words.specs.Rising.{Rises, span, nth}
 use Rattle.words.specs.Words.{Bytes, Rule, Words, at, shared, word}
+use Rattle.format.specs.Kinds.{ruleIn}
+use Rattle.format.specs.Book.{longestBook, trailerSize}
 use Rattle.format.specs.Spans.{rowTable, wordsOf, Ranked, nodeTable}
 use Rattle.format.specs.Nodes.{Node, table}
 use Rattle.format.specs.Records.{longest, mostNames}
-use Rattle.standing.specs.Maps.{Map, Roomy, nodeIn, recordAt}
+use Rattle.standing.specs.Maps.{Map, Paced, Roomy, nodeIn, recordAt}
 use Rattle.answers.specs.Questions.{reachWithin, reached}
 
 -- past the table's end
@@ -168,13 +170,19 @@ pub record Located (ws : Words) (q : List ℕ) (n v : ℕ) : Type 0 where
 unfoldable pub asked : Rule → Bytes → List ℕ
 asked ρ q = word ρ q
 
+abbrev pub askedIn : Bytes → Bytes → List ℕ
+askedIn s q = asked (ruleIn s) q
+
 -- each node's record stands where the map says
 pub record NodesAt (μ : Map) (s : Bytes) (ws : Words) : Type 0 where
-  pub room : (v : ℕ) → v < length (table ws) → Roomy μ s (nodeIn μ v)
-  pub told : (v : ℕ) → v < length (table ws) → recordAt μ s (nodeIn μ v) ≡ node ws v
+  pub room : (v : ℕ) → v < length (table ws) → Roomy (μ .step) s (nodeIn μ v)
+  pub told : (v : ℕ) → v < length (table ws) → recordAt (μ .step) s (nodeIn μ v) ≡ node ws v
 
 -- a book with names, its node table by that map
 pub record Searchable (ρ : Rule) (s : Bytes) (μ : Map) : Type 0 where
+  pub long : trailerSize ≤ length s
+  pub held : length s ≤ longestBook
+  pub paced : Paced (μ .stride)
   pub rises : Rises (wordsOf ρ s)
   pub some : 0 < length (wordsOf ρ s)
   pub few : length (wordsOf ρ s) ≤ mostNames

@@ -1,15 +1,19 @@
 // A node's record in a book: its numbers, read one by one, and all of them written. How many bytes it has, and where in it a number
-// stands, is known here and nowhere else.
+// stands, is known here and nowhere else. A record that is read is told by where its first number stands, and by how far it is from one of
+// its numbers to the next.
 ghost use mathlib.Core.Path.{_≡_};
-ghost use Prim.Native.Nat.{_<_};
+ghost use Prim.Native.Nat.{_<_, suc};
 ghost use lib.ListN.{getD, length};
 ghost use Rattle.format.specs.Book.{numbers};
 ghost use Rattle.format.specs.Nodes.{fieldCount, nodeSize, fields};
-ghost use Rattle.standing.specs.Maps.{Roomy, inRows, recordAt};
+ghost use Rattle.standing.specs.Maps.{Roomy, recordAt};
 ghost use Rattle.fields.specs.Node.{nodeOf};
 
 // How many bytes a record has.
 pub const SIZE: usize = 12;
+
+// How many bytes of a record that stands in one piece each of its numbers takes.
+pub const STEP: usize = 2;
 
 // A node's numbers, in the record's order.
 pub struct Node {
@@ -22,53 +26,63 @@ pub struct Node {
 }
 
 // Field number j of the record at an offset.
-pub fn field(book: &[u8], at: usize, j: usize) -> usize
-    requires { ⌜ Roomy inRows (now book) at × (j < fieldCount) ⌝ }
-    ensures { λ r. ⌜ (r ≡ getD (fields (recordAt inRows (now (book .entry)) at)) j 0) × (r < 65536) ⌝ }
+fn field(book: &[u8], at: usize, step: usize, j: usize) -> usize
+    requires { ⌜ Roomy step (now book) at × (j < fieldCount) ⌝ }
+    ensures { λ r. ⌜ (r ≡ getD (fields (recordAt step (now (book .entry)) at)) j 0) × (r < 65536) ⌝ }
 {
-    numbers::number_at(book, at + j * 2)
+    numbers::number_at(book, at + j * step)
 }
 
-pub fn symbol(book: &[u8], at: usize) -> usize
-    requires { ⌜ Roomy inRows (now book) at ⌝ }
-    ensures { λ r. ⌜ (r ≡ recordAt inRows (now (book .entry)) at .symbol) × (r < 65536) ⌝ }
+// Field number j + 1. A processor adds one, two or four steps to a place as it reads, but not three or five: those fields are read from
+// the number behind the first on.
+fn field_on(book: &[u8], at: usize, step: usize, j: usize) -> usize
+    requires { ⌜ Roomy step (now book) at × (suc j < fieldCount) ⌝ }
+    ensures { λ r. ⌜ (r ≡ getD (fields (recordAt step (now (book .entry)) at)) (suc j) 0) × (r < 65536) ⌝ }
 {
-    field(book, at, 0)
+    let on = at + step;
+    numbers::number_at(&book[on..], j * step)
 }
 
-pub fn depth(book: &[u8], at: usize) -> usize
-    requires { ⌜ Roomy inRows (now book) at ⌝ }
-    ensures { λ r. ⌜ (r ≡ recordAt inRows (now (book .entry)) at .depth) × (r < 65536) ⌝ }
+pub fn symbol(book: &[u8], at: usize, step: usize) -> usize
+    requires { ⌜ Roomy step (now book) at ⌝ }
+    ensures { λ r. ⌜ (r ≡ recordAt step (now (book .entry)) at .symbol) × (r < 65536) ⌝ }
 {
-    field(book, at, 1)
+    field(book, at, step, 0)
 }
 
-pub fn first(book: &[u8], at: usize) -> usize
-    requires { ⌜ Roomy inRows (now book) at ⌝ }
-    ensures { λ r. ⌜ (r ≡ recordAt inRows (now (book .entry)) at .first) × (r < 65536) ⌝ }
+pub fn depth(book: &[u8], at: usize, step: usize) -> usize
+    requires { ⌜ Roomy step (now book) at ⌝ }
+    ensures { λ r. ⌜ (r ≡ recordAt step (now (book .entry)) at .depth) × (r < 65536) ⌝ }
 {
-    field(book, at, 2)
+    field(book, at, step, 1)
 }
 
-pub fn names(book: &[u8], at: usize) -> usize
-    requires { ⌜ Roomy inRows (now book) at ⌝ }
-    ensures { λ r. ⌜ (r ≡ recordAt inRows (now (book .entry)) at .names) × (r < 65536) ⌝ }
+pub fn first(book: &[u8], at: usize, step: usize) -> usize
+    requires { ⌜ Roomy step (now book) at ⌝ }
+    ensures { λ r. ⌜ (r ≡ recordAt step (now (book .entry)) at .first) × (r < 65536) ⌝ }
 {
-    field(book, at, 3)
+    field(book, at, step, 2)
 }
 
-pub fn nodes(book: &[u8], at: usize) -> usize
-    requires { ⌜ Roomy inRows (now book) at ⌝ }
-    ensures { λ r. ⌜ (r ≡ recordAt inRows (now (book .entry)) at .nodes) × (r < 65536) ⌝ }
+pub fn names(book: &[u8], at: usize, step: usize) -> usize
+    requires { ⌜ Roomy step (now book) at ⌝ }
+    ensures { λ r. ⌜ (r ≡ recordAt step (now (book .entry)) at .names) × (r < 65536) ⌝ }
 {
-    field(book, at, 4)
+    field_on(book, at, step, 2)
 }
 
-pub fn width(book: &[u8], at: usize) -> usize
-    requires { ⌜ Roomy inRows (now book) at ⌝ }
-    ensures { λ r. ⌜ (r ≡ recordAt inRows (now (book .entry)) at .width) × (r < 65536) ⌝ }
+pub fn nodes(book: &[u8], at: usize, step: usize) -> usize
+    requires { ⌜ Roomy step (now book) at ⌝ }
+    ensures { λ r. ⌜ (r ≡ recordAt step (now (book .entry)) at .nodes) × (r < 65536) ⌝ }
 {
-    field(book, at, 5)
+    field(book, at, step, 4)
+}
+
+pub fn width(book: &[u8], at: usize, step: usize) -> usize
+    requires { ⌜ Roomy step (now book) at ⌝ }
+    ensures { λ r. ⌜ (r ≡ recordAt step (now (book .entry)) at .width) × (r < 65536) ⌝ }
+{
+    field_on(book, at, step, 4)
 }
 
 // A node's record, in a part that is as long.

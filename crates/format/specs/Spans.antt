@@ -3,7 +3,7 @@
 --     isTable           a part of some bytes is the table of the names that they tell
 --     nodeTable         a node's record, and then its row's
 --     lastOf            the last of some names, and prev where there are none
---     wordsOf           the words of the names that bytes would be the book of
+--     wordsOf, wordsIn  the words of the names that bytes would be the book of; by the rule of their own mark
 --     deep              the depth of the words from lo up to hi
 --     rowTable          the tables of a row of children, one after the other
 --     Climbs, Ranked    symbols number d never fall from word to word; the words of a row
@@ -35,6 +35,9 @@ lastOf prev (x ∷ xs) = lastOf x xs
 
 unfoldable pub wordsOf : Rule → Bytes → Words
 wordsOf ρ s = map (word ρ) (namesOf s)
+
+abbrev pub wordsIn : Bytes → Words
+wordsIn s = wordsOf (ruleIn s) s
 
 unfoldable pub deep : Words → ℕ → ℕ → ℕ
 deep ws lo hi = shared (nth ws lo) (nth ws (pred hi))

@@ -10,7 +10,7 @@ use Prim.Native.Nat.{ℕ, min, _-_, _*_, _+_, _≤_, _<_}
 use native.Mathlib.Omega.{arith}
 use mathlib.Core.Path.{_≡_}
 use Rattle.words.specs.Words.{Bytes}
-use Rattle.standing.specs.Maps.{inRows, recordAt}
+use Rattle.standing.specs.Maps.{recordAt}
 use Rattle.inspect.specs.Check.{MayBeFork}
 
 -- of a node, or its row, of n names and of depth d
@@ -24,5 +24,6 @@ levels-fall n d x y fewer deeper low = omega arith
 pub levels-most : (n d : ℕ) → 2 * levelsLeft n d + 1 ≤ 399
 levels-most n d = omega arith
 
-pub fork-falls : {b : Bytes} {o e n d left t : ℕ} → MayBeFork b o e n d left → 2 * levelsLeft n d ≡ t → 2 * levelsLeft (recordAt inRows b o .names) (recordAt inRows b o .depth) + 1 < t
-fork-falls {b} {o} {e} {n} {d} k te = omega (arith, levels-fall n d (recordAt inRows b o .names) (recordAt inRows b o .depth) (k .proper) (k .below) (k .shallow))
+pub fork-falls : {b : Bytes} {stride step up o e d t : ℕ} → MayBeFork b stride step up o e d → 2 * levelsLeft (recordAt step b up .names) d ≡ t
+    → 2 * levelsLeft (recordAt step b o .names) (recordAt step b o .depth) + 1 < t
+fork-falls {b} {stride} {step} {up} {o} {e} {d} k te = omega (arith, levels-fall (recordAt step b up .names) d (recordAt step b o .names) (recordAt step b o .depth) (k .proper) (k .below) (k .shallow))

@@ -1,13 +1,15 @@
 -- The whole table: the answer at the root as an equation about bytes.
 --     stream-modest                         names out of bytes are short, and their symbols small
---     table-nothing, table-not              no names; no table stands
---     table-short, table-symbol, table-first, table-names, table-nodes     the root's record is another
+--     table-nothing, table-short            no names; no room for a record
+--     table-span                            how far it is over so many nodes
+--     table-room                            there is room for the root's record
+--     table-symbol, table-first, table-names, table-nodes     the root's record is another
 --     table-leaf, table-asks, table-said    one name; several
 -- Assumes nothing.
 use Prim.Native.Nat.{ℕ, _+_, _-_, _*_, _≤_, _<_}
 use native.Mathlib.Nat.{lt-irrefl}
 use native.Mathlib.Omega.{arith}
-use mathlib.Core.Path.{_≡_, refl, sym, ap, _∙_, subst}
+use mathlib.Core.Path.{_≡_, refl, sym, ap, ap₂, _∙_, subst}
 use mathlib.Core.Bool.{Bool, true, false, not}
 use mathlib.Core.List.{List, [], _∷_, map}
 use lib.Dec.{eqb}
@@ -18,23 +20,23 @@ use Rattle.words.specs.Rising.{All, cons, nil, span, Sure}
 use Rattle.words.specs.Words.{Bytes, InBytes, Rule, Words, same, word}
 use Rattle.words.proofs.Lists.{all-append, all-right}
 use Rattle.words.proofs.Words.{false≠true, same-refl, same-true, sure-lawful}
-use Rattle.format.specs.Kinds.{kindOf, ruleIn}
-use Rattle.format.specs.Spans.{wordsOf, nodeTable, nodePart}
-use Rattle.format.specs.Book.{namesOf, numbers}
+use Rattle.format.specs.Kinds.{Form, kindOf, ruleIn}
+use Rattle.format.specs.Spans.{wordsIn, wordsOf, nodeTable, nodePart}
+use Rattle.format.specs.Book.{namesOf, numbers, told}
 use Rattle.format.specs.Nodes.{Node, table, tableWithin, nodeSize, allFields}
 use Rattle.format.specs.Records.{longest}
-use Rattle.format.proofs.BookKinds.{kind-sure}
+use Rattle.format.proofs.BookKinds.{full-rows, kind-sure}
 use Rattle.format.proofs.Groups.{table-root}
 use Rattle.format.proofs.Numbers.{bytes-all, take-bytes, word-high}
 use Rattle.format.proofs.Small.{Modest, table-small}
 use Rattle.numbers.proofs.Parts.{Held, held-bytes}
 use Rattle.streams.specs.Streams.{Here, Stream, done, entry, lengthAt, offsetFrom}
 use Rattle.streams.proofs.Here.{first-low, words-count}
-use Rattle.standing.specs.Maps.{inRows, recordAt}
+use Rattle.standing.specs.Maps.{Roomy, inRows, mapBy, mapIn, mapOf, recordAt}
 use Rattle.standing.specs.Stands.{NodeAt, Stands}
 use Rattle.standing.proofs.Bytes.{bytes-stand, stands-bytes}
 use Rattle.standing.proofs.Walk.{Head, node-head}
-use Rattle.inspect.specs.Check.{Ask, LeafSays, NodeAsk, NodeSays, TableAsk, isRows}
+use Rattle.inspect.specs.Check.{LeafSays, NodeAsk, NodeSays, TableAsk, isRows}
 use Rattle.inspect.proofs.Nodes.{leaf-not, leaf-stands}
 
 -- ---- names out of bytes are modest
@@ -70,35 +72,11 @@ said x y false p q = go (same x y) refl
     go false e = sym e
     go true e = absurd (false≠true (q (same-true x y e)))
 
--- ---- what is asked at the root
-
-module _ (b : Bytes) (start end n : ℕ) (a : TableAsk b start end n) (z : n ≡ 0 → ⊥) where
-  table-some : 0 < length (namesOf b)
-  table-some = go (length (namesOf b)) (λ e. z (a .count ∙ e))
-    where
-      go : (m : ℕ) → (m ≡ 0 → ⊥) → 0 < m
-      go m k = omega arith
-
-  here : Here b 0 0
-  unfolding offsetFrom
-  here = refl
-
-  asked : (i k : ℕ) → i ≡ 0 → k ≡ n → Ask b i k 0
-  asked i k ie ke = subst (λ (j : ℕ). Ask b j k 0) (sym ie)
-      (record { known = a .known; blocks = a .blocks; some = omega (arith, table-some, a .count); within = omega (arith, a .count); here = here })
-
-  -- the root is of several names
-  pub table-asks : (n ≡ 1 → ⊥) → nodeSize ≤ end - start → (f x m : ℕ) → f ≡ recordAt inRows b start .first → f ≡ 0 → x ≡ recordAt inRows b start .names → x ≡ n → m ≡ recordAt inRows b start .nodes
-      → start + m * nodeSize ≡ end → NodeAsk b start 0
-  table-asks more room f x m fe fz xe xn me ends = record {
-    ask = asked (recordAt inRows b start .first) (recordAt inRows b start .names) (sym fe ∙ fz) (sym xe ∙ xn);
-    several = omega (arith, table-some, a .count);
-    low = omega (arith, first-low (ruleIn b) b (a .known) table-some);
-    room = omega (arith, a .long, a .order);
-    long = omega (arith, a .long);
-  }
-
 -- ---- the equation at the root
+
+-- the root of n names, by a map
+abbrev Root : ℕ → ℕ → Bytes → ℕ → ℕ → ℕ → Type 0
+Root stride step b n start end = NodeAt (mapBy stride step) b (wordsIn b) 0 (0 + n) 0 start end
 
 module _ (b : Bytes) (start end n : ℕ) (held : Held b) (a : TableAsk b start end n) where
   bytes : InBytes b
@@ -107,25 +85,25 @@ module _ (b : Bytes) (start end n : ℕ) (held : Held b) (a : TableAsk b start e
   within : end ≤ length b
   within = omega (arith, a .long)
 
-  small : All (λ n. n < 65536) (allFields (table (wordsOf (ruleIn b) b)))
+  small : All (λ n. n < 65536) (allFields (table (wordsIn b)))
   unfolding wordsOf
-  small = table-small (wordsOf (ruleIn b) b) (a .known .rises) (stream-modest (ruleIn b) (kind-sure (kindOf b)) (bytes-all b bytes) nil (a .known .stream)) (omega (arith, words-count (ruleIn b) b, a .known .few))
+  small = table-small (wordsIn b) (a .known .rises) (stream-modest (ruleIn b) (kind-sure (kindOf b)) (bytes-all b bytes) nil (a .known .stream)) (omega (arith, words-count (ruleIn b) b, a .known .few))
 
-  root-is : nodeTable 0 0 (span (wordsOf (ruleIn b) b) 0 (0 + n)) ≡ table (wordsOf (ruleIn b) b)
+  root-is : nodeTable 0 0 (span (wordsIn b) 0 (0 + n)) ≡ table (wordsIn b)
   root-is =
-      ap (nodeTable 0 0) (let k : 0 + n ≡ length (wordsOf (ruleIn b) b) = omega (arith, a .count, words-count (ruleIn b) b) in ap (λ (j : ℕ). take j (wordsOf (ruleIn b) b)) k ∙ take-length (wordsOf (ruleIn b) b)) ∙ sym (table-root (wordsOf (ruleIn b) b))
+      ap (nodeTable 0 0) (let k : 0 + n ≡ length (wordsIn b) = omega (arith, a .count, words-count (ruleIn b) b) in ap (λ (j : ℕ). take j (wordsIn b)) k ∙ take-length (wordsIn b)) ∙ sym (table-root (wordsIn b))
 
-  node-of : nodePart (table (wordsOf (ruleIn b) b)) ≡ slice start end b → NodeAt inRows b (wordsOf (ruleIn b) b) 0 (0 + n) 0 start end
-  node-of q = record { stands = subst (λ (rs : List Node). Stands inRows b start rs end) (sym root-is) (bytes-stand b (table (wordsOf (ruleIn b) b)) start end (a .order) within small (sym q)) }
+  node-of : nodePart (table (wordsIn b)) ≡ slice start end b → Root nodeSize 2 b n start end
+  node-of q = record { stands = subst (λ (rs : List Node). Stands inRows b start rs end) (sym root-is) (bytes-stand b (table (wordsIn b)) start end (a .order) within small (sym q)) }
 
-  pub table-not : (NodeAt inRows b (wordsOf (ruleIn b) b) 0 (0 + n) 0 start end → ⊥) → false ≡ isRows b start end
+  table-not : (Root nodeSize 2 b n start end → ⊥) → false ≡ isRows b start end
   unfolding isRows
   table-not h = said _ _ false (λ e. absurd (false≠true e)) (λ e. absurd (h (node-of e)))
 
-  table-is : NodeAt inRows b (wordsOf (ruleIn b) b) 0 (0 + n) 0 start end → true ≡ isRows b start end
+  table-is : Root nodeSize 2 b n start end → true ≡ isRows b start end
   unfolding isRows
   table-is g =
-      said _ _ true (λ t. sym (stands-bytes b bytes (table (wordsOf (ruleIn b) b)) start end within
+      said _ _ true (λ t. sym (stands-bytes b bytes (table (wordsIn b)) start end within
       (subst (λ (rs : List Node). Stands inRows b start rs end) root-is (g .stands)))) (λ q. refl)
 
   pub table-nothing : n ≡ 0 → eqb start end ≡ isRows b start end
@@ -134,61 +112,112 @@ module _ (b : Bytes) (start end n : ℕ) (held : Held b) (a : TableAsk b start e
       (λ t. none ∙ sym (subst (λ (x : ℕ). slice x end b ≡ []) (sym (eqb-true start end t)) (slice-empty end b)))
       (λ q. eq-eqb start end (omega (arith, ap length (sym none ∙ q), length-slice start end b within, a .order)))
     where
-      none : nodePart (table (wordsOf (ruleIn b) b)) ≡ []
-      none = ap (λ (vs : Words). nodePart (table vs)) (nil-of (wordsOf (ruleIn b) b) (omega (arith, words-count (ruleIn b) b, a .count))) ∙ no-nodes
+      none : nodePart (table (wordsIn b)) ≡ []
+      none = ap (λ (vs : Words). nodePart (table vs)) (nil-of (wordsIn b) (omega (arith, words-count (ruleIn b) b, a .count))) ∙ no-nodes
 
   -- ---- some names
 
   module _ (z : n ≡ 0 → ⊥) where
-    some : 0 < length (namesOf b)
-    some = table-some b start end n a z
+    some : 0 < n
+    some = omega arith
 
-    head : NodeAt inRows b (wordsOf (ruleIn b) b) 0 (0 + n) 0 start end → Head inRows b (wordsOf (ruleIn b) b) 0 0 (0 + n) start end
-    head g = node-head inRows b (wordsOf (ruleIn b) b) (a .known .rises) 0 0 (0 + n) start end (omega (arith, some, a .count)) (omega (arith, words-count (ruleIn b) b, a .count)) g
+    head : (stride step : ℕ) → Root stride step b n start end → Head (mapBy stride step) b (wordsIn b) 0 0 (0 + n) start end
+    head stride step g = node-head (mapBy stride step) b (wordsIn b) (a .known .rises) 0 0 (0 + n) start end (omega (arith, some)) (omega (arith, words-count (ruleIn b) b, a .count)) g
 
     pub table-short : end - start < nodeSize → false ≡ isRows b start end
-    table-short h = table-not (λ g. lt-irrefl end (omega (arith, (head g) .past, a .order)))
+    table-short h = table-not (λ g. lt-irrefl end (omega (arith, (head nodeSize 2 g) .past, a .order)))
 
-    -- x is what the root's record tells there
-    module _ (x : ℕ) where
-      pub table-symbol : x ≡ recordAt inRows b start .symbol → (x ≡ 0 → ⊥) → false ≡ isRows b start end
-      table-symbol e h = table-not (λ g. h (e ∙ (head g) .symbol))
+    -- ---- by the map that the trailer tells
 
-      pub table-first : x ≡ recordAt inRows b start .first → (x ≡ 0 → ⊥) → false ≡ isRows b start end
-      table-first e h = table-not (λ g. h (e ∙ (head g) .first))
+    module _ (room : nodeSize ≤ end - start) (stride step : ℕ) (se : stride ≡ mapOf b .stride) (pe : step ≡ mapOf b .step) where
+      paced : stride ≡ nodeSize
+      paced = se ∙ ap (λ (f : Form). mapIn f (told b 3) (told b 4) .stride) (full-rows (kindOf b))
 
-      pub table-names : x ≡ recordAt inRows b start .names → (x ≡ n → ⊥) → false ≡ isRows b start end
-      table-names e h = table-not (λ g. h (omega (arith, (head g) .names)))
+      in-pieces : step ≡ 2
+      in-pieces = pe ∙ ap (λ (f : Form). mapIn f (told b 3) (told b 4) .step) (full-rows (kindOf b))
 
-      pub table-nodes : x ≡ recordAt inRows b start .nodes → (start + x * nodeSize ≡ end → ⊥) → false ≡ isRows b start end
-      table-nodes e h = table-not (λ g. h (omega (arith, (head g) .nodes)))
+      pub table-span : (m : ℕ) → m * stride ≡ m * nodeSize
+      table-span m = ap (λ (i : ℕ). m * i) paced
 
-    -- all four are as they should be
-    module _ (s f x m : ℕ) (se : s ≡ recordAt inRows b start .symbol) (sz : s ≡ 0) (fe : f ≡ recordAt inRows b start .first) (fz : f ≡ 0) (xe : x ≡ recordAt inRows b start .names) (xn : x ≡ n)
-        (me : m ≡ recordAt inRows b start .nodes) (ends : start + m * nodeSize ≡ end) where
-      -- one name
-      pub table-leaf : n ≡ 1 → nodeSize ≤ end - start → (v : Bool) → LeafSays b start (lengthAt b 0) v → v ≡ isRows b start end
-      table-leaf one room v says = go v says
-        where
-          one-name : (e : ℕ) → NodeAt inRows b (wordsOf (ruleIn b) b) 0 (0 + n) 0 start e → NodeAt inRows b (wordsOf (ruleIn b) b) 0 (0 + 1) 0 start e
-          one-name e g = subst (λ (k : ℕ). NodeAt inRows b (wordsOf (ruleIn b) b) 0 (0 + k) 0 start e) one g
+      pub table-room : Roomy step b start
+      table-room = omega (arith, in-pieces, a .long, a .order)
 
-          go : (t : Bool) → LeafSays b start (lengthAt b 0) t → t ≡ isRows b start end
-          go false never = table-not (λ g. leaf-not b 0 0 start 0 (asked b start end n a z 0 1 refl (sym one)) never end (one-name end g))
-          go true sure =
-              let e : start + nodeSize ≡ end = omega (arith, sure .1) in
-              table-is (subst (λ (k : ℕ). NodeAt inRows b (wordsOf (ruleIn b) b) 0 (0 + k) 0 start end) (sym one)
-              (subst (NodeAt inRows b (wordsOf (ruleIn b) b) 0 (0 + 1) 0 start) e
-              (leaf-stands b 0 0 start 0 (asked b start end n a z 0 1 refl (sym one)) (omega (arith, a .long, a .order)) (sym se ∙ sz) (sym fe ∙ fz) (sym xe ∙ xn ∙ one) sure)))
+      other : (Root stride step b n start end → ⊥) → false ≡ isRows b start end
+      other h = table-not (λ g. h (rw (paced, in-pieces) g))
 
-      -- several names
-      root : NodeAt inRows b (wordsOf (ruleIn b) b) 0 (0 + n) 0 start end
-          ≡ NodeAt inRows b (wordsOf (ruleIn b) b) (recordAt inRows b start .first) (recordAt inRows b start .first + recordAt inRows b start .names) (recordAt inRows b start .symbol) start (start + recordAt inRows b start .nodes * nodeSize)
-      root = rw (sym fe ∙ fz, sym xe ∙ xn, sym se ∙ sz, ← me, ends) refl
+      same-map : Root stride step b n start end ≡ Root nodeSize 2 b n start end
+      same-map = rw (paced, in-pieces) refl
 
-      pub table-said : (r : ℕ) → NodeSays b start r → not (eqb r 0) ≡ isRows b start end
-      table-said r says = go (eqb r 0) refl
-        where
-          go : (t : Bool) → eqb r 0 ≡ t → not t ≡ isRows b start end
-          go true q = table-not (λ g. says .no-way (eqb-true r 0 q) (subst (λ (T : Type 0). T) root g))
-          go false q = table-is (subst (λ (T : Type 0). T) (sym root) (says .it-does (eqb-false r 0 q) .0))
+      it-is : Root stride step b n start end → true ≡ isRows b start end
+      it-is g = table-is (subst (λ (T : Type 0). T) same-map g)
+
+      -- x is what the root's record tells there
+      module _ (x : ℕ) where
+        pub table-symbol : x ≡ recordAt step b start .symbol → (x ≡ 0 → ⊥) → false ≡ isRows b start end
+        table-symbol e h = other (λ g. h (e ∙ (head stride step g) .symbol))
+
+        pub table-first : x ≡ recordAt step b start .first → (x ≡ 0 → ⊥) → false ≡ isRows b start end
+        table-first e h = other (λ g. h (e ∙ (head stride step g) .first))
+
+        pub table-names : x ≡ recordAt step b start .names → (x ≡ n → ⊥) → false ≡ isRows b start end
+        table-names e h = other (λ g. h (omega (arith, (head stride step g) .names)))
+
+        pub table-nodes : x ≡ recordAt step b start .nodes → (start + x * nodeSize ≡ end → ⊥) → false ≡ isRows b start end
+        table-nodes e h = other (λ g. h (omega (arith, (head stride step g) .nodes, ap₂ _*_ e (sym paced))))
+
+      -- all four are as they should be
+      module _ (s f x m : ℕ) (ss : s ≡ recordAt step b start .symbol) (sz : s ≡ 0) (fe : f ≡ recordAt step b start .first) (fz : f ≡ 0) (xe : x ≡ recordAt step b start .names) (xn : x ≡ n)
+          (me : m ≡ recordAt step b start .nodes) (ends : start + m * nodeSize ≡ end) where
+        whole : start + m * stride ≡ end
+        whole = omega (arith, table-span m)
+
+        here : Here b 0 0
+        unfolding offsetFrom
+        here = refl
+
+        there : 0 < length (namesOf b)
+        there = omega (arith, some, a .count)
+
+        -- one name
+        pub table-leaf : n ≡ 1 → (v : Bool) → LeafSays b step start (lengthAt b 0) v → v ≡ isRows b start end
+        table-leaf one false never = other (λ g. leaf-not b stride step 0 0 start 0 (a .known) here there never end (subst (λ (k : ℕ). Root stride step b k start end) one g))
+        table-leaf one true sure =
+            let e : start + stride ≡ end = omega (arith, paced, sure .1) in
+            it-is (subst (λ (k : ℕ). Root stride step b k start end) (sym one)
+            (subst (Root stride step b 1 start) e (leaf-stands b stride step 0 0 start 0 (a .known) here there table-room (sym ss ∙ sz) (sym fe ∙ fz) (sym xe ∙ xn ∙ one) sure)))
+
+        -- several names
+        module _ (more : n ≡ 1 → ⊥) where
+          pub table-asks : NodeAsk b stride step start (start + m * stride) 0
+          table-asks = record {
+            known = a .known;
+            blocks = a .blocks;
+            ended = a .ended;
+            long = omega (arith, a .long);
+            paced = record { some = omega (arith, paced); few = omega (arith, paced) };
+            room = λ o h. omega (arith, in-pieces, whole, a .long);
+            own = table-room;
+            ends = ap (λ (i : ℕ). start + i * stride) me;
+            several = λ q. more (sym xn ∙ xe ∙ q);
+            some = omega (arith, fe, there);
+            here = subst (λ (i : ℕ). Here b i 0) (sym fz ∙ fe) here;
+            low = omega (arith, first-low (ruleIn b) b (a .known) there);
+          }
+
+          root : Root stride step b n start end
+              ≡ NodeAt (mapBy stride step) b (wordsIn b) (recordAt step b start .first) (recordAt step b start .first + recordAt step b start .names) (recordAt step b start .symbol) start (start + m * stride)
+          root = rw (sym fe ∙ fz, sym xe ∙ xn, sym ss ∙ sz, whole) refl
+
+          pub table-said : (r : ℕ) → NodeSays b stride step start (start + m * stride) r → not (eqb r 0) ≡ isRows b start end
+          table-said r says = go (eqb r 0) refl
+            where
+              go : (t : Bool) → eqb r 0 ≡ t → not t ≡ isRows b start end
+              go true q = other (λ g. says .no-way (eqb-true r 0 q) (record {
+                several = several n z more xn;
+                within = omega (arith, a .count);
+                node = subst (λ (T : Type 0). T) root g;
+              }))
+                where
+                  several : (k : ℕ) → (k ≡ 0 → ⊥) → (k ≡ 1 → ⊥) → x ≡ k → 2 ≤ recordAt step b start .names
+                  several k none one e = omega arith
+              go false q = it-is (subst (λ (T : Type 0). T) (sym root) (says .it-does (eqb-false r 0 q) .node))

@@ -5,7 +5,7 @@ ghost use Prim.Native.Nat.{_≤_};
 ghost use Rattle.format.specs.Kinds.{allKinds, formOf, markedAs, recordSize};
 ghost use Rattle.format.specs.Nodes.{nodeSize};
 ghost use Rattle.symbols.specs.Rules.{byKind};
-ghost use Rattle.kinds.specs.Known.{formBy, isFull, kindBy, kindFor, markBack};
+ghost use Rattle.kinds.specs.Known.{MarkSays, formBy, isFull, kindBy, kindFor, markBack};
 use symbols::Rule;
 
 // The kind of a book.
@@ -23,9 +23,9 @@ pub enum Form {
 }
 
 // The backs of the marks, as numbers: 4B 32 for plain books, 46 32 for folded ones.
-pub const PLAIN: usize = 0x324B;
+const PLAIN: usize = 0x324B;
 
-pub const FOLDED: usize = 0x3246;
+const FOLDED: usize = 0x3246;
 
 // The kind that the third byte of a mark tells. Of a byte that is in no mark it says Plain; whether the whole mark stands is asked elsewhere.
 pub fn marked(third: u8) -> Kind
@@ -63,6 +63,16 @@ pub fn mark_back(kind: Kind) -> usize
         Kind::Plain => PLAIN,
         Kind::Folded => FOLDED,
     }
+}
+
+// Whether a number is the back of some kind's mark. One test for each: behind it the compiler knows the kind, and with it the rule.
+pub fn is_mark(back: usize) -> bool
+    ensures { λ r. ⌜ MarkSays back r ⌝ }
+{
+    if back == PLAIN {
+        return true;
+    }
+    back == FOLDED
 }
 
 // How many bytes a record of the table has: a node's at the most.

@@ -3,10 +3,11 @@
 --     start-..                                    where a block starts
 --     meet-reads, meet-before                     the entries' bytes
 --     meet-low                                    the count is never more than what they share
+--     meet-most                                   what they share is never more than a name has
 --     meet-level, meet-less                       a count that is d, or more, says it
 --     meet-stored                                 by the plain rule each count does, but for 0
---     meet-just, meet-least                       what they share is counted
---     meet-starts, meet-asks, meet-counted        along the block, from a name that is stored whole
+--     meet-just, meet-other, meet-least, meet-fewer     what they share is counted
+--     meet-starts, meet-asks, meet-counted, meet-packed     along the block, from a name that is stored whole
 --     whole-own, whole-first                      which name that is
 -- Assumes nothing.
 use Prim.Native.Nat.{ℕ, zero, suc, pred, _+_, _-_, _*_, _/_, _%_, _≤_, _<_}
@@ -15,22 +16,26 @@ use native.Mathlib.Omega.{arith}
 use mathlib.Core.Path.{_≡_, refl, sym, ap, ap₂, _∙_, subst}
 use mathlib.Core.Bool.{Bool, true, false}
 use mathlib.Core.List.{List, []}
-use lib.Dec.{eqb, leb}
+use lib.Dec.{eqb}
 use lib.ListN.{length, getD}
-use borrow.Author.Tests.{eq-eqb, eqb-false, eqb-true, leb-false, leb-true, ne-eqb}
+use borrow.Author.Tests.{eq-eqb, eqb-true, ne-eqb}
 use mir.Val.{Fits}
 use mir.Syntax.{w64}
 use Rattle.words.specs.Words.{Bytes, Rule, pick, plain, shared, word}
-use Rattle.words.proofs.Words.{plain-injective, shared-front, shared-word, shared-word-le}
+use Rattle.words.specs.Rising.{nth}
+use Rattle.words.proofs.Words.{plain-injective, shared-front, shared-le, shared-word, shared-word-le}
 use Rattle.format.specs.Kinds.{BookKind, kindOf, ruleIn, ruleOf}
+use Rattle.format.specs.Spans.{wordsIn}
+use Rattle.format.specs.Records.{longest}
 use Rattle.format.specs.Book.{number, namesOf, told}
 use Rattle.symbols.specs.Rules.{byKind, ruleBy}
 use Rattle.symbols.specs.declared.Rule.{Rule as ByRule}
 use Rattle.symbols.specs.declared.Rule.the-variants.{Folded, Plain}
 use Rattle.symbols.proofs.Symbols.{rule-by}
-use Rattle.streams.specs.Streams.{Here, Known, offsetAt, restAt}
-use Rattle.streams.proofs.Here.{Comes, comes, here-fits, words-nth}
-use Rattle.neighbours.specs.Neighbours.{AlongAsk, AlongSays, MeetAsk, MeetSays, StartAsk, sharedBefore, startOf, wholeBefore}
+use Rattle.numbers.proofs.Parts.{packed-high, packed-low}
+use Rattle.streams.specs.Streams.{Here, Known, offsetAt, offsetFrom, restAt}
+use Rattle.streams.proofs.Here.{Comes, comes, here-fits, here-rises, name-short, words-nth}
+use Rattle.neighbours.specs.Neighbours.{AlongAsk, AlongSays, MeetAsk, Meets, PartSays, StartAsk, sharedBefore, startOf, wholeBefore}
 use Rattle.neighbours.proofs.Along.{before-is}
 
 -- t is what the book told, and r the way that was taken
@@ -95,6 +100,34 @@ module _ (b : Bytes) (p a i : ℕ) (m : MeetAsk b p a i) where
   pub meet-before : p < length b
   meet-before = omega (arith, here-fits (ruleIn b) b (pred i) p (m .known) (m .before) (omega (arith, m .within)))
 
+  -- ---- the two answers
+
+  no-part : (d : ℕ) → (sharedBefore b i ≡ d → ⊥) → PartSays b a i d 0
+  no-part d n = record { no-way = λ z. n; it-does = λ z. absurd (z refl) }
+
+  -- the entry of a name that is not the first does not stand at 0
+  behind : 0 < a
+  unfolding offsetFrom
+  behind = omega (arith, here-rises b 0 i (m .some), m .here)
+
+  a-part : (d r : ℕ) → r ≡ a → Meets b a i d → PartSays b a i d r
+  a-part d r e k = record { no-way = λ z. absurd (lt-irrefl 0 (omega (arith, behind))); it-does = λ z. (e, k) }
+
+  -- ---- a place and a count in one number
+
+  near : a < 65536
+  near = omega (arith, meet-reads, m .known .short)
+
+  place : (y : ℕ) → y ≡ a + 65536 * sharedBefore b i → y % 65536 ≡ a
+  place y ye = ap (λ (n : ℕ). n % 65536) ye ∙ packed-low a (sharedBefore b i) near
+
+  count : (y : ℕ) → y ≡ a + 65536 * sharedBefore b i → y / 65536 ≡ sharedBefore b i
+  count y ye = ap (λ (n : ℕ). n / 65536) ye ∙ packed-high a (sharedBefore b i) near
+
+  -- two names share no more than one has
+  pub meet-most : sharedBefore b i ≤ longest
+  meet-most = omega (arith, shared-le (nth (wordsIn b) (pred i)) (nth (wordsIn b) i), name-short (ruleIn b) b (pred i) (m .known) (omega (arith, m .within)))
+
   module _ (c : ℕ) (ce : c ≡ getD b a 0) where
     -- ---- the count says it
 
@@ -128,31 +161,29 @@ module _ (b : Bytes) (p a i : ℕ) (m : MeetAsk b p a i) where
         ∙ ap (λ (ρ : Rule). shared (word ρ prev) (word ρ name)) (sym (rule-is (kindOf b) t Plain te e)) ∙ sym meet-is
 
     module _ (d : ℕ) where
-      pub meet-level : c ≡ d → MeetSays b a i d true
-      meet-level e = (omega arith, omega (arith, meet-low))
+      pub meet-level : c ≡ d → Meets b a i d
+      meet-level e = record { low = omega arith; shares = omega (arith, meet-low) }
 
-      pub meet-less : d < c → MeetSays b a i d false
-      meet-less h e = lt-irrefl d (omega (arith, meet-low))
+      pub meet-less : d < c → PartSays b a i d 0
+      meet-less h = no-part d (λ e. lt-irrefl d (omega (arith, meet-low)))
 
-      pub meet-stored : (t : ByRule) → t ≡ byKind (kindOf b) → t ≡ Plain → (c ≡ 0 → ⊥) → (c ≡ d → ⊥) → MeetSays b a i d false
-      meet-stored t te e some other q = other (stored t te e (omega arith) ∙ q)
+      pub meet-stored : (t : ByRule) → t ≡ byKind (kindOf b) → t ≡ Plain → (c ≡ 0 → ⊥) → (getD b a 0 ≡ d → ⊥) → PartSays b a i d 0
+      meet-stored t te e some other = no-part d (λ q. other (sym ce ∙ stored t te e (omega arith) ∙ q))
 
-      -- ---- or it is counted: x is what they share
+      -- ---- or it is counted: y is the entry's place, and 65,536 times what they share
 
-      module _ (x : ℕ) (xe : x ≡ sharedBefore b i) where
-        pub meet-just : c ≡ 0 → MeetSays b a i d (eqb x d)
-        meet-just z = go (eqb x d) refl
-          where
-            go : (v : Bool) → eqb x d ≡ v → MeetSays b a i d v
-            go true q = (omega arith, omega (arith, eqb-true x d q))
-            go false q = λ e. eqb-false x d q (xe ∙ e)
+      module _ (y : ℕ) (ye : y ≡ a + 65536 * sharedBefore b i) where
+        pub meet-just : c ≡ 0 → y / 65536 ≡ d → PartSays b a i d (y % 65536)
+        meet-just z q = a-part d (y % 65536) (place y ye) (record { low = omega arith; shares = omega (arith, count y ye) })
 
-        pub meet-least : c ≤ d → MeetSays b a i d (leb d x)
-        meet-least l = go (leb d x) refl
-          where
-            go : (v : Bool) → leb d x ≡ v → MeetSays b a i d v
-            go true q = (omega arith, omega (arith, leb-true d x q))
-            go false q = λ e. lt-irrefl x (omega (arith, leb-false d x q))
+        pub meet-other : (y / 65536 ≡ d → ⊥) → PartSays b a i d 0
+        meet-other q = no-part d (λ e. q (count y ye ∙ e))
+
+        pub meet-least : c ≤ d → d ≤ y / 65536 → PartSays b a i d (y % 65536)
+        meet-least l q = a-part d (y % 65536) (place y ye) (record { low = omega arith; shares = omega (arith, count y ye) })
+
+        pub meet-fewer : y / 65536 < d → PartSays b a i d 0
+        meet-fewer q = no-part d (λ e. lt-irrefl d (omega (arith, count y ye)))
 
   -- ---- the names of a block
 
@@ -184,9 +215,13 @@ module _ (b : Bytes) (p a i : ℕ) (m : MeetAsk b p a i) where
           asks ((i - 1) / told b 1 * told b 1) (omega (arith, l, m .some)) at-first
           (ap (λ (o : ℕ). getD b o 0) at-first ∙ m .blocks .first ((i - 1) / told b 1) (omega (arith, l, m .within)))
 
-  pub meet-counted : (t r : ByRule) → t ≡ byKind (kindOf b) → t ≡ r → (x : ℕ) → AlongSays (ruleBy r) b a x → x ≡ sharedBefore b i
-  meet-counted t r te e x says =
-      says i (m .some) (m .within) (m .here) ∙ ap (λ (ρ : Rule). shared (word ρ prev) (word ρ name)) (sym (rule-is (kindOf b) t r te e)) ∙ sym meet-is
+  -- x is what was counted
+  module _ (t r : ByRule) (te : t ≡ byKind (kindOf b)) (e : t ≡ r) (x : ℕ) (says : AlongSays (ruleBy r) b a x) where
+    pub meet-counted : x ≡ sharedBefore b i
+    meet-counted = says i (m .some) (m .within) (m .here) ∙ ap (λ (ρ : Rule). shared (word ρ prev) (word ρ name)) (sym (rule-is (kindOf b) t r te e)) ∙ sym meet-is
+
+    pub meet-packed : a + 65536 * x ≡ a + 65536 * sharedBefore b i
+    meet-packed = ap (λ (n : ℕ). a + 65536 * n) meet-counted
 
 -- ---- which entry is gone along from
 

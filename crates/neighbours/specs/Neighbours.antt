@@ -6,19 +6,19 @@
 --     StartAsk, startOf     where the block of a name starts
 --     wholeBefore           an entry that stores a name whole, from which the names up to number i can be gone along
 --     sharedBefore          what a name shares with the one before it
---     MeetAsk, MeetSays     name i is not the first, its entry stands at a, and that of the name before at p; whether they can part at d
+--     MeetAsk, Meets, PartSays     name i is not the first, its entry stands at a, and that of the name before at p; they can part at d; the
+--                           entry of name i where they can, or 0 where they don't
 --     CountAsk              that, where what they share has to be counted
 -- The laws are in proofs/. Assumes nothing: these are definitions.
 use Prim.Native.Nat.{ℕ, max, min, pred, _+_, _-_, _*_, _/_, _≤_, _<_}
 use mathlib.Core.Path.{_≡_}
-use mathlib.Core.Bool.{Bool, true, false}
 use mathlib.Core.List.{[]}
 use lib.Dec.{eqb, ltb}
 use lib.ListN.{drop, getD, length, take}
 use Rattle.words.specs.Rising.{nth}
 use Rattle.words.specs.Words.{Bytes, Rule, pick, shared, word}
 use Rattle.format.specs.Kinds.{kindOf, ruleIn}
-use Rattle.format.specs.Spans.{wordsOf}
+use Rattle.format.specs.Spans.{wordsIn}
 use Rattle.format.specs.Book.{trailerSize, longestBook, namesOf, told}
 use Rattle.format.specs.Records.{longest, mostNames}
 use Rattle.symbols.specs.Rules.{byKind, ruleBy}
@@ -97,7 +97,7 @@ wholeBefore b p i = pick (eqb (getD b p 0) 0) p (startOf b i)
 
 -- what name i shares with the one before it, in symbols
 abbrev pub sharedBefore : Bytes → ℕ → ℕ
-sharedBefore b i = shared (nth (wordsOf (ruleIn b) b) (pred i)) (nth (wordsOf (ruleIn b) b) i)
+sharedBefore b i = shared (nth (wordsIn b) (pred i)) (nth (wordsIn b) i)
 
 pub record MeetAsk (b : Bytes) (p a i : ℕ) : Type 0 where
   pub known : Known (ruleIn b) b
@@ -113,7 +113,12 @@ pub record CountAsk (b : Bytes) (p a i : ℕ) : Type 0 where
   pub meet : MeetAsk b p a i
   pub whole : byKind (kindOf b) ≡ Plain → getD b a 0 ≡ 0
 
--- yes: they share d symbols at least, and no more than d bytes are stored as shared; no: they don't share just d symbols
-abbrev pub MeetSays : Bytes → ℕ → ℕ → ℕ → Bool → Type 0
-MeetSays b a i d true = (getD b a 0 ≤ d) × (d ≤ sharedBefore b i)
-MeetSays b a i d false = sharedBefore b i ≡ d → ⊥
+-- they share d symbols at least, and no more than d bytes are stored as shared
+pub record Meets (b : Bytes) (a i d : ℕ) : Type 0 where
+  pub low : getD b a 0 ≤ d
+  pub shares : d ≤ sharedBefore b i
+
+-- 0: they don't share just d symbols
+pub record PartSays (b : Bytes) (a i d r : ℕ) : Type 0 where
+  pub no-way : r ≡ 0 → sharedBefore b i ≡ d → ⊥
+  pub it-does : (r ≡ 0 → ⊥) → (r ≡ a) × Meets b a i d

@@ -2,12 +2,12 @@
 // it is, but of a block's first name, which is stored whole; names that part in bytes can go on in the same symbols. Where the count does
 // not say it, a name is held to the names before it in their block, entry by entry, and no name is rebuilt.
 ghost use mathlib.Core.Path.{_≡_};
-ghost use Prim.Native.Nat.{_-_, _<_, _≤_};
-ghost use lib.ListN.{length};
+ghost use Prim.Native.Nat.{_+_, _-_, _*_, _<_, _≤_};
+ghost use lib.ListN.{getD, length};
 ghost use Rattle.symbols.specs.Rules.{ruleBy};
 ghost use Rattle.symbols.specs.declared.Rule.the-variants.{Folded, Plain};
 ghost use Rattle.streams.specs.Streams.{entryEnd};
-ghost use Rattle.neighbours.specs.Neighbours.{AlongAsk, AlongSays, CountAsk, EndAsk, MeetAsk, MeetSays, NextAsk, RestAsk, StartAsk, endBy, sharedBefore, sharedNext, sharedParts, startOf, wholeBefore};
+ghost use Rattle.neighbours.specs.Neighbours.{AlongAsk, AlongSays, CountAsk, EndAsk, MeetAsk, NextAsk, PartSays, RestAsk, StartAsk, endBy, sharedBefore, sharedNext, sharedParts, startOf, wholeBefore};
 use symbols::Rule;
 
 // Where the entry after the one at an offset stands.
@@ -119,39 +119,47 @@ fn whole_before(book: &[u8], p: usize, i: usize) -> usize
     start_of(book, i)
 }
 
-// What name number i, whose entry stands at a, shares with the name before it, whose entry stands at p. This is called from two places that
-// the compiler can't make one, and is longer than what it copies: so it stays a function, and the node walk above it needs less stack and
-// fewer instructions than with the loops inside (DECISIONS 135).
+// Where the entry of name number i stands, at a, and 65,536 times what it shares with the name before it, whose entry stands at p. So the
+// walk over the node table keeps no offset while this counts. Kept out of line on purpose: it has two call sites that the compiler can't
+// make one, and so it is not put into the recursion, which would need more stack and more instructions with the loops inside (DECISIONS 135).
 fn shared_along(book: &[u8], p: usize, a: usize, i: usize) -> usize
     requires { ⌜ CountAsk (now book) p a i ⌝ }
-    ensures { λ r. ⌜ r ≡ sharedBefore (now (book .entry)) i ⌝ }
+    ensures { λ r. ⌜ r ≡ a + 65536 * sharedBefore (now (book .entry)) i ⌝ }
 {
     let start = whole_before(book, p, i - 1);
     match trailer::rule(book) {
-        Rule::Plain => plain_along(book, start, a),
-        Rule::Folded => folded_along(book, start, a, numbers::wide(book[a])),
+        Rule::Plain => a + 65536 * plain_along(book, start, a),
+        Rule::Folded => a + 65536 * folded_along(book, start, a, numbers::wide(book[a])),
     }
 }
 
-// Whether name number i, whose entry stands at a, can part at symbol number d from the name before it, whose entry stands at p: no, where they
-// share more or less; and where they share d symbols at least, and the entry no more bytes, yes. A stored count that is d says it under
-// every rule, and by the plain rule each count does, but for 0, which a block's first name stores.
-pub fn can_part(book: &[u8], p: usize, a: usize, i: usize, d: usize) -> bool
-    requires { ⌜ MeetAsk (now book) p a i ⌝ }
-    ensures { λ r. ⌜ MeetSays (now (book .entry)) a i d r ⌝ }
+// Whether name number i, whose entry stands at a and stores another count than d, can part at symbol number d from the name before it,
+// whose entry stands at p: then a, which is not 0; else 0. It can't where they share more or less. It can where they share d symbols at
+// least, and the entry no more bytes. By the plain rule each count says how many symbols they share, but for 0, which a block's
+// first name stores.
+pub fn part_at(book: &[u8], p: usize, a: usize, i: usize, d: usize) -> usize
+    requires { ⌜ MeetAsk (now book) p a i × (getD (now book) a 0 ≡ d → ⊥) ⌝ }
+    ensures { λ r. ⌜ PartSays (now (book .entry)) a i d r ⌝ }
 {
     let c = numbers::wide(book[a]);
-    if c == d {
-        return true;
-    }
     if d < c {
-        return false;
+        return 0;
     }
     if c == 0 {
-        return shared_along(book, p, a, i) == d;
+        let along = shared_along(book, p, a, i);
+        if along / 65536 == d {
+            return along % 65536;
+        }
+        return 0;
     }
     match trailer::rule(book) {
-        Rule::Plain => false,
-        Rule::Folded => d <= shared_along(book, p, a, i),
+        Rule::Plain => 0,
+        Rule::Folded => {
+            let along = shared_along(book, p, a, i);
+            if d <= along / 65536 {
+                return along % 65536;
+            }
+            0
+        }
     }
 }

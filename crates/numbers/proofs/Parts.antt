@@ -5,6 +5,8 @@
 --     lent, lent-front, none-lent     a part behind what is written comes back with more, whole or at its front; an empty part changes nothing
 --     Copied, copied, copied-behind     what the kit's `bytes::copy` leaves: in a room, and in one of which the front was not lent
 --     number-is, number-small   a number out of its two bytes
+--     packed-low, packed-high   two numbers in one, the lower of two bytes
+--     number-behind             a number in a part, where it stands in the whole
 --     two-stored                two bytes, one by one
 --     Numbered: numbered-none, numbered-more, numbered-all     numbers in a row
 -- Assumes nothing.
@@ -14,7 +16,7 @@ use native.Mathlib.Omega.{arith}
 use mathlib.Core.Path.{_≡_, refl, sym, ap, ap₂, _∙_}
 use mathlib.Core.List.{List, [], _∷_, _++_, append-assoc, append-nil}
 use lib.ListN.{length, getD, set, take, drop, length-append, length-take, length-drop, take-append-drop}
-use lib.Seq.{take-at, drop-at, drop-drop, take-suc, take-all, drop-length, length-take-le}
+use lib.Seq.{getD-drop, getD-take, take-at, drop-at, drop-drop, take-suc, take-all, drop-length, length-take-le}
 use mir.Syntax.{w8}
 use mir.Val.{Fits}
 use Rattle.words.specs.Words.{Bytes, InBytes}
@@ -35,6 +37,21 @@ number-is b o x y p q = ap₂ (λ (u v : ℕ). u + 256 * v) p q
 
 pub number-small : (x y : ℕ) → x < 256 → y < 256 → x + 256 * y < 65536
 number-small x y h k = omega arith
+
+pub packed-low : (a c : ℕ) → a < 65536 → (a + 65536 * c) % 65536 ≡ a
+packed-low a c h = omega arith
+
+pub packed-high : (a c : ℕ) → a < 65536 → (a + 65536 * c) / 65536 ≡ c
+packed-high a c h = omega arith
+
+pub number-behind : (b : Bytes) (on n o : ℕ) → o + 2 ≤ n → number (take n (drop on b)) o ≡ number b (on + o)
+unfolding number
+number-behind b on n o h =
+    let next : on + (o + 1) ≡ on + o + 1 = omega arith in
+    ap₂ (λ (u v : ℕ). u + 256 * v) (byte o (omega arith)) (byte (o + 1) (omega arith) ∙ ap (λ (i : ℕ). getD b i 0) next)
+  where
+    byte : (i : ℕ) → i < n → getD (take n (drop on b)) i 0 ≡ getD b (on + i) 0
+    byte i l = getD-take n (drop on b) i 0 l ∙ getD-drop on b i 0
 
 -- a part of a run of bytes
 pub part-length : (s : Bytes) (o n : ℕ) → o + n ≤ length s → length (take n (drop o s)) ≡ n

@@ -13,7 +13,7 @@ use lib.ListN.{length}
 use Rattle.words.specs.Words.{Bytes, InBytes, word}
 use Rattle.format.proofs.BookKinds.{full-rows}
 use Rattle.format.specs.Kinds.{kindOf, ruleIn}
-use Rattle.format.specs.Spans.{wordsOf}
+use Rattle.format.specs.Spans.{wordsIn, wordsOf}
 use Rattle.format.specs.Book.{namesOf, opened, told}
 use Rattle.format.specs.Records.{longest}
 use Rattle.format.specs.Outcomes.{given, refused}
@@ -23,7 +23,7 @@ use Rattle.answers.proofs.Lit.{answer-asked, answer-lit}
 use Rattle.answers.proofs.Calls.{question-given, question-long, question-none}
 use Rattle.answers.specs.Questions.{Pair, answer, ask, count, exact, exactFrom, place, range}
 use Rattle.answers.specs.Widths.{width}
-use Rattle.descent.specs.Vocabulary.{asked}
+use Rattle.descent.specs.Vocabulary.{asked, askedIn}
 use Rattle.descent.proofs.Bytes.{opened-searchable}
 use Rattle.numbers.proofs.Parts.{Held, held-bytes}
 use Rattle.trailer.specs.declared.Trailer.{Trailer}
@@ -63,7 +63,8 @@ askable b t kind held l =
         block = ap (λ (x : Trailer). x .block) (f .told);
         table = ap (λ (x : Trailer). x .«blocks_at») (f .told);
         nodes = ap (λ (x : Trailer). x .«nodes_at») (f .told);
-        searchable = opened-searchable (kindOf b) (full-rows (kindOf b)) b (t .block) (namesOf b) (f .book) (held-bytes b held) (omega (arith, f .count, l .some));
+        start = rw (full-rows (kindOf b)) refl;
+        searchable = rw (full-rows (kindOf b)) (opened-searchable (kindOf b) (full-rows (kindOf b)) b (t .block) (namesOf b) (f .book) (held-bytes b held) (omega (arith, f .count, l .some)));
       };
       low = l .asking .number .low;
       high = l .asking .number .high;
@@ -107,7 +108,7 @@ module _ (b q : Bytes) (t : Trailer) (kind : ℕ) (held : Held b) (s : Asking b 
         none (x ∷ xs) l = absurd (lt-irrefl 0 (omega arith))
 
     module _ (some : n ≡ 0 → ⊥) where
-      module _ {x y : ℕ} (e : (x, y) ≡ ask kind (asked (ruleIn b) q) (wordsOf (ruleIn b) b)) where
+      module _ {x y : ℕ} (e : (x, y) ≡ ask kind (askedIn b q) (wordsIn b)) where
         pub ask-some : (kind ≡ 4 → ⊥) → given x y ≡ question kind b q
         unfolding asked wordsOf
         ask-some f = gives (λ _ z. some z) (x, y) (e ∙ sym (answer-asked (ruleIn b) kind q (namesOf b) f))

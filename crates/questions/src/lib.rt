@@ -6,11 +6,10 @@ use shapes::Answer;
 use shapes::Row;
 ghost use mathlib.Core.Path.{_≡_};
 ghost use Rattle.format.specs.Book.{opened};
-ghost use Rattle.format.specs.Kinds.{ruleIn};
-ghost use Rattle.format.specs.Spans.{wordsOf};
+ghost use Rattle.format.specs.Spans.{wordsIn};
 ghost use Rattle.answers.specs.Calls.{question as askedOf, rowAnswer};
 ghost use Rattle.answers.specs.Questions.{ask as answerOf};
-ghost use Rattle.descent.specs.Vocabulary.{asked};
+ghost use Rattle.descent.specs.Vocabulary.{askedIn};
 ghost use Rattle.search.specs.Asks.{pairOf};
 ghost use Rattle.shapes.specs.Shapes.{answered, rowOf};
 ghost use Rattle.questions.specs.Asking.{Accepted, Asking, KindNumber, Looking, closedBy, openingOf, takesRows};
@@ -18,7 +17,7 @@ ghost use Rattle.questions.specs.Asking.{Accepted, Asking, KindNumber, L
 // The two numbers that an accepted book with names answers to a question of a kind from 1 to 5: an arm for each form of table.
 fn look_up(book: &[u8], t: trailer::Trailer, kind: usize, question: &[u8]) -> search::Pair
     requires { ⌜ Looking (now book) t kind ⌝ }
-    ensures { λ r. ⌜ pairOf r ≡ answerOf kind (asked (ruleIn (now (book .entry))) (now (question .entry))) (wordsOf (ruleIn (now (book .entry))) (now (book .entry))) ⌝ }
+    ensures { λ r. ⌜ pairOf r ≡ answerOf kind (askedIn (now (book .entry)) (now (question .entry))) (wordsIn (now (book .entry))) ⌝ }
 {
     let book_kind = t.kind;
     let form = kinds::form_of(book_kind);

@@ -1,16 +1,16 @@
-// The five questions, asked of a book that the check has accepted. One descent over the node table, by the numbers of nodes, serves all
-// of them; the name that it reaches is rebuilt and compared, since the descent passes over bytes that it never looks at.
+// The five questions, asked of a book that the check has accepted. One descent over the node table serves all of them; the name that it
+// reaches is rebuilt and compared, since the descent passes over bytes that it never looks at. A node is told by the offset of its first
+// number; the next node stands `stride` bytes further on, and a node's next number `step` bytes.
 ghost use mathlib.Core.Path.{_≡_};
-ghost use lib.ListN.{getD};
+ghost use Rattle.format.specs.Book.{told};
 ghost use Rattle.format.specs.Kinds.{ruleIn};
-ghost use Rattle.format.specs.Spans.{wordsOf};
-ghost use Rattle.format.specs.Nodes.{fields};
-ghost use Rattle.standing.specs.Maps.{rowsAt};
+ghost use Rattle.format.specs.Spans.{wordsIn};
+ghost use Rattle.standing.specs.Maps.{mapOf};
 ghost use Rattle.answers.specs.Questions.{ask, exact, nearest, place, range};
 ghost use Rattle.answers.specs.Widths.{width};
-ghost use Rattle.descent.specs.Vocabulary.{Descended, Highest, Reached, Searchable, Sought, asked, node};
+ghost use Rattle.descent.specs.Vocabulary.{Reached, Searchable, askedIn};
 ghost use Rattle.names.specs.Names.{PositionAsk};
-ghost use Rattle.search.specs.Asks.{AtFork, AtNode, AtSpot, Askable, FieldAsk, KindAsk, MetSays, NearSays, NodeNumber, OnPath, SpotSays, WayOf, pairOf};
+ghost use Rattle.search.specs.Asks.{AtFork, AtNode, AtSpot, Askable, DescentSays, HighestAt, KindAsk, MetSays, NearSays, OnPath, SoughtAt, SpotSays, WayOf, pairOf, tableMap};
 
 // An answer's two numbers.
 pub struct Pair {
@@ -18,7 +18,7 @@ pub struct Pair {
     pub second: usize,
 }
 
-// The nodes that a question passes from the root on, how many they are, and the last of them.
+// The offsets of the nodes that a question passes from the root on, how many they are, and the last of them.
 pub struct Descent {
     pub path: [u16; 202],
     pub len: usize,
@@ -37,7 +37,7 @@ pub struct Met {
     pub symbol: usize,
 }
 
-// The node whose names share most with a question: how many symbols, and the next one of the name that is reached.
+// The offset of the node whose names share most with a question, how many symbols, and the next one of the name that is reached.
 pub struct Spot {
     pub node: usize,
     pub shared: usize,
@@ -51,116 +51,67 @@ pub struct Near {
     pub len: usize,
 }
 
-// Field number j of node v, in the table from `start` on.
-fn field(book: &[u8], start: usize, v: usize, j: usize) -> usize
-    requires { ⌜ FieldAsk (now book) start v j ⌝ }
-    ensures { λ r. ⌜ r ≡ getD (fields (node (wordsOf (ruleIn (now (book .entry))) (now (book .entry))) v)) j 0 ⌝ }
+// The first child of the node at o whose symbol is not below s, or the end of its row where there is none.
+fn seek(book: &[u8], stride: usize, step: usize, o: usize, s: usize) -> usize
+    requires { ⌜ AtFork (now book) (tableMap (now book) stride step) o ⌝ }
+    ensures { λ r. ⌜ SoughtAt (now (book .entry)) (tableMap (now (book .entry)) stride step) o s r ⌝ }
 {
-    fields::field(book, start + v * fields::SIZE, j)
-}
-
-fn symbol_of(book: &[u8], start: usize, v: usize) -> usize
-    requires { ⌜ NodeNumber (now book) start v ⌝ }
-    ensures { λ r. ⌜ r ≡ node (wordsOf (ruleIn (now (book .entry))) (now (book .entry))) v .symbol ⌝ }
-{
-    field(book, start, v, 0)
-}
-
-fn depth_of(book: &[u8], start: usize, v: usize) -> usize
-    requires { ⌜ NodeNumber (now book) start v ⌝ }
-    ensures { λ r. ⌜ r ≡ node (wordsOf (ruleIn (now (book .entry))) (now (book .entry))) v .depth ⌝ }
-{
-    field(book, start, v, 1)
-}
-
-fn first_of(book: &[u8], start: usize, v: usize) -> usize
-    requires { ⌜ NodeNumber (now book) start v ⌝ }
-    ensures { λ r. ⌜ r ≡ node (wordsOf (ruleIn (now (book .entry))) (now (book .entry))) v .first ⌝ }
-{
-    field(book, start, v, 2)
-}
-
-fn names_of(book: &[u8], start: usize, v: usize) -> usize
-    requires { ⌜ NodeNumber (now book) start v ⌝ }
-    ensures { λ r. ⌜ r ≡ node (wordsOf (ruleIn (now (book .entry))) (now (book .entry))) v .names ⌝ }
-{
-    field(book, start, v, 3)
-}
-
-fn nodes_of(book: &[u8], start: usize, v: usize) -> usize
-    requires { ⌜ NodeNumber (now book) start v ⌝ }
-    ensures { λ r. ⌜ r ≡ node (wordsOf (ruleIn (now (book .entry))) (now (book .entry))) v .nodes ⌝ }
-{
-    field(book, start, v, 4)
-}
-
-fn width_of(book: &[u8], start: usize, v: usize) -> usize
-    requires { ⌜ NodeNumber (now book) start v ⌝ }
-    ensures { λ r. ⌜ r ≡ node (wordsOf (ruleIn (now (book .entry))) (now (book .entry))) v .width ⌝ }
-{
-    field(book, start, v, 5)
-}
-
-// The first child of v whose symbol is not below s, or the end of v's row where there is none.
-fn seek(book: &[u8], start: usize, v: usize, s: usize) -> usize
-    requires { ⌜ AtFork (now book) start v ⌝ }
-    ensures { λ r. ⌜ Sought (wordsOf (ruleIn (now (book .entry))) (now (book .entry))) v s r ⌝ }
-{
-    let end = v + nodes_of(book, start, v);
-    let mut c = v + 1;
+    let end = o + fields::nodes(book, o, step) * stride;
+    let mut c = o + stride;
     while c < end {
-        if s <= symbol_of(book, start, c) {
+        if s <= fields::symbol(book, c, step) {
             return c;
         }
-        c += nodes_of(book, start, c);
+        c += fields::nodes(book, c, step) * stride;
     }
     c
 }
 
-// Where the question goes from v: to the child with its symbol at v's depth. It stays at a leaf, where the depth exceeds its length, and
-// where no child fits.
-fn child(book: &[u8], start: usize, question: &[u8], v: usize) -> Way
-    requires { ⌜ AtNode (now book) start v ⌝ }
-    ensures { λ r. ⌜ WayOf (wordsOf (ruleIn (now (book .entry))) (now (book .entry))) (asked (ruleIn (now (book .entry))) (now (question .entry))) v r ⌝ }
+// Where the question goes from the node at o: to the child with its symbol at that node's depth. It stays at a leaf, where the depth
+// exceeds its length, and where no child fits.
+fn child(book: &[u8], stride: usize, step: usize, question: &[u8], o: usize) -> Way
+    requires { ⌜ AtNode (now book) (tableMap (now book) stride step) o ⌝ }
+    ensures { λ r. ⌜ WayOf (now (book .entry)) (tableMap (now (book .entry)) stride step) (askedIn (now (book .entry)) (now (question .entry))) o r ⌝ }
 {
-    if names_of(book, start, v) == 1 {
+    if fields::names(book, o, step) == 1 {
         return Way::Stay;
     }
-    let d = depth_of(book, start, v);
+    let d = fields::depth(book, o, step);
     if question.len() < d {
         return Way::Stay;
     }
     let s = symbols::symbol_at(trailer::rule(book), question, 0, d);
-    let c = seek(book, start, v, s);
-    if v + nodes_of(book, start, v) <= c {
+    let c = seek(book, stride, step, o, s);
+    if o + fields::nodes(book, o, step) * stride <= c {
         return Way::Stay;
     }
-    if symbol_of(book, start, c) != s {
+    if fields::symbol(book, c, step) != s {
         return Way::Stay;
     }
     Way::Down(c)
 }
 
-// The way down from the root.
-fn descend(book: &[u8], start: usize, question: &[u8]) -> Descent
-    requires { ⌜ Searchable (ruleIn (now book)) (now book) (rowsAt start) ⌝ }
-    ensures { λ r. ⌜ Descended (wordsOf (ruleIn (now (book .entry))) (now (book .entry))) (asked (ruleIn (now (book .entry))) (now (question .entry))) (r .path) (r .len) (r .last) ⌝ }
+// The way down from the root, which stands at `start`.
+fn descend(book: &[u8], stride: usize, step: usize, start: usize, question: &[u8]) -> Descent
+    requires { ⌜ Searchable (ruleIn (now book)) (now book) (tableMap (now book) stride step) × (start ≡ told (now book) 3) ⌝ }
+    ensures { λ r. ⌜ DescentSays (now (book .entry)) (tableMap (now (book .entry)) stride step) (askedIn (now (book .entry)) (now (question .entry))) (r .path) (r .len) (r .last) ⌝ }
 {
     let mut path = [0u16; 202];
     let mut n: usize = 1;
-    let mut v: usize = 0;
+    let mut o = start;
+    path[0] = start as u16;
     loop {
-        match child(book, start, question, v) {
+        match child(book, stride, step, question, o) {
             Way::Down(c) => {
                 path[n] = c as u16;
                 n += 1;
-                v = c;
+                o = c;
             }
             Way::Stay => {
                 return Descent {
                     path,
                     len: n,
-                    last: v,
+                    last: o,
                 };
             }
         }
@@ -170,17 +121,17 @@ fn descend(book: &[u8], start: usize, question: &[u8]) -> Descent
 // The highest node of the path whose depth is at least `shared`, or the last. It is looked for from the end, where it mostly stands: depths
 // rise along the path, so it is the first one that has a less deep node above it, or the root. The path is taken out of the struct, since
 // the compiler copies it twice where it is indexed in there.
-fn highest(book: &[u8], start: usize, way: Descent, shared: usize) -> usize
-    requires { ⌜ OnPath (now book) start (way .path) (way .len) ⌝ }
-    ensures { λ r. ⌜ Highest (wordsOf (ruleIn (now (book .entry))) (now (book .entry))) (way .path) (way .len) shared r ⌝ }
+fn highest(book: &[u8], step: usize, way: Descent, shared: usize) -> usize
+    requires { ⌜ OnPath (now book) step (way .path) (way .len) ⌝ }
+    ensures { λ r. ⌜ HighestAt (now (book .entry)) step (way .path) (way .len) shared r ⌝ }
 {
     let path = way.path;
     let len = way.len;
     let mut j = len - 1;
     while 0 < j {
         let above = j - 1;
-        let v = numbers::wide16(path[above]);
-        if depth_of(book, start, v) < shared {
+        let o = numbers::wide16(path[above]);
+        if fields::depth(book, o, step) < shared {
             return numbers::wide16(path[j]);
         }
         j = above;
@@ -191,7 +142,7 @@ fn highest(book: &[u8], start: usize, way: Descent, shared: usize) -> usize
 // The name at a position, rebuilt, and how it stands to the question.
 fn compare(book: &[u8], t: trailer::Trailer, position: usize, question: &[u8]) -> Met
     requires { ⌜ PositionAsk (now book) t position ⌝ }
-    ensures { λ r. ⌜ MetSays (wordsOf (ruleIn (now (book .entry))) (now (book .entry))) (asked (ruleIn (now (book .entry))) (now (question .entry))) position (r .shared) (r .symbol) ⌝ }
+    ensures { λ r. ⌜ MetSays (wordsIn (now (book .entry))) (askedIn (now (book .entry)) (now (question .entry))) position (r .shared) (r .symbol) ⌝ }
 {
     let entry = names::read_name(book, t, position);
     let name = entry.name;
@@ -203,22 +154,24 @@ fn compare(book: &[u8], t: trailer::Trailer, position: usize, question: &[u8]) -
 }
 
 // The position that the question reaches.
-fn reach(book: &[u8], start: usize, question: &[u8]) -> usize
-    requires { ⌜ Searchable (ruleIn (now book)) (now book) (rowsAt start) ⌝ }
-    ensures { λ r. ⌜ Reached (wordsOf (ruleIn (now (book .entry))) (now (book .entry))) (asked (ruleIn (now (book .entry))) (now (question .entry))) r ⌝ }
+fn reach(book: &[u8], stride: usize, step: usize, start: usize, question: &[u8]) -> usize
+    requires { ⌜ Searchable (ruleIn (now book)) (now book) (tableMap (now book) stride step) × (start ≡ told (now book) 3) ⌝ }
+    ensures { λ r. ⌜ Reached (wordsIn (now (book .entry))) (askedIn (now (book .entry)) (now (question .entry))) r ⌝ }
 {
-    let way = descend(book, start, question);
-    first_of(book, start, way.last)
+    let way = descend(book, stride, step, start, question);
+    fields::first(book, way.last, step)
 }
 
 // The name that a question reaches, rebuilt and compared. Exact and nearest ask for no more: the node whose names share most, and the
 // path to it, are what place, range and width want (`locate`).
 fn meet(book: &[u8], t: trailer::Trailer, question: &[u8]) -> Near
     requires { ⌜ Askable (now book) t ⌝ }
-    ensures { λ r. ⌜ NearSays (wordsOf (ruleIn (now (book .entry))) (now (book .entry))) (asked (ruleIn (now (book .entry))) (now (question .entry))) (r .position) (r .shared) (r .len) ⌝ }
+    ensures { λ r. ⌜ NearSays (wordsIn (now (book .entry))) (askedIn (now (book .entry)) (now (question .entry))) (r .position) (r .shared) (r .len) ⌝ }
 {
     let start = numbers::wide16(t.nodes_at);
-    let position = reach(book, start, question);
+    let stride = trailer::stride(book);
+    let step = trailer::step(book);
+    let position = reach(book, stride, step, start, question);
     let entry = names::read_name(book, t, position);
     let name = entry.name;
     let len = entry.len;
@@ -233,13 +186,15 @@ fn meet(book: &[u8], t: trailer::Trailer, question: &[u8]) -> Near
 // The node with the names that share most with the question.
 fn locate(book: &[u8], t: trailer::Trailer, question: &[u8]) -> Spot
     requires { ⌜ Askable (now book) t ⌝ }
-    ensures { λ r. ⌜ SpotSays (wordsOf (ruleIn (now (book .entry))) (now (book .entry))) (asked (ruleIn (now (book .entry))) (now (question .entry))) (r .node) (r .shared) (r .symbol) ⌝ }
+    ensures { λ r. ⌜ SpotSays (now (book .entry)) (mapOf (now (book .entry))) (askedIn (now (book .entry)) (now (question .entry))) (r .node) (r .shared) (r .symbol) ⌝ }
 {
     let start = numbers::wide16(t.nodes_at);
-    let way = descend(book, start, question);
-    let position = first_of(book, start, way.last);
+    let stride = trailer::stride(book);
+    let step = trailer::step(book);
+    let way = descend(book, stride, step, start, question);
+    let position = fields::first(book, way.last, step);
     let met = compare(book, t, position, question);
-    let node = highest(book, start, way, met.shared);
+    let node = highest(book, step, way, met.shared);
     Spot {
         node,
         shared: met.shared,
@@ -249,24 +204,24 @@ fn locate(book: &[u8], t: trailer::Trailer, question: &[u8]) -> Spot
 
 // How many names are less than the question, once that node is known. Inside its edge the whole group lies to one side; at its fork the
 // question stands before the first child whose symbol is not below its own, or behind the group.
-fn seat(book: &[u8], start: usize, question: &[u8], spot: Spot) -> usize
-    requires { ⌜ AtSpot (now book) start (now question) (spot .node) (spot .shared) (spot .symbol) ⌝ }
-    ensures { λ r. ⌜ r ≡ place (asked (ruleIn (now (book .entry))) (now (question .entry))) (wordsOf (ruleIn (now (book .entry))) (now (book .entry))) ⌝ }
+fn seat(book: &[u8], stride: usize, step: usize, question: &[u8], spot: Spot) -> usize
+    requires { ⌜ AtSpot (now book) (tableMap (now book) stride step) (now question) (spot .node) (spot .shared) (spot .symbol) ⌝ }
+    ensures { λ r. ⌜ r ≡ place (askedIn (now (book .entry)) (now (question .entry))) (wordsIn (now (book .entry))) ⌝ }
 {
-    let v = spot.node;
+    let o = spot.node;
     let shared = spot.shared;
     let s = symbols::symbol_at(trailer::rule(book), question, 0, shared);
-    let first = first_of(book, start, v);
-    let past = first + names_of(book, start, v);
-    if shared < depth_of(book, start, v) {
+    let first = fields::first(book, o, step);
+    let past = first + fields::names(book, o, step);
+    if shared < fields::depth(book, o, step) {
         if spot.symbol < s {
             return past;
         }
         return first;
     }
-    let c = seek(book, start, v, s);
-    if c < v + nodes_of(book, start, v) {
-        return first_of(book, start, c);
+    let c = seek(book, stride, step, o, s);
+    if c < o + fields::nodes(book, o, step) * stride {
+        return fields::first(book, c, step);
     }
     past
 }
@@ -274,7 +229,7 @@ fn seat(book: &[u8], start: usize, question: &[u8], spot: Spot) -> usize
 // (position, 1) where a name equals the question, else (0, 0).
 fn ask_exact(book: &[u8], t: trailer::Trailer, question: &[u8]) -> Pair
     requires { ⌜ Askable (now book) t ⌝ }
-    ensures { λ r. ⌜ pairOf r ≡ exact (asked (ruleIn (now (book .entry))) (now (question .entry))) (wordsOf (ruleIn (now (book .entry))) (now (book .entry))) ⌝ }
+    ensures { λ r. ⌜ pairOf r ≡ exact (askedIn (now (book .entry)) (now (question .entry))) (wordsIn (now (book .entry))) ⌝ }
 {
     let met = meet(book, t, question);
     if met.shared < question.len() {
@@ -298,12 +253,17 @@ fn ask_exact(book: &[u8], t: trailer::Trailer, question: &[u8]) -> Pair
 // (how many names are less, 0).
 fn ask_place(book: &[u8], t: trailer::Trailer, question: &[u8]) -> Pair
     requires { ⌜ Askable (now book) t ⌝ }
-    ensures { λ r. ⌜ pairOf r ≡ (place (asked (ruleIn (now (book .entry))) (now (question .entry))) (wordsOf (ruleIn (now (book .entry))) (now (book .entry))), 0) ⌝ }
+    ensures { λ r. ⌜ pairOf r ≡ (place (askedIn (now (book .entry)) (now (question .entry))) (wordsIn (now (book .entry))), 0) ⌝ }
 {
-    let start = numbers::wide16(t.nodes_at);
     let spot = locate(book, t, question);
     Pair {
-        first: seat(book, start, question, spot),
+        first: seat(
+            book,
+            trailer::stride(book),
+            trailer::step(book),
+            question,
+            spot,
+        ),
         second: 0,
     }
 }
@@ -311,22 +271,22 @@ fn ask_place(book: &[u8], t: trailer::Trailer, question: &[u8]) -> Pair
 // (the question's place, how many names begin with it).
 fn ask_range(book: &[u8], t: trailer::Trailer, question: &[u8]) -> Pair
     requires { ⌜ Askable (now book) t ⌝ }
-    ensures { λ r. ⌜ pairOf r ≡ range (asked (ruleIn (now (book .entry))) (now (question .entry))) (wordsOf (ruleIn (now (book .entry))) (now (book .entry))) ⌝ }
+    ensures { λ r. ⌜ pairOf r ≡ range (askedIn (now (book .entry)) (now (question .entry))) (wordsIn (now (book .entry))) ⌝ }
 {
-    let start = numbers::wide16(t.nodes_at);
+    let step = trailer::step(book);
     let spot = locate(book, t, question);
-    let first = seat(book, start, question, spot);
+    let first = seat(book, trailer::stride(book), step, question, spot);
     if spot.shared < question.len() {
         return Pair { first, second: 0 };
     }
-    let second = names_of(book, start, spot.node);
+    let second = fields::names(book, spot.node, step);
     Pair { first, second }
 }
 
 // (the position reached, the symbols that its name and the question share).
 fn ask_nearest(book: &[u8], t: trailer::Trailer, question: &[u8]) -> Pair
     requires { ⌜ Askable (now book) t ⌝ }
-    ensures { λ r. ⌜ pairOf r ≡ nearest (asked (ruleIn (now (book .entry))) (now (question .entry))) (wordsOf (ruleIn (now (book .entry))) (now (book .entry))) ⌝ }
+    ensures { λ r. ⌜ pairOf r ≡ nearest (askedIn (now (book .entry)) (now (question .entry))) (wordsIn (now (book .entry))) ⌝ }
 {
     let met = meet(book, t, question);
     Pair {
@@ -338,9 +298,8 @@ fn ask_nearest(book: &[u8], t: trailer::Trailer, question: &[u8]) -> Pair
 // (the greatest length of the names that begin with the question, 0): of those the node tells it, and no name of the range is read.
 fn ask_width(book: &[u8], t: trailer::Trailer, question: &[u8]) -> Pair
     requires { ⌜ Askable (now book) t ⌝ }
-    ensures { λ r. ⌜ pairOf r ≡ (width (asked (ruleIn (now (book .entry))) (now (question .entry))) (wordsOf (ruleIn (now (book .entry))) (now (book .entry))), 0) ⌝ }
+    ensures { λ r. ⌜ pairOf r ≡ (width (askedIn (now (book .entry)) (now (question .entry))) (wordsIn (now (book .entry))), 0) ⌝ }
 {
-    let start = numbers::wide16(t.nodes_at);
     let spot = locate(book, t, question);
     if spot.shared != question.len() {
         return Pair {
@@ -349,7 +308,7 @@ fn ask_width(book: &[u8], t: trailer::Trailer, question: &[u8]) -> Pair
         };
     }
     Pair {
-        first: width_of(book, start, spot.node),
+        first: fields::width(book, spot.node, trailer::step(book)),
         second: 0,
     }
 }
@@ -358,7 +317,7 @@ fn ask_width(book: &[u8], t: trailer::Trailer, question: &[u8]) -> Pair
 // places to go to.
 pub fn answer(book: &[u8], t: trailer::Trailer, kind: usize, question: &[u8]) -> Pair
     requires { ⌜ KindAsk (now book) t kind ⌝ }
-    ensures { λ r. ⌜ pairOf r ≡ ask kind (asked (ruleIn (now (book .entry))) (now (question .entry))) (wordsOf (ruleIn (now (book .entry))) (now (book .entry))) ⌝ }
+    ensures { λ r. ⌜ pairOf r ≡ ask kind (askedIn (now (book .entry)) (now (question .entry))) (wordsIn (now (book .entry))) ⌝ }
 {
     if kind < 3 {
         if kind == 1 {

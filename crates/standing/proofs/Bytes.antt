@@ -36,7 +36,7 @@ module _ (b : Bytes) where
       go : FieldsAt rs (o + nodeSize) → (i < fieldCount) ⊎ (fieldCount ≤ i) → number b (o + 2 * i) ≡ getD (fields r ++ allFields rs) i 0
       go others (inl k) =
           let p : o + 2 * i ≡ o + i * 2 = omega arith in
-          ap (number b) p ∙ fields-are inRows b o i k ∙ ap (λ (x : Node). getD (fields x) i 0) (h .1) ∙ sym (List·getD-append (fields r) (allFields rs) 0 i k)
+          ap (number b) p ∙ fields-are 2 b o i k ∙ ap (λ (x : Node). getD (fields x) i 0) (h .1) ∙ sym (List·getD-append (fields r) (allFields rs) 0 i k)
       go others (inr k) =
           let j : ℕ = i - fieldCount in
           let p : o + 2 * i ≡ o + nodeSize + 2 * j = omega arith in
@@ -47,7 +47,7 @@ module _ (b : Bytes) where
   numbers-stand : (rs : List Node) (o e : ℕ) → e ≡ o + length rs * nodeSize → e ≤ length b → FieldsAt rs o → Stands inRows b o rs e
   unfolding allFields
   numbers-stand [] o e z l h = omega arith
-  numbers-stand (r ∷ rs) o e z l h = (omega arith, record-is inRows b o r first, numbers-stand rs (o + nodeSize) e (omega arith) l others)
+  numbers-stand (r ∷ rs) o e z l h = (omega arith, record-is 2 b o r first, numbers-stand rs (o + nodeSize) e (omega arith) l others)
     where
       first : (j : ℕ) → j < fieldCount → number b (o + j * 2) ≡ getD (fields r) j 0
       first j k =

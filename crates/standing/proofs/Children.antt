@@ -188,12 +188,12 @@ module _ (ws : Words) (r : Rises ws) where
     -- ---- a node
 
     -- a leaf's record
-    pub leaf-node : (s lo o : ℕ) → lo < length ws → Roomy μ b o → recordAt μ b o ≡ leaf lo s (nth ws lo) → NodeAt μ b ws lo (suc lo) s o (o + μ .stride)
+    pub leaf-node : (s lo o : ℕ) → lo < length ws → Roomy (μ .step) b o → recordAt (μ .step) b o ≡ leaf lo s (nth ws lo) → NodeAt μ b ws lo (suc lo) s o (o + μ .stride)
     leaf-node s lo o l f e = record { stands = subst (λ (rs : List Node). Stands μ b o rs (o + μ .stride)) (sym (table-one ws s lo l)) (f, e, refl) }
 
     pub record Leaf (s lo o e : ℕ) : Type 0 where
-      pub room : Roomy μ b o
-      pub told : recordAt μ b o ≡ leaf lo s (nth ws lo)
+      pub room : Roomy (μ .step) b o
+      pub told : recordAt (μ .step) b o ≡ leaf lo s (nth ws lo)
       pub end : o + μ .stride ≡ e
 
     pub node-leaf : (s lo o e : ℕ) → lo < length ws → NodeAt μ b ws lo (suc lo) s o e → Leaf s lo o e
@@ -203,13 +203,13 @@ module _ (ws : Words) (r : Rises ws) where
 
     -- the record of a node of several words, and its row
     pub record Fork (s lo hi o e : ℕ) : Type 0 where
-      pub room : Roomy μ b o
-      pub symbol : recordAt μ b o .symbol ≡ s
-      pub first : recordAt μ b o .first ≡ lo
-      pub names : recordAt μ b o .names ≡ hi - lo
-      pub width : recordAt μ b o .width ≡ widest (span ws lo hi)
-      pub nodes : o + recordAt μ b o .nodes * μ .stride ≡ e
-      pub group : GroupAt μ b ws lo hi (recordAt μ b o .depth) (o + μ .stride) e
+      pub room : Roomy (μ .step) b o
+      pub symbol : recordAt (μ .step) b o .symbol ≡ s
+      pub first : recordAt (μ .step) b o .first ≡ lo
+      pub names : recordAt (μ .step) b o .names ≡ hi - lo
+      pub width : recordAt (μ .step) b o .width ≡ widest (span ws lo hi)
+      pub nodes : o + recordAt (μ .step) b o .nodes * μ .stride ≡ e
+      pub group : GroupAt μ b ws lo hi (recordAt (μ .step) b o .depth) (o + μ .stride) e
 
     module _ (s lo hi o e : ℕ) (a : suc lo < hi) (l : hi ≤ length ws) where
       d : ℕ
@@ -222,8 +222,8 @@ module _ (ws : Words) (r : Rises ws) where
       unfolding d row
       node-split n =
           let h : Stands μ b o (fork lo s d (span ws lo hi) row ∷ row) e = subst (λ (rs : List Node). Stands μ b o rs e) (table-more ws s lo hi r a l) (n .stands) in
-          let t : recordAt μ b o .depth ≡ d = ap (λ (x : Node). x .depth) (h .1) in
-          let m : recordAt μ b o .nodes ≡ suc (length row) = ap (λ (x : Node). x .nodes) (h .1) in
+          let t : recordAt (μ .step) b o .depth ≡ d = ap (λ (x : Node). x .depth) (h .1) in
+          let m : recordAt (μ .step) b o .nodes ≡ suc (length row) = ap (λ (x : Node). x .nodes) (h .1) in
           record {
             room = h .0;
             symbol = ap (λ (x : Node). x .symbol) (h .1);
@@ -237,9 +237,9 @@ module _ (ws : Words) (r : Rises ws) where
       pub node-join : 1 ≤ μ .stride → Fork s lo hi o e → NodeAt μ b ws lo hi s o e
       unfolding d row
       node-join wide f =
-          let t : recordAt μ b o .depth ≡ d = f .group .share in
+          let t : recordAt (μ .step) b o .depth ≡ d = f .group .share in
           let g : Stands μ b (o + μ .stride) row e = subst (λ (x : ℕ). Stands μ b (o + μ .stride) (rowTable lo x (span ws lo hi)) e) t (f .group .stands) in
-          let m : recordAt μ b o .nodes ≡ suc (length row) = strides-differ (μ .stride) wide (recordAt μ b o .nodes) (suc (length row)) (omega (arith, stands-end μ b row (o + μ .stride) e g, f .nodes)) in
-          let told : recordAt μ b o ≡ fork lo s d (span ws lo hi) row =
+          let m : recordAt (μ .step) b o .nodes ≡ suc (length row) = strides-differ (μ .stride) wide (recordAt (μ .step) b o .nodes) (suc (length row)) (omega (arith, stands-end μ b row (o + μ .stride) e g, f .nodes)) in
+          let told : recordAt (μ .step) b o ≡ fork lo s d (span ws lo hi) row =
           rw (f .symbol, t, f .first, f .names ∙ sym (span-length ws lo hi l), m, f .width) refl in
           record { stands = subst (λ (rs : List Node). Stands μ b o rs e) (sym (table-more ws s lo hi r a l)) (f .room, told, g) }

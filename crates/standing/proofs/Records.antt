@@ -37,15 +37,15 @@ module _ (μ : Map) (b : Bytes) where
 
   -- record number v of them
   pub record Told (rs : List Node) (o v : ℕ) (r : Node) : Type 0 where
-    pub room : Roomy μ b (o + v * μ .stride)
-    pub told : recordAt μ b (o + v * μ .stride) ≡ getD rs v r
+    pub room : Roomy (μ .step) b (o + v * μ .stride)
+    pub told : recordAt (μ .step) b (o + v * μ .stride) ≡ getD rs v r
 
   pub stands-at : (rs : List Node) (o e v : ℕ) (r : Node) → Stands μ b o rs e → v < length rs → Told rs o v r
   stands-at [] o e v r h l = absurd (not-suc-le-zero l)
   stands-at (x ∷ rs) o e zero r h l =
       let z : o ≡ o + 0 * μ .stride = omega arith in
-      record { room = subst (Roomy μ b) z (h .0); told = subst (λ (a : ℕ). recordAt μ b a ≡ x) z (h .1) }
+      record { room = subst (Roomy (μ .step) b) z (h .0); told = subst (λ (a : ℕ). recordAt (μ .step) b a ≡ x) z (h .1) }
   stands-at (x ∷ rs) o e (suc v) r h l =
       let z : o + μ .stride + v * μ .stride ≡ o + suc v * μ .stride = omega arith in
       let t = stands-at rs (o + μ .stride) e v r (h .2) (le-of-suc-le-suc l) in
-      record { room = subst (Roomy μ b) z (t .room); told = subst (λ (a : ℕ). recordAt μ b a ≡ getD rs v r) z (t .told) }
+      record { room = subst (Roomy (μ .step) b) z (t .room); told = subst (λ (a : ℕ). recordAt (μ .step) b a ≡ getD rs v r) z (t .told) }

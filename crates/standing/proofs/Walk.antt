@@ -30,14 +30,14 @@ use Rattle.standing.proofs.Children as child
 
 -- what a node's record says of its words; s led to it, and it ends at e
 pub record Head (μ : Map) (b : Bytes) (ws : Words) (s lo hi o e : ℕ) : Type 0 where
-  pub room : Roomy μ b o
+  pub room : Roomy (μ .step) b o
   pub past : o + μ .stride ≤ e
-  pub symbol : recordAt μ b o .symbol ≡ s
-  pub first : recordAt μ b o .first ≡ lo
-  pub nodes : o + recordAt μ b o .nodes * μ .stride ≡ e
-  pub names : recordAt μ b o .names ≡ hi - lo
-  pub width : recordAt μ b o .width ≡ widest (span ws lo hi)
-  pub depth : suc lo < hi → recordAt μ b o .depth ≡ deep ws lo hi
+  pub symbol : recordAt (μ .step) b o .symbol ≡ s
+  pub first : recordAt (μ .step) b o .first ≡ lo
+  pub nodes : o + recordAt (μ .step) b o .nodes * μ .stride ≡ e
+  pub names : recordAt (μ .step) b o .names ≡ hi - lo
+  pub width : recordAt (μ .step) b o .width ≡ widest (span ws lo hi)
+  pub depth : suc lo < hi → recordAt (μ .step) b o .depth ≡ deep ws lo hi
 
 -- the row of the group from lo₀ to hi, of depth d, stands from o₀ on just where the row of its words from lo on stands from o on
 pub record Walk (μ : Map) (b : Bytes) (ws : Words) (lo₀ hi d o₀ lo o : ℕ) : Type 0 where
@@ -49,17 +49,17 @@ pub record Walk (μ : Map) (b : Bytes) (ws : Words) (lo₀ hi d o₀ lo o : ℕ)
 
 -- what stands at o, if the group's row stands up to e
 pub record Expected (μ : Map) (b : Bytes) (ws : Words) (lo₀ hi d lo o e : ℕ) : Type 0 where
-  pub room : Roomy μ b o
+  pub room : Roomy (μ .step) b o
   pub past : o + μ .stride ≤ e
-  pub symbol : recordAt μ b o .symbol ≡ at (nth ws lo) d
-  pub first : recordAt μ b o .first ≡ lo
-  pub some : 0 < recordAt μ b o .names
-  pub upto : recordAt μ b o .names ≤ hi - lo
-  pub proper : recordAt μ b o .names < hi - lo₀
-  pub ends : o + recordAt μ b o .nodes * μ .stride ≤ e
-  pub node : NodeAt μ b ws lo (lo + recordAt μ b o .names) (at (nth ws lo) d) o (o + recordAt μ b o .nodes * μ .stride)
-  pub below : 1 < recordAt μ b o .names → d < recordAt μ b o .depth
-  pub edge : lo + recordAt μ b o .names < hi → shared (nth ws (pred (lo + recordAt μ b o .names))) (nth ws (lo + recordAt μ b o .names)) ≡ d
+  pub symbol : recordAt (μ .step) b o .symbol ≡ at (nth ws lo) d
+  pub first : recordAt (μ .step) b o .first ≡ lo
+  pub some : 0 < recordAt (μ .step) b o .names
+  pub upto : recordAt (μ .step) b o .names ≤ hi - lo
+  pub proper : recordAt (μ .step) b o .names < hi - lo₀
+  pub ends : o + recordAt (μ .step) b o .nodes * μ .stride ≤ e
+  pub node : NodeAt μ b ws lo (lo + recordAt (μ .step) b o .names) (at (nth ws lo) d) o (o + recordAt (μ .step) b o .nodes * μ .stride)
+  pub below : 1 < recordAt (μ .step) b o .names → d < recordAt (μ .step) b o .depth
+  pub edge : lo + recordAt (μ .step) b o .names < hi → shared (nth ws (pred (lo + recordAt (μ .step) b o .names))) (nth ws (lo + recordAt (μ .step) b o .names)) ≡ d
 
 -- a row ends at one place
 pub group-end : (μ : Map) (b : Bytes) (ws : Words) (lo hi d o e f : ℕ) → GroupAt μ b ws lo hi d o e → GroupAt μ b ws lo hi d o f → e ≡ f
@@ -76,8 +76,8 @@ module _ (μ : Map) (b : Bytes) (ws : Words) (r : Rises ws) where
       go : (suc lo ≡ hi) ⊎ (suc lo < hi) → Head μ b ws s lo hi o e
       go (inl k) =
           let f = child.node-leaf ws r μ b s lo o e (omega arith) (subst (λ (x : ℕ). NodeAt μ b ws lo x s o e) (sym k) n) in
-          let m : recordAt μ b o .names ≡ 1 = ap (λ (x : Node). x .names) (f .told) in
-          let n : recordAt μ b o .nodes ≡ 1 = ap (λ (x : Node). x .nodes) (f .told) in
+          let m : recordAt (μ .step) b o .names ≡ 1 = ap (λ (x : Node). x .names) (f .told) in
+          let n : recordAt (μ .step) b o .nodes ≡ 1 = ap (λ (x : Node). x .nodes) (f .told) in
           record {
             room = f .room;
             past = omega (arith, f .end);
@@ -92,7 +92,7 @@ module _ (μ : Map) (b : Bytes) (ws : Words) (r : Rises ws) where
           let f = child.node-split ws r μ b s lo hi o e k l n in
           record {
             room = f .room;
-            past = omega (arith, stands-end μ b (rowTable lo (recordAt μ b o .depth) (span ws lo hi)) (o + μ .stride) e (f .group .stands));
+            past = omega (arith, stands-end μ b (rowTable lo (recordAt (μ .step) b o .depth) (span ws lo hi)) (o + μ .stride) e (f .group .stands));
             symbol = f .symbol;
             first = f .first;
             nodes = f .nodes;
@@ -118,7 +118,7 @@ module _ (μ : Map) (b : Bytes) (ws : Words) (r : Rises ws) where
       first e g = child.row-child ws r μ b d lo hi o e (w .some) l (w .forth e g)
 
       -- the first child's end is where its record says
-      mid-is : (e mid m : ℕ) (c : Child μ b ws d lo mid o m) → mid ≤ hi → mid ≡ lo + recordAt μ b o .names
+      mid-is : (e mid m : ℕ) (c : Child μ b ws d lo mid o m) → mid ≤ hi → mid ≡ lo + recordAt (μ .step) b o .names
       mid-is e mid m c u = omega (arith, (node-head _ lo mid o m (c .some) (omega arith) (c .node)) .names, c .some)
 
       pub walk-next : (e : ℕ) → GroupAt μ b ws lo₀ hi d o₀ e → Expected μ b ws lo₀ hi d lo o e
@@ -126,7 +126,7 @@ module _ (μ : Map) (b : Bytes) (ws : Words) (r : Rises ws) where
           let f = first e g in
           let c = f .child in
           let h = node-head _ lo (f .mid) o (f .end) (c .some) (omega (arith, f .upto)) (c .node) in
-          let k : f .mid ≡ lo + recordAt μ b o .names = mid-is e (f .mid) (f .end) c (f .upto) in
+          let k : f .mid ≡ lo + recordAt (μ .step) b o .names = mid-is e (f .mid) (f .end) c (f .upto) in
           record {
             room = h .room;
             past = omega (arith, h .past, behind (f .others));
@@ -136,7 +136,7 @@ module _ (μ : Map) (b : Bytes) (ws : Words) (r : Rises ws) where
             some = omega (arith, c .some);
             upto = omega (arith, f .upto);
             proper = proper f k;
-            node = subst (λ (x : ℕ). NodeAt μ b ws lo x (at (nth ws lo) d) o (o + recordAt μ b o .nodes * μ .stride)) k (subst (NodeAt μ b ws lo (f .mid) (at (nth ws lo) d) o) (sym (h .nodes)) (c .node));
+            node = subst (λ (x : ℕ). NodeAt μ b ws lo x (at (nth ws lo) d) o (o + recordAt (μ .step) b o .nodes * μ .stride)) k (subst (NodeAt μ b ws lo (f .mid) (at (nth ws lo) d) o) (sym (h .nodes)) (c .node));
             below = λ q. omega (arith, c .below (omega arith), h .depth (omega arith));
             edge = λ q. subst (λ (x : ℕ). shared (nth ws (pred x)) (nth ws x) ≡ d) k (meet (f .others) (omega arith));
           }
@@ -149,7 +149,7 @@ module _ (μ : Map) (b : Bytes) (ws : Words) (r : Rises ws) where
           meet (child.ended p q) h = absurd (lt-irrefl hi (omega arith))
           meet (child.going p q t) h = q
 
-          proper : (f : child.Lead ws r μ b d lo hi o e) → f .mid ≡ lo + recordAt μ b o .names → recordAt μ b o .names < hi - lo₀
+          proper : (f : child.Lead ws r μ b d lo hi o e) → f .mid ≡ lo + recordAt (μ .step) b o .names → recordAt (μ .step) b o .names < hi - lo₀
           proper f k = elim (eq-or-lt-of-le (w .from)) [
             | inr q ↦ omega (arith, f .upto, w .some)
             | inl q ↦ elim (eq-or-lt-of-le (f .upto)) [

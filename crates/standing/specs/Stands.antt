@@ -16,7 +16,7 @@ use Rattle.standing.specs.Maps.{Map, Roomy, recordAt}
 
 abbrev pub Stands : Map → Bytes → ℕ → List Node → ℕ → Type 0
 Stands μ b o [] e = o ≡ e
-Stands μ b o (r ∷ rs) e = Roomy μ b o × (recordAt μ b o ≡ r) × Stands μ b (o + μ .stride) rs e
+Stands μ b o (r ∷ rs) e = Roomy (μ .step) b o × (recordAt (μ .step) b o ≡ r) × Stands μ b (o + μ .stride) rs e
 
 -- the node of the words from lo to hi, to which s led, with its row
 pub record NodeAt (μ : Map) (b : Bytes) (ws : Words) (lo hi s o e : ℕ) : Type 0 where

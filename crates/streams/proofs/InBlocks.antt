@@ -1,6 +1,7 @@
 -- Entries that a walk has passed stand in blocks.
 --     BlockRun, blocks-run      block number j, by itself: where it stands, and what its entries are
 --     has-blocks                all of them: `InBlocks`
+--     blocks-end, has-end       where they end
 -- Assumes nothing.
 use Prim.Native.Nat.{ℕ, zero, suc, _*_, _+_, _-_, _<_, _≤_}
 use native.Mathlib.Nat.{not-suc-le-zero}
@@ -15,7 +16,7 @@ use Rattle.format.specs.Book.{longestBook, number, namesOf, told}
 use Rattle.format.specs.Entries.{front}
 use Rattle.streams.specs.Runs.{Frame, Has, Rest, Run, more}
 use Rattle.streams.specs.Streams.{InBlocks, offsetAt, offsetFrom}
-use Rattle.streams.proofs.Blocks.{rest-first}
+use Rattle.streams.proofs.Blocks.{rest-first, rest-none}
 use Rattle.streams.proofs.Places.{offset-add, run-end, run-next-count}
 use Rattle.streams.proofs.Walks.{has-names}
 
@@ -67,6 +68,32 @@ module _ (ρ : Rule) (lw : Sure ρ) (b : Bytes) (k s u : ℕ) (one : 1 ≤ k) (s
   blocks-run zero = first-run
   blocks-run (suc j) = next-run j (blocks-run j)
 
+  -- n blocks, or fewer: from the first entry on, as many entries as there are names end at s
+  abbrev BlocksEnd : ℕ → Type 0
+  BlocksEnd n = (t o : ℕ) (prev : Bytes) (xs : List Bytes) → o ≤ length b → t ≤ length b → Rest ρ b k s u t o prev xs → length xs ≤ n → offsetFrom b o (length xs) ≡ s
+
+  none-end : (t o : ℕ) (prev : Bytes) → o ≤ length b → t ≤ length b → Rest ρ b k s u t o prev [] → offsetFrom b o 0 ≡ s
+  unfolding offsetFrom
+  none-end t o prev ho ht r = (rest-none ρ b k s u t o prev ho hs ht hu r) .0
+
+  next-end : (n : ℕ) → BlocksEnd n → BlocksEnd (suc n)
+  next-end n others t o prev [] ho ht r h = none-end t o prev ho ht r
+  next-end n others t o prev (x ∷ xs) ho ht r h =
+      let f = rest-first ρ lw b k s u t o prev x xs one small ho hs ht hu r in
+      let end : ℕ = o + length (front [] (take k (x ∷ xs))) in
+      let g = others (t + 2) end _ (drop k (x ∷ xs)) (omega (arith, f .upto)) (omega (arith, f .room)) (f .others) (omega (arith, length-drop k (x ∷ xs))) in
+      let both : length (x ∷ xs) ≡ length (take k (x ∷ xs)) + length (drop k (x ∷ xs)) = omega (arith, length-take k (x ∷ xs), length-drop k (x ∷ xs)) in
+      ap (offsetFrom b o) both ∙ offset-add b o (length (take k (x ∷ xs))) (length (drop k (x ∷ xs)))
+      ∙ ap (λ (i : ℕ). offsetFrom b i (length (drop k (x ∷ xs)))) (run-end ρ b end o [] (take k (x ∷ xs)) (f .run)) ∙ g
+
+  first-end : BlocksEnd 0
+  first-end t o prev [] ho ht r h = none-end t o prev ho ht r
+  first-end t o prev (x ∷ xs) ho ht r h = absurd (not-suc-le-zero h)
+
+  pub blocks-end : (n : ℕ) → BlocksEnd n
+  blocks-end zero = first-end
+  blocks-end (suc n) = next-end n (blocks-end n)
+
 -- the count of a run's first entry is 0, where no name is before it
 run-zero : (ρ : Rule) (b : Bytes) (e o : ℕ) (xs : List Bytes) → 0 < length xs → Run ρ b e o [] xs → getD b o 0 ≡ 0
 run-zero ρ b e o [] h r = absurd (not-suc-le-zero h)
@@ -76,11 +103,17 @@ module _ (ρ : Rule) (lw : Sure ρ) (b : Bytes) (k s u n : ℕ) (ask : Frame b k
   names-here : namesOf b ≡ h .names
   names-here = has-names ρ b k s u n (omega (arith, ask)) h (ask .one) says
 
+  stands : Rest ρ b k s u s 0 [] (namesOf b)
+  stands = subst (Rest ρ b k s u s 0 []) (sym names-here) (h .rest)
+
+  pub has-end : offsetAt b (length (namesOf b)) ≡ s
+  has-end = blocks-end ρ lw b k s u (ask .one) (ask .small) (omega (arith, ask)) (omega (arith, ask)) (length (namesOf b)) s 0 [] (namesOf b) (omega arith) (omega (arith, ask)) stands (omega arith)
+
   -- block number j, whose first name is number j * k
   block : (j : ℕ) → j * k < length (namesOf b) → BlockRun ρ lw b k s u (ask .one) (ask .small) (omega (arith, ask)) (omega (arith, ask)) j (j * k) s 0 (namesOf b)
   block j l =
       blocks-run ρ lw b k s u (ask .one) (ask .small) (omega (arith, ask)) (omega (arith, ask)) j (j * k) s 0 [] (namesOf b) (omega arith) (omega (arith, ask))
-      (subst (Rest ρ b k s u s 0 []) (sym names-here) (h .rest)) refl l
+      stands refl l
 
   -- its names
   block-name : (j q : ℕ) → q < k → getD (take k (drop (j * k) (namesOf b))) q [] ≡ getD (namesOf b) (j * k + q) []

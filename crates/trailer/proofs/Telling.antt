@@ -1,8 +1,9 @@
 -- The trailer, number by number.
 --     trailer-told      the numbers that were read are those that the trailer tells
+--     rows-map          how far it is from a node to the next, and from a number of it to its next
 --     rule-folded, rule-plain     the third byte of the mark tells the rule
 --     mark-kind         the back of the mark tells the kind
---     mark-is, size-is  the back of a mark, and the size of a record, by the kind that the third byte tells
+--     size-is           the size of a record, by the kind that the third byte tells
 --     trail-marked      the test of the mark's back, behind all others
 --     records-few       how many bytes records take at the most
 --     trailer-is        eight numbers, the last two of which are the mark
@@ -15,15 +16,17 @@ use mathlib.Core.Bool.{Bool, false, true}
 use mathlib.Core.List.{[], _∷_}
 use lib.ListN.{getD, length}
 use lib.Dec.{eqb}
-use borrow.Author.Tests.{eqb-false, eqb-true, ne-eqb}
+use borrow.Author.Tests.{ne-eqb}
 use Rattle.words.specs.Words.{Bytes, InBytes, pick}
 use Rattle.format.specs.Book.{number, numbers, told, trailer, trailerSize}
 use Rattle.format.specs.Kinds.{BookKind, FoldedBook, PlainBook, allKinds, formOf, kindOf, markOf, markedAs, recordSize}
 use Rattle.format.specs.Nodes.{nodeSize}
-use Rattle.format.proofs.BookKinds.{third-tells}
+use Rattle.format.proofs.BookKinds.{full-rows, third-tells}
+use Rattle.standing.specs.Maps.{mapOf}
+use Rattle.numbers.proofs.Parts.{Held, held-bytes}
 use Rattle.symbols.specs.Rules.{byKind}
 use Rattle.symbols.specs.declared.Rule.the-variants.{Folded, Plain}
-use Rattle.kinds.specs.Known.{formBy, kindBy, kindFor, markBack, markFront}
+use Rattle.kinds.specs.Known.{MarkSays, formBy, kindBy, kindFor, markBack, markFront}
 use Rattle.kinds.specs.declared.Form.{Form}
 use Rattle.kinds.specs.declared.Kind.{Kind}
 use Rattle.kinds.proofs.Telling.{kind-told}
@@ -43,6 +46,10 @@ rule-plain b n = rw (ne-eqb (getD b (length b - 2) 0) 0x46 n) (go (eqb (getD b (
     go true = refl
     go false = refl
 
+-- every kind of book has its nodes in rows
+pub rows-map : (b : Bytes) → (nodeSize ≡ mapOf b .stride) × (2 ≡ mapOf b .step)
+rows-map b = rw (full-rows (kindOf b)) (refl, refl)
+
 -- ---- the mark
 
 -- the third byte of a mark that stands
@@ -60,22 +67,17 @@ mark-kind b long bytes κ e = ap (λ (x : ℕ). markedAs x allKinds) (is κ e) �
     is PlainBook h = omega (arith, third b long bytes 0x324B h, bytes (length b - 2), bytes (length b - 1))
     is FoldedBook h = omega (arith, third b long bytes 0x3246 h, bytes (length b - 2), bytes (length b - 1))
 
--- the back of the kind that the third byte tells
-pub mark-is : (b : Bytes) (kind : Kind) (back : ℕ) → kind ≡ kindFor (kindOf b) → back ≡ markBack (kindBy kind) → back ≡ markBack (kindOf b)
-mark-is b kind back e h = h ∙ ap (λ (x : Kind). markBack (kindBy x)) e ∙ ap markBack (kind-told (kindOf b))
-
 -- the size of a record in the table of that kind
 pub size-is : (b : Bytes) (kind : Kind) (form : Form) (size : ℕ) → kind ≡ kindFor (kindOf b) → formBy form ≡ formOf (kindBy kind) → size ≡ recordSize (formBy form)
     → size ≡ recordSize (formOf (kindOf b))
 size-is b kind form size e f h = h ∙ ap recordSize (f ∙ ap (λ (x : Kind). formOf (kindBy x)) e ∙ ap formOf (kind-told (kindOf b)))
 
 -- the back of the mark is asked for last
-pub trail-marked : (b : Bytes) (x y : ℕ) → x ≡ told b 7 → y ≡ markBack (kindOf b) → (told b 7 ≡ markBack (kindOf b) → Trail b) → TrailSays b (eqb x y)
-trail-marked b x y xe ye fits = go (eqb x y) refl
-  where
-    go : (v : Bool) → eqb x y ≡ v → TrailSays b v
-    go true q = fits (sym xe ∙ eqb-true x y q ∙ ye)
-    go false q = λ t. eqb-false x y q (xe ∙ t .back ∙ sym ye)
+pub trail-marked : (b : Bytes) → trailerSize ≤ length b → Held b → (x : ℕ) (r : Bool) → x ≡ told b 7 → MarkSays x r → (told b 7 ≡ markBack (kindOf b) → Trail b) → TrailSays b r
+trail-marked b long held x true e mark fits =
+    let is : told b 7 ≡ markBack (mark .kind) = sym e ∙ mark .is in
+    fits (is ∙ ap markBack (sym (mark-kind b long (held-bytes b held) (mark .kind) is)))
+trail-marked b long held x false e never fits = λ t. never (kindOf b) (e ∙ t .back)
 
 -- so many records are no more bytes than nodes would be
 pub records-few : (n size : ℕ) → n < 65536 → size ≤ nodeSize → n * size ≤ 65536 * nodeSize

@@ -5,9 +5,11 @@ ghost use Prim.Native.Nat.{_<_, _≤_};
 ghost use lib.ListN.{length};
 ghost use Rattle.format.specs.Book.{told, trailer, trailerSize};
 ghost use Rattle.format.specs.Kinds.{kindOf, markOf};
+ghost use Rattle.standing.specs.Maps.{mapOf};
 ghost use Rattle.symbols.specs.Rules.{byKind};
 ghost use Rattle.kinds.specs.Known.{kindBy, kindFor};
 ghost use Rattle.trailer.specs.Trailer.{TrailSays, trailerIn};
+use kinds::Form;
 use kinds::Kind;
 use symbols::Rule;
 
@@ -91,6 +93,28 @@ pub fn rule(book: &[u8]) -> Rule
     Rule::Plain
 }
 
+// How many bytes it is from a node to the next, in the table that the trailer tells of: an arm for each form of table that has nodes.
+pub fn stride(book: &[u8]) -> usize
+    requires { ⌜ trailerSize ≤ length (now book) ⌝ }
+    ensures { λ r. ⌜ r ≡ mapOf (now (book .entry)) .stride ⌝ }
+{
+    let form = kinds::form_of(kind(book));
+    match form {
+        Form::Rows => fields::SIZE,
+    }
+}
+
+// How many bytes it is from a number of a node to its next one.
+pub fn step(book: &[u8]) -> usize
+    requires { ⌜ trailerSize ≤ length (now book) ⌝ }
+    ensures { λ r. ⌜ r ≡ mapOf (now (book .entry)) .step ⌝ }
+{
+    let form = kinds::form_of(kind(book));
+    match form {
+        Form::Rows => fields::STEP,
+    }
+}
+
 // What the trailer tells.
 pub fn read(book: &[u8]) -> Trailer
     requires { ⌜ trailerSize ≤ length (now book) ⌝ }
@@ -130,8 +154,7 @@ pub fn is_trailer(book: &[u8]) -> bool
     if start < blocks_at(book) {
         return false;
     }
-    let kind = kind(book);
-    let size = kinds::record_size(kinds::form_of(kind));
+    let size = kinds::record_size(kinds::form_of(kind(book)));
     if start + number(book, 4) * size + SIZE != book.len() {
         return false;
     }
@@ -141,7 +164,7 @@ pub fn is_trailer(book: &[u8]) -> bool
     if number(book, 6) != FRONT {
         return false;
     }
-    number(book, 7) == kinds::mark_back(kind)
+    kinds::is_mark(number(book, 7))
 }
 
 // The trailer of a book of so many names in blocks of so many, with these starts of its tables, so many nodes and so many bytes in all, and

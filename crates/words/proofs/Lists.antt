@@ -3,13 +3,14 @@
 --     all-from, all-at        what holds at every position holds of all, and back
 --     Within                  z stands at j: within-left, within-right, all-within, within-at
 --     drop-take               taking and passing over, in either order
+--     map-set                 a function of every element, where one of them is set
 -- Assumes nothing.
 use Prim.Native.Nat.{ℕ, zero, suc, _+_, _-_, _<_, suc-le-suc, zero-le}
 use native.Mathlib.Nat.{le-of-suc-le-suc, not-suc-le-zero}
 use native.Mathlib.Omega.{arith}
-use mathlib.Core.Path.{_≡_, ap, _∙_, sym, subst}
-use mathlib.Core.List.{List, [], _∷_, _++_, append-assoc}
-use lib.ListN.{drop, length, getD, length-append, take}
+use mathlib.Core.Path.{_≡_, refl, ap, _∙_, sym, subst}
+use mathlib.Core.List.{List, [], _∷_, _++_, map, append-assoc}
+use lib.ListN.{drop, length, getD, length-append, set, take}
 use lib.Seq.{getD-at, take-nil}
 use Rattle.words.specs.Rising.{All, cons, nil}
 
@@ -85,3 +86,8 @@ drop-take zero m l = let same : m ≡ m - 0 = omega arith in ap (λ (k : ℕ). t
 drop-take (suc n) zero l = let same : 0 ≡ 0 - suc n = omega arith in ap (λ (k : ℕ). take k (drop (suc n) l)) same
 drop-take (suc n) (suc m) [] = sym (take-nil (suc m - suc n))
 drop-take (suc n) (suc m) (x ∷ l) = let same : m - n ≡ suc m - suc n = omega arith in drop-take n m l ∙ ap (λ (k : ℕ). take k (drop n l)) same
+
+pub map-set : {A B : Type 0} (f : A → B) (l : List A) (i : ℕ) (y : A) → map f (set l i y) ≡ set (map f l) i (f y)
+map-set f [] i y = refl
+map-set f (x ∷ l) zero y = refl
+map-set {B = B} f (x ∷ l) (suc i) y = ap (λ (r : List B). f x ∷ r) (map-set f l i y)

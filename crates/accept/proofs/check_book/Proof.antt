@@ -11,5 +11,10 @@ check-book-spec =
     (tie.spec
     (λ c κs. search needs)
     (λ c κs. parts-long _ _ (c .if1 .taken) (c .before .is-book .ensures))
-    (λ c. (search sound-numbers, search parts-sound))
+    (λ c.
+    let asked = c .before .before in
+    let held = asked .before .shared-slice-known .given in (
+      sound-numbers _ held _ (c .before .if1 .taken) (asked .is-book .ensures) _ (c .read .ensures),
+      parts-sound _ held _ (c .before .if1 .taken) (asked .is-book .ensures) _ (c .read .ensures),
+    ))
     (λ c. (unsound-numbers _ _ (c .if1 .left) (c .before .is-book .ensures), parts-unsound _ _ (c .if1 .left) (c .before .is-book .ensures))))

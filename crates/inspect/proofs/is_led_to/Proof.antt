@@ -11,6 +11,6 @@ is-led-to-spec =
     (tie.spec
     (λ c κs. search needs)
     (λ c κs. search needs)
-    (λ c. led-symbol _ _ _ _ _ _ _ (c .before .before .symbol .ensures .0) (c .before .leads .ensures) (c .if1 .taken))
+    (λ c. led-symbol _ _ _ _ _ _ _ _ (c .before .before .symbol .ensures .0) (c .before .leads .ensures) (c .if1 .taken))
     (λ c κs. search needs)
-    (λ c. led-first _ _ _ _ _ _ _ (c .before .before .before .symbol .ensures .0) (c .before .before .leads .ensures) (c .before .if1 .left) _ (c .first .ensures .0)))
+    (λ c. led-first _ _ _ _ _ _ _ _ (c .before .before .before .symbol .ensures .0) (c .before .before .leads .ensures) (c .before .if1 .left) _ (c .first .ensures .0)))

@@ -3,7 +3,7 @@
 use Prim.Native.Nat.{ℕ}
 use mathlib.Core.Path.{ap}
 use borrow.Author.Needs.{needs}
-use Rattle.search.proofs.Spots.{starts}
+use Rattle.search.proofs.Spots.{spot-at}
 use Rattle.search.proofs.ask_place.Statement.{statement}
 use Rattle.search.proofs.ask_place.Tie as tie
 
@@ -11,4 +11,11 @@ returns : tie.Need-returns
 returns c = ap (λ (n : ℕ). (n, 0)) (c .seat .ensures)
 
 pub ask-place-spec : {M : Type 1} → statement M
-ask-place-spec = tie.close (tie.spec (λ c κs. search needs) (λ c κs. search needs) (λ c κs. search (needs, starts)) returns)
+ask-place-spec =
+    tie.close
+    (tie.spec
+    (λ c κs. search needs)
+    (λ c κs. search needs)
+    (λ c κs. search needs)
+    (λ c κs. spot-at (c .before .before .before .before .before .pre) (c .before .stride .ensures) (c .step .ensures) _ (c .before .before .locate .ensures))
+    returns)

@@ -2,14 +2,35 @@
 -- Assumes nothing.
 use native.Mathlib.Omega.{arith}
 use borrow.Author.Needs.{needs}
-use Rattle.search.proofs.Spots.{range-all, range-short, starts}
+use Rattle.search.specs.Asks.{AtSpot, tableMap}
+use Rattle.search.proofs.Spots.{range-all, range-short, seat-node, spot-at}
+use Rattle.search.proofs.Ways.{at-here, here-room}
 use Rattle.search.proofs.ask_range.Statement.{statement}
 use Rattle.search.proofs.ask_range.Tie as tie
 
+-- the node found, by the map that the trailer tells of
+there : (c : tie.After-stride) → let a = c .before .before .before .before .before .args in let r = c .before .locate .result in
+    AtSpot (a .book .now) (tableMap (a .book .now) (c .stride .result) (c .before .before .step .result)) (a .question .now) (r .node) (r .shared) (r .symbol)
+there c = spot-at (c .before .before .before .before .before .pre) (c .stride .ensures) (c .before .before .step .ensures) _ (c .before .locate .ensures)
+
+returns : tie.Need-returns
+returns c =
+    let spot = there (c .before .before .before) in
+    range-short _ (spot .searchable) (spot .spot) (c .if1 .taken) (c .before .before .seat .ensures)
+
 returns-2 : tie.Need-returns-2
 returns-2 c =
-    let seat = c .before .before .before in
-    range-all _ (seat .before .before .before .before .before .pre .searchable) (seat .before .locate .ensures) (omega arith) (seat .seat .ensures) (c .names-of .ensures)
+    let spot = there (c .before .before .before .before) in
+    range-all _ (spot .searchable) (spot .spot) (omega arith) (c .before .before .before .seat .ensures) (c .names .ensures .0)
 
 pub ask-range-spec : {M : Type 1} → statement M
-ask-range-spec = tie.close (tie.spec (λ c κs. search needs) (λ c κs. search needs) (λ c κs. search (needs, starts)) (λ c. search range-short) (λ c κs. search (needs, starts)) returns-2)
+ask-range-spec =
+    tie.close
+    (tie.spec
+    (λ c κs. search needs)
+    (λ c κs. search needs)
+    (λ c κs. search needs)
+    (λ c κs. there c)
+    returns
+    (λ c κs. here-room (at-here (seat-node (there (c .before .before .before)))))
+    returns-2)

@@ -1,15 +1,26 @@
 -- `search::ask_width` meets its contract: of all of the group, or 0.
 -- Assumes nothing.
+use mathlib.Core.Path.{refl}
 use borrow.Author.Needs.{needs}
-use Rattle.search.proofs.Spots.{starts, width-all, width-short}
+use Rattle.standing.specs.Maps.{mapOf}
+use Rattle.search.specs.Asks.{AtSpot, tableMap}
+use Rattle.search.proofs.Spots.{seat-node, spot-at, width-all, width-short}
+use Rattle.search.proofs.Ways.{at-here, here-room}
 use Rattle.search.proofs.ask_width.Statement.{statement}
 use Rattle.search.proofs.ask_width.Tie as tie
 
+-- the node found, by the map that the trailer tells of
+there : (c : tie.After-step) → let a = c .before .before .before .before .before .before .args in let r = c .before .before .before .locate .result in
+    AtSpot (a .book .now) (tableMap (a .book .now) (mapOf (a .book .now) .stride) (c .step .result)) (a .question .now) (r .node) (r .shared) (r .symbol)
+there c = spot-at (c .before .before .before .before .before .before .pre) refl (c .step .ensures) _ (c .before .before .before .locate .ensures)
+
 returns : tie.Need-returns
-returns c = width-short _ (c .before .before .before .before .before .before .pre .searchable) (c .before .before .locate .ensures) (c .if1 .taken)
+returns c = width-short _ (c .before .before .before .before .before .pre .searchable) (c .before .before .locate .ensures) (c .if1 .taken)
 
 returns-2 : tie.Need-returns-2
-returns-2 c = width-all _ (c .before .before .before .before .before .before .before .pre .searchable) (c .before .before .before .locate .ensures) (c .before .if1 .left) (c .width-of .ensures)
+returns-2 c =
+    let spot = there (c .before) in
+    width-all _ (spot .searchable) (spot .spot) (c .before .before .if1 .left) (c .width .ensures .0)
 
 pub ask-width-spec : {M : Type 1} → statement M
-ask-width-spec = tie.close (tie.spec (λ c κs. search needs) (λ c κs. search needs) returns (λ c κs. search (needs, starts)) returns-2)
+ask-width-spec = tie.close (tie.spec (λ c κs. search needs) returns (λ c κs. search needs) (λ c κs. here-room (at-here (seat-node (there c)))) returns-2)

@@ -5,19 +5,24 @@ use Prim.Native.Nat.{_-_, _<_}
 use native.Mathlib.Omega.{arith}
 use borrow.Author.Needs.{needs}
 use mathlib.Core.Path.{refl}
-use Rattle.search.proofs.Ways.{Going, go-at, go-further, go-halt, go-on, go-small, go-start, way-down, way-stay}
+use Rattle.search.specs.Asks.{tableMap}
+use Rattle.search.proofs.Ways.{Going, go-at, go-halt, go-on, go-room, go-small, go-start, here-small, root-here}
 use Rattle.search.proofs.descend.Statement.{statement}
 use Rattle.search.proofs.descend.Tie as tie
 
 abbrev Inv-loop : tie.InvT-loop
-Inv-loop book nodes question path₀ n₀ v₀ path n v = Going book nodes question path n v
+Inv-loop book stride step start question path₀ n₀ o₀ path n o = Going book (tableMap book stride step) question path n o
 
 abbrev μ-loop : tie.MeasureT-loop
-μ-loop book nodes question path₀ n₀ v₀ path n v = 202 - n
+μ-loop book stride step start question path₀ n₀ o₀ path n o = 202 - n
+
+-- the path begins with the root
+loop-holds : tie.Need-loop-holds Inv-loop μ-loop
+loop-holds c = go-start (c .before .before .pre .0) (c .before .before .pre .1) refl (omega arith)
 
 -- where the question went down, the path has room
 room : (c : tie.After-known-told Inv-loop μ-loop) → c .before .before .before .before .loop .n < 202
-room c = search go-further
+room c = search go-room
 
 pub descend-spec : {M : Type 1} → statement M
 descend-spec =
@@ -25,14 +30,16 @@ descend-spec =
     (tie.spec
     Inv-loop
     μ-loop
-    (λ c. go-start (search needs) refl refl)
+    (λ c. here-small (root-here (c .before .before .pre .0) (c .before .before .pre .1)))
+    (λ c. omega arith)
+    loop-holds
     (λ c κs. go-at (c .loop .inv))
     (λ c. search needs)
-    (λ c. search (go-small, way-down))
+    (λ c. search go-small)
     (λ c. omega (arith, room c))
     (λ c. room c)
     (λ c. omega (arith, room c))
     (λ c. omega (arith, room c))
-    (λ c. search (go-on, way-down))
+    (λ c. search go-on)
     (λ c. search needs)
-    (λ c. search (go-halt, way-stay)))
+    (λ c. search go-halt))

@@ -3,21 +3,21 @@
 -- Assumes nothing.
 use native.Mathlib.Omega.{arith}
 use borrow.Author.Needs.{needs}
-use Rattle.search.proofs.Spots.{Upwards, climb-end, climb-found, climb-more, climb-numbered, climb-start}
+use Rattle.search.proofs.Spots.{Upwards, climb-end, climb-found, climb-more, climb-room, climb-start}
 use Rattle.search.proofs.highest.Statement.{statement}
 use Rattle.search.proofs.highest.Tie as tie
 
 abbrev Inv-loop : tie.InvT-loop
-Inv-loop book nodes shared path len j₀ j = Upwards book nodes path len shared j
+Inv-loop book step shared path len j₀ j = Upwards book step path len shared j
 
 abbrev μ-loop : tie.MeasureT-loop
-μ-loop book nodes shared path len j₀ j = j
+μ-loop book step shared path len j₀ j = j
 
 -- the node above is less deep than that
 returns : tie.Need-returns Inv-loop μ-loop
 returns c =
     let test = c .before .before .before .before in
-    climb-found (test .before .loop .inv) (test .loop-test .taken) (c .before .before .before .wide16 .ensures .0) (c .before .before .depth-of .ensures) (c .before .if1 .taken) (c .wide162 .ensures .0)
+    climb-found (test .before .loop .inv) (test .loop-test .taken) (c .before .before .before .wide16 .ensures .0) (c .before .before .depth .ensures .0) (c .before .if1 .taken) (c .wide162 .ensures .0)
 
 pub highest-spec : {M : Type 1} → statement M
 highest-spec =
@@ -31,13 +31,13 @@ highest-spec =
     (λ c. omega arith)
     (λ c. omega arith)
     (λ c κs. search needs)
-    (λ c κs. search climb-numbered)
+    (λ c κs. search climb-room)
     (λ c. omega arith)
     (λ c. omega arith)
     (λ c κs. search needs)
     returns
     (λ c. omega arith)
-    (λ c. climb-more (c .before .before .before .before .loop .inv) (c .before .before .before .loop-test .taken) (c .before .before .wide16 .ensures .0) (c .before .depth-of .ensures) (omega arith))
+    (λ c. climb-more (c .before .before .before .before .loop .inv) (c .before .before .before .loop-test .taken) (c .before .before .wide16 .ensures .0) (c .before .depth .ensures .0) (omega arith))
     (λ c. omega arith)
     (λ c κs. search needs)
     (λ c. search climb-end))

@@ -1,9 +1,34 @@
 -- `search::locate` meets its contract: the highest node of the path that is deep enough has the names that share most.
 -- Assumes nothing.
 use borrow.Author.Needs.{needs}
-use Rattle.search.proofs.Spots.{end-numbered, end-path, end-ask, spot, starts}
+use Rattle.format.specs.Kinds.{ruleIn}
+use Rattle.descent.specs.Vocabulary.{Searchable}
+use Rattle.search.specs.Asks.{tableMap}
+use Rattle.search.proofs.Spots.{end-here, end-path, end-reached, name-ask, own-searchable, spot, spot-in, starts}
+use Rattle.search.proofs.Ways.{here-room}
 use Rattle.search.proofs.locate.Statement.{statement}
 use Rattle.search.proofs.locate.Tie as tie
 
+-- the map that the trailer tells of
+own : (c : tie.After-step) → let b = c .before .before .before .before .before .args .book .now in Searchable (ruleIn b) b (tableMap b (c .before .stride .result) (c .step .result))
+own c = own-searchable (c .before .before .before .before .before .pre) (c .before .stride .ensures) (c .step .ensures)
+
+returns : tie.Need-returns
+returns c =
+    let way = c .before .before .before in
+    let map = way .before in
+    spot-in (map .before .before .before .before .before .pre) (map .before .stride .ensures) (map .step .ensures)
+    (spot _ _ (own map) (way .descend .ensures) (c .before .before .first .ensures .0) (c .before .compare .ensures) (c .highest .ensures))
+
 pub locate-spec : {M : Type 1} → statement M
-locate-spec = tie.close (tie.spec (λ c κs. search needs) (λ c κs. search starts) (λ c κs. search (end-numbered, starts)) (λ c κs. search end-ask) (λ c κs. search (end-path, starts)) (λ c. search spot))
+locate-spec =
+    tie.close
+    (tie.spec
+    (λ c κs. search needs)
+    (λ c κs. search needs)
+    (λ c κs. search needs)
+    (λ c κs. starts (c .before .before .before .before .before .pre) (c .before .stride .ensures) (c .step .ensures) (c .before .before .wide16 .ensures .0))
+    (λ c κs. here-room (end-here _ _ (own (c .before)) (c .descend .ensures)))
+    (λ c κs. name-ask _ (c .before .before .before .before .before .before .before .pre) (end-reached _ _ (own (c .before .before)) (c .before .descend .ensures) (c .first .ensures .0)))
+    (λ c κs. end-path _ _ (own (c .before .before .before)) (c .before .before .descend .ensures))
+    returns)

@@ -9,7 +9,7 @@ returns : tie.Need-returns
 returns c =
     let ruled = c .before .before .before in
     let named = ruled .before .before in
-    let start = named .before .before .before .before .before in
+    let start = named .before .before .before .before .before .before .before in
     near _ _ (ruled .rule .result) (ruled .rule .ensures) (start .args .question .now) _ (named .read-name .ensures) (c .shared-symbols .ensures) (named .before .reach .ensures)
 
 pub meet-spec : {M : Type 1} → statement M
@@ -17,8 +17,10 @@ meet-spec =
     tie.close
     (tie.spec
     (λ c κs. search needs)
-    (λ c κs. search starts)
-    (λ c κs. search name-ask)
+    (λ c κs. search needs)
+    (λ c κs. search needs)
+    (λ c κs. starts (c .before .before .before .before .before .pre) (c .before .stride .ensures) (c .step .ensures) (c .before .before .wide16 .ensures .0))
+    (λ c κs. name-ask _ (c .before .before .before .before .before .before .pre) (c .reach .ensures))
     (λ c κs. search needs)
     (λ c. search needs)
     (λ c. search needs)

@@ -1,9 +1,10 @@
--- `search::seat` meets its contract: a law for each way out. The first is given its places, so that a wrong rule shows.
+-- `search::seat` meets its contract: a law for each way out. Each is given its places, so that a wrong rule shows.
 -- Assumes nothing.
 use Prim.Native.Nat.{_<_}
 use native.Mathlib.Omega.{arith}
 use borrow.Author.Needs.{needs}
-use Rattle.search.proofs.Spots.{seat-after, seat-before, seat-child, seat-end, seat-fork}
+use Rattle.search.proofs.Spots.{seat-after, seat-before, seat-child, seat-end, seat-fork, seat-node}
+use Rattle.search.proofs.Ways.{at-here, end-fits, here-room, row-fits, row-here}
 use Rattle.search.proofs.seat.Statement.{statement}
 use Rattle.search.proofs.seat.Tie as tie
 
@@ -16,8 +17,33 @@ returns c =
     let ruled = symbol .before in
     let start = ruled .before .before .before in
     let below : start .args .spot .symbol < symbol .symbol-at .result = omega arith in
-    seat-before (ruled .rule .result) (ruled .rule .ensures) (start .pre) (edge .before .depth-of .ensures) (names .before .first-of .ensures) (names .names-of .ensures) (edge .if1 .taken)
-    (symbol .symbol-at .ensures) below
+    seat-before (start .pre) (edge .before .depth .ensures .0) (ruled .rule .result) (ruled .rule .ensures) (symbol .symbol-at .ensures) (names .before .first .ensures .0)
+    (names .names .ensures .0) (edge .if1 .taken) below
+
+returns-2 : tie.Need-returns-2
+returns-2 c =
+    let edge = c .before .before in
+    let symbol = edge .before .before .before .before in
+    let ruled = symbol .before in
+    seat-after (ruled .before .before .before .pre) (edge .before .depth .ensures .0) (ruled .rule .result) (ruled .rule .ensures) (symbol .symbol-at .ensures) (edge .before .before .before .first .ensures .0)
+    (edge .if1 .taken) (omega arith)
+
+-- a child's names are greater
+returns-3 : tie.Need-returns-3
+returns-3 c =
+    let deep = c .before .before .before .before in
+    let symbol = deep .before .before .before .before in
+    let ruled = symbol .before in
+    seat-child (ruled .before .before .before .pre) (deep .before .depth .ensures .0) (ruled .rule .result) (ruled .rule .ensures) (symbol .symbol-at .ensures) (deep .if1 .left)
+    (c .before .before .before .seek .ensures) (c .before .before .nodes .ensures .0) (c .first2 .ensures .0) (c .before .if3 .taken)
+
+returns-4 : tie.Need-returns-4
+returns-4 c =
+    let deep = c .before .before .before in
+    let symbol = deep .before .before .before .before in
+    let ruled = symbol .before in
+    seat-end (ruled .before .before .before .pre) (deep .before .depth .ensures .0) (ruled .rule .result) (ruled .rule .ensures) (symbol .symbol-at .ensures) (deep .if1 .left)
+    (c .before .before .seek .ensures) (c .before .nodes .ensures .0) (deep .before .before .before .first .ensures .0) (deep .before .before .names .ensures .0) (c .if3 .left)
 
 pub seat-spec : {M : Type 1} → statement M
 seat-spec =
@@ -25,15 +51,16 @@ seat-spec =
     (tie.spec
     (λ c κs. search needs)
     (λ c κs. search needs)
-    (λ c κs. search needs)
-    (λ c κs. search needs)
+    (λ c κs. here-room (at-here (seat-node (c .before .before .before .before .pre))))
+    (λ c κs. here-room (at-here (seat-node (c .before .before .before .before .before .pre))))
     (λ c. search needs)
-    (λ c κs. search needs)
+    (λ c κs. here-room (at-here (seat-node (c .before .before .before .before .before .before .pre))))
     returns
-    (λ c. search seat-after)
-    (λ c κs. seat-fork (c .before .before .before .before .before .before .before .before .pre) (c .before .depth-of .ensures) (c .if1 .left))
-    (λ c κs. search needs)
-    (λ c. omega arith)
-    (λ c κs. record { searchable = search needs; inside = omega arith })
-    (λ c. search seat-child)
-    (λ c. search seat-end))
+    returns-2
+    (λ c κs. seat-fork (c .before .before .before .before .before .before .before .before .pre) (c .before .depth .ensures .0) (c .if1 .left))
+    (λ c κs. here-room (at-here (seat-node (c .before .before .before .before .before .before .before .before .before .pre))))
+    (λ c. row-fits (c .before .before .before .before .before .before .before .before .before .before .pre .searchable) (c .nodes .ensures .1))
+    (λ c. end-fits (at-here (seat-node (c .before .before .before .before .before .before .before .before .before .before .pre))) (c .nodes .ensures .1))
+    (λ c κs. here-room (row-here (seat-node (c .before .before .before .before .before .before .before .before .before .before .before .pre)) (c .before .nodes .ensures .0) (c .before .before .seek .ensures .placed) (c .if3 .taken)))
+    returns-3
+    returns-4)

@@ -10,7 +10,7 @@ use Rattle.format.specs.Kinds.{formOf, kindOf, recordSize}
 use Rattle.format.specs.Nodes.{nodeSize}
 use Rattle.kinds.specs.Known.{markBack}
 use Rattle.trailer.specs.Trailer.{Trail}
-use Rattle.trailer.proofs.Telling.{mark-is, records-few, size-is, trail-marked}
+use Rattle.trailer.proofs.Telling.{records-few, size-is, trail-marked}
 use Rattle.trailer.proofs.is_trailer.Statement.{statement}
 use Rattle.trailer.proofs.is_trailer.Tie as tie
 
@@ -68,8 +68,4 @@ is-trailer-spec =
     (λ c. search needs)
     (λ c κs. search needs)
     (λ c κs. search needs)
-    (λ c.
-    let tested = c .before .before in
-    let told = tested .before .before .before .before .before .before .before .before in
-    let start = told .before .before .before .before .before .before .before .before .before .before .before .before in
-    trail-marked _ _ _ (c .before .number4 .ensures .0) (mark-is (start .args .book .now) (told .kind .result) _ (told .kind .ensures) (c .mark-back .ensures)) (fitting tested)))
+    (λ c. trail-marked _ (omega arith) (search needs) _ (c .is-mark .result) (c .before .number4 .ensures .0) (c .is-mark .ensures) (fitting (c .before .before))))
