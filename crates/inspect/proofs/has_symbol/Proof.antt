@@ -12,7 +12,9 @@ has-symbol-spec =
     (λ c κs. search needs)
     (λ c κs. search needs)
     (λ c κs. search needs)
-    (λ c. has-by (c .before .before .before .before .before .args .book .now) _ _ _ (c .before .rule .ensures) _ (c .has-symbol .ensures))
+    (λ c.
+    let a = c .before .before .before .before .before .args in
+    has-by (a .book .now) (a .x) (a .s) (c .before .rule .result) (c .before .rule .ensures) (c .has-symbol .result) (c .has-symbol .ensures))
     (λ c κs. search needs)
     (λ c. search needs)
     (λ c. has-own (c .before .before .before .before .args .book .now) _ _ _ (c .before .before .is-capital .ensures) (c .before .if1 .left) _ (c .wide .ensures .0)))

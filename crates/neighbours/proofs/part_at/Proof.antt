@@ -17,7 +17,7 @@ part-at-spec =
     (λ c κs. let w = c .before .before in record { meet = w .before .before .before .pre .0; whole = λ e. sym (w .wide .ensures .0) ∙ c .if2 .taken })
     (λ c.
     let w = c .before .before .before .before in
-    meet-just _ _ _ _ (w .before .before .before .pre .0) _ (w .wide .ensures .0) _ _ (c .before .shared-along .ensures) (c .before .before .if2 .taken) (c .if3 .taken))
+    meet-just _ _ _ _ (w .before .before .before .pre .0) _ (w .wide .ensures .0) (w .before .before .before .args .d) _ (c .before .shared-along .ensures) (c .before .before .if2 .taken) (c .if3 .taken))
     (λ c.
     let w = c .before .before .before .before in
     meet-other _ _ _ _ (w .before .before .before .pre .0) _ (w .wide .ensures .0) _ _ (c .before .shared-along .ensures) (c .if3 .left))
@@ -31,7 +31,7 @@ part-at-spec =
     (λ c.
     let r = c .before .before .before .before in
     let w = r .before .before .before in
-    meet-least _ _ _ _ (w .before .before .before .pre .0) _ (w .wide .ensures .0) _ _ (c .before .shared-along2 .ensures) (omega arith) (c .if4 .taken))
+    meet-least _ _ _ _ (w .before .before .before .pre .0) _ (w .wide .ensures .0) (w .before .before .before .args .d) _ (c .before .shared-along2 .ensures) (omega arith) (c .if4 .taken))
     (λ c.
     let r = c .before .before in
     let w = r .before .before .before in
