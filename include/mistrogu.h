@@ -123,7 +123,7 @@ extern "C" {
 /* Bytes of stack that are enough for a call that builds, whatever it is given. */
 #define MISTROGU_BUILD_STACK 7936
 /* Bytes of stack that are enough for every other call, whatever it is given. */
-#define MISTROGU_STACK 26624
+#define MISTROGU_STACK 23552
 
 /* The numbers given back when a call says no. */
 enum mistrogu_refusal {

@@ -135,7 +135,7 @@ pub const VERSION: &str = env!("CARGO_PKG_VERSION");
 pub const BUILD_STACK: usize = 7936;
 /// The bytes of stack that are enough for every other call, whatever is lent to
 /// it: a book, or bytes that are none.
-pub const STACK: usize = 26_624;
+pub const STACK: usize = 23_552;
 
 /// What a check tells of a book.
 #[derive(Clone, Copy, Debug, PartialEq, Eq, Hash)]
