@@ -64,7 +64,7 @@
  *   a book or not, with what the call itself pushes and without what your own
  *   memcpy and memset take. On real names every call but those that build takes
  *   less than 2,048 bytes; names that are each the beginning of the next, and bytes
- *   that are made to look so, take the most, 128 bytes for each level.
+ *   that are made to look so, take the most, 112 bytes for each level.
  *   docs/BENCHMARKS.md says which guest can call what. The numbers are read out of
  *   the compiled code, by `host/bound`, for all inputs.
  * - An interrupt or signal handler that runs in the midst of a call leaves the 128
