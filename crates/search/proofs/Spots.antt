@@ -1,5 +1,4 @@
 -- The node that is found, and the answers there.
---     Upwards, climb-..    the loop of `highest`, from the end of the path
 --     met, near            how the name at a position stands to the question; the same of the name that is reached
 --     end-..               the last node of the path; the name that is reached
 --     own-map, starts, spot-..     the map of the node table is the one that the trailer tells of
@@ -12,14 +11,14 @@ use Prim.Native.Nat.{ℕ, suc, _+_, _-_, _*_, _≤_, _<_}
 use native.Mathlib.Nat.{lt-irrefl}
 use native.Mathlib.Omega.{arith}
 use mathlib.Core.Path.{_≡_, _∙_, ap, ap₂, subst, sym}
-use mathlib.Core.Logic.{_⊎_, inl, inr}
+use mathlib.Core.Logic.{_⊎_}
 use mathlib.Core.List.{List, [], map}
 use lib.ListN.{getD, length, length-map, take}
 use lib.Seq.{length-take-le}
 use Rattle.words.specs.Rising.{Positive, nth}
 use Rattle.words.specs.Words.{Bytes, Rule, Words, at, begins, shared, word}
 use Rattle.words.proofs.Rising.{nth-positive, nth-word}
-use Rattle.words.proofs.Words.{apart, at-past, shared-le, shared-parts, shared-self, word-positive}
+use Rattle.words.proofs.Words.{at-past, shared-le, shared-parts, shared-self, word-positive}
 use Rattle.format.proofs.BookKinds.{kind-sure}
 use Rattle.format.specs.Kinds.{kindOf, ruleIn}
 use Rattle.symbols.specs.Rules.{byKind, ruleBy}
@@ -30,7 +29,7 @@ use Rattle.answers.specs.Widths.{width}
 use Rattle.answers.proofs.Nearest.{reached-most}
 use Rattle.answers.proofs.Widths.{ask-width}
 use Rattle.descent.specs.Vocabulary.{Highest, Reached, Searchable, Sits, Sought, asked, askedIn, from, node, upto}
-use Rattle.standing.specs.Maps.{Map, Placed, Roomy, mapOf, numberIn, recordAt}
+use Rattle.standing.specs.Maps.{Map, Placed, mapOf, numberIn, recordAt}
 use Rattle.descent.proofs.Cuts.{exact-here, exact-nowhere, none-wide, range-none, whole-range, whole-width}
 use Rattle.descent.proofs.Rows.{sits-told}
 use Rattle.descent.proofs.Paths.{edge-after, edge-before, fork-child, fork-end, fork-wide, found, only-reached, passed-deepens, passed-sits, reached-is}
@@ -38,56 +37,9 @@ use Rattle.format.specs.Spans.{wordsIn, wordsOf}
 use Rattle.format.specs.Book.{namesOf, told}
 use Rattle.trailer.specs.declared.Trailer.{Trailer}
 use Rattle.names.specs.Names.{Named, PositionAsk}
-use Rattle.search.specs.Asks.{Askable, AtFork, AtNode, AtSpot, DescentSays, HighestAt, MetSays, NearSays, OnPath, SoughtAt, SpotSays, tableMap}
-use Rattle.search.proofs.Ways.{Here, asked-at, asked-length, at-here, here-room, here-told, own-rule, path-at, row-before, row-here, row-past}
-
--- ---- `highest`
-
--- from the end of the path to j no node but the last is less deep than m
-pub record Upwards (b : Bytes) (step : ℕ) (p : List ℕ) (n m j : ℕ) : Type 0 where
-  pub nodes : OnPath b step p n
-  pub within : j < n
-  pub deep : (m ≤ recordAt step b (getD p j 0) .depth) ⊎ (suc j ≡ n)
-
-pub climb-start : {b : Bytes} {step : ℕ} {p : List ℕ} {n m : ℕ} → OnPath b step p n → Upwards b step p n m (n - 1)
-climb-start t = record { nodes = t; within = omega (arith, t .some); deep = inr (omega (arith, t .some)) }
-
-module _ {b : Bytes} {step : ℕ} {p : List ℕ} {n m j : ℕ} (k : Upwards b step p n m j) where
-  -- node number j of the path is the highest, if those above it are less deep
-  climbed : {r : ℕ} → r ≡ getD p j 0 → ((i : ℕ) → i < j → recordAt step b (getD p i 0) .depth < m) → HighestAt b step p n m r
-  climbed {r} e a = record {
-    index = j;
-    within = k .within;
-    is = e;
-    above = a;
-    deep = subst (λ (u : ℕ). (m ≤ recordAt step b u .depth) ⊎ (suc j ≡ n)) (sym e) (k .deep);
-  }
-
-  pub climb-end : j ≤ 0 → {r : ℕ} → r ≡ getD p 0 0 → HighestAt b step p n m r
-  climb-end h e =
-      let z : 0 ≡ j = omega arith in
-      climbed (e ∙ ap (λ (i : ℕ). getD p i 0) z) (λ i x. absurd (lt-irrefl i (omega arith)))
-
-  -- at o stands the node before, d is its depth
-  module _ (h : 0 < j) {o : ℕ} (e : o ≡ getD p (j - 1) 0) where
-    pub climb-room : Roomy step b o
-    climb-room = subst (λ (u : ℕ). Roomy step b u) (sym e) (k .nodes .room (j - 1) (omega (arith, k .within)))
-
-    module _ {d : ℕ} (de : d ≡ recordAt step b o .depth) where
-      depth-is : d ≡ recordAt step b (getD p (j - 1) 0) .depth
-      depth-is = de ∙ ap (λ (u : ℕ). recordAt step b u .depth) e
-
-      pub climb-more : m ≤ d → Upwards b step p n m (j - 1)
-      climb-more l = record { nodes = k .nodes; within = omega (arith, k .within); deep = inl (omega (arith, depth-is)) }
-
-      pub climb-found : d < m → {r : ℕ} → r ≡ getD p j 0 → HighestAt b step p n m r
-      climb-found l f = climbed f (λ i x. go i x (apart i (j - 1)))
-        where
-          go : (i : ℕ) → i < j → (i < j - 1) ⊎ (j - 1 ≤ i) → recordAt step b (getD p i 0) .depth < m
-          go i x (inl y) = omega (arith, depth-is, k .nodes .deepens i (j - 1) y (omega (arith, k .within)))
-          go i x (inr y) =
-              let g : j - 1 ≡ i = omega arith in
-              subst (λ (a : ℕ). recordAt step b (getD p a 0) .depth < m) g (omega (arith, depth-is))
+use Rattle.paths.specs.Paths.{AtFork, AtNode, DescentSays, HighestAt, OnPath, SoughtAt, tableMap}
+use Rattle.paths.proofs.Ways.{Here, asked-at, asked-length, at-here, here-room, here-told, own-rule, path-at, row-before, row-here, row-past}
+use Rattle.search.specs.Asks.{Askable, AtSpot, MetSays, NearSays, SpotSays}
 
 -- ---- `compare` and `meet`
 

@@ -1,6 +1,6 @@
-// The five questions, asked of a book that the check has accepted. One descent over the node table serves all of them; the name that it
-// reaches is rebuilt and compared, since the descent passes over bytes that it never looks at. A node is told by the offset of its first
-// number; the next node stands `stride` bytes further on, and a node's next number `step` bytes.
+// The five questions, asked of a book that the check has accepted. One way down the node table serves all of them (crate `paths`); the name
+// that it reaches is rebuilt and compared, since the way down passes over bytes that it never looks at. A node is told by the offset of its
+// first number; the next node stands `stride` bytes further on, and a node's next number `step` bytes.
 ghost use mathlib.Core.Path.{_≡_};
 ghost use Rattle.format.specs.Book.{told};
 ghost use Rattle.format.specs.Kinds.{ruleIn};
@@ -10,25 +10,13 @@ ghost use Rattle.answers.specs.Questions.{ask, exact, nearest, place, range};
 ghost use Rattle.answers.specs.Widths.{width};
 ghost use Rattle.descent.specs.Vocabulary.{Reached, Searchable, askedIn};
 ghost use Rattle.names.specs.Names.{PositionAsk};
-ghost use Rattle.search.specs.Asks.{AtFork, AtNode, AtSpot, Askable, DescentSays, HighestAt, KindAsk, MetSays, NearSays, OnPath, SoughtAt, SpotSays, WayOf, pairOf, tableMap};
+ghost use Rattle.paths.specs.Paths.{tableMap};
+ghost use Rattle.search.specs.Asks.{AtSpot, Askable, KindAsk, MetSays, NearSays, SpotSays, pairOf};
 
 // An answer's two numbers.
 pub struct Pair {
     pub first: usize,
     pub second: usize,
-}
-
-// The offsets of the nodes that a question passes from the root on, how many they are, and the last of them.
-pub struct Descent {
-    pub path: [u16; 202],
-    pub len: usize,
-    pub last: usize,
-}
-
-// Where a question goes from a node: to a child, or no further.
-pub enum Way {
-    Down(usize),
-    Stay,
 }
 
 // How a name stands to a question: how many symbols they share, and the name's next one.
@@ -51,94 +39,6 @@ pub struct Near {
     pub len: usize,
 }
 
-// The first child of the node at o whose symbol is not below s, or the end of its row where there is none.
-fn seek(book: &[u8], stride: usize, step: usize, o: usize, s: usize) -> usize
-    requires { ⌜ AtFork (now book) (tableMap (now book) stride step) o ⌝ }
-    ensures { λ r. ⌜ SoughtAt (now (book .entry)) (tableMap (now (book .entry)) stride step) o s r ⌝ }
-{
-    let end = o + fields::nodes(book, o, step) * stride;
-    let mut c = o + stride;
-    while c < end {
-        if s <= fields::symbol(book, c, step) {
-            return c;
-        }
-        c += fields::nodes(book, c, step) * stride;
-    }
-    c
-}
-
-// Where the question goes from the node at o: to the child with its symbol at that node's depth. It stays at a leaf, where the depth
-// exceeds its length, and where no child fits.
-fn child(book: &[u8], stride: usize, step: usize, question: &[u8], o: usize) -> Way
-    requires { ⌜ AtNode (now book) (tableMap (now book) stride step) o ⌝ }
-    ensures { λ r. ⌜ WayOf (now (book .entry)) (tableMap (now (book .entry)) stride step) (askedIn (now (book .entry)) (now (question .entry))) o r ⌝ }
-{
-    if fields::names(book, o, step) == 1 {
-        return Way::Stay;
-    }
-    let d = fields::depth(book, o, step);
-    if question.len() < d {
-        return Way::Stay;
-    }
-    let s = symbols::symbol_at(trailer::rule(book), question, 0, d);
-    let c = seek(book, stride, step, o, s);
-    if o + fields::nodes(book, o, step) * stride <= c {
-        return Way::Stay;
-    }
-    if fields::symbol(book, c, step) != s {
-        return Way::Stay;
-    }
-    Way::Down(c)
-}
-
-// The way down from the root, which stands at `start`.
-fn descend(book: &[u8], stride: usize, step: usize, start: usize, question: &[u8]) -> Descent
-    requires { ⌜ Searchable (ruleIn (now book)) (now book) (tableMap (now book) stride step) × (start ≡ told (now book) 3) ⌝ }
-    ensures { λ r. ⌜ DescentSays (now (book .entry)) (tableMap (now (book .entry)) stride step) (askedIn (now (book .entry)) (now (question .entry))) (r .path) (r .len) (r .last) ⌝ }
-{
-    let mut path = [0u16; 202];
-    let mut n: usize = 1;
-    let mut o = start;
-    path[0] = start as u16;
-    loop {
-        match child(book, stride, step, question, o) {
-            Way::Down(c) => {
-                path[n] = c as u16;
-                n += 1;
-                o = c;
-            }
-            Way::Stay => {
-                return Descent {
-                    path,
-                    len: n,
-                    last: o,
-                };
-            }
-        }
-    }
-}
-
-// The highest node of the path whose depth is at least `shared`, or the last. It is looked for from the end, where it mostly stands: depths
-// rise along the path, so it is the first one that has a less deep node above it, or the root. The path is taken out of the struct, since
-// the compiler copies it twice where it is indexed in there.
-fn highest(book: &[u8], step: usize, way: Descent, shared: usize) -> usize
-    requires { ⌜ OnPath (now book) step (way .path) (way .len) ⌝ }
-    ensures { λ r. ⌜ HighestAt (now (book .entry)) step (way .path) (way .len) shared r ⌝ }
-{
-    let path = way.path;
-    let len = way.len;
-    let mut j = len - 1;
-    while 0 < j {
-        let above = j - 1;
-        let o = numbers::wide16(path[above]);
-        if fields::depth(book, o, step) < shared {
-            return numbers::wide16(path[j]);
-        }
-        j = above;
-    }
-    numbers::wide16(path[0])
-}
-
 // The name at a position, rebuilt, and how it stands to the question.
 fn compare(book: &[u8], t: trailer::Trailer, position: usize, question: &[u8]) -> Met
     requires { ⌜ PositionAsk (now book) t position ⌝ }
@@ -158,7 +58,7 @@ fn reach(book: &[u8], stride: usize, step: usize, start: usize, question: &[u8])
     requires { ⌜ Searchable (ruleIn (now book)) (now book) (tableMap (now book) stride step) × (start ≡ told (now book) 3) ⌝ }
     ensures { λ r. ⌜ Reached (wordsIn (now (book .entry))) (askedIn (now (book .entry)) (now (question .entry))) r ⌝ }
 {
-    let way = descend(book, stride, step, start, question);
+    let way = paths::descend(book, stride, step, start, question);
     fields::first(book, way.last, step)
 }
 
@@ -191,10 +91,10 @@ fn locate(book: &[u8], t: trailer::Trailer, question: &[u8]) -> Spot
     let start = numbers::wide16(t.nodes_at);
     let stride = trailer::stride(book);
     let step = trailer::step(book);
-    let way = descend(book, stride, step, start, question);
+    let way = paths::descend(book, stride, step, start, question);
     let position = fields::first(book, way.last, step);
     let met = compare(book, t, position, question);
-    let node = highest(book, step, way, met.shared);
+    let node = paths::highest(book, step, way, met.shared);
     Spot {
         node,
         shared: met.shared,
@@ -219,7 +119,7 @@ fn seat(book: &[u8], stride: usize, step: usize, question: &[u8], spot: Spot) ->
         }
         return first;
     }
-    let c = seek(book, stride, step, o, s);
+    let c = paths::seek(book, stride, step, o, s);
     if c < o + fields::nodes(book, o, step) * stride {
         return fields::first(book, c, step);
     }

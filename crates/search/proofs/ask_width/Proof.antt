@@ -3,9 +3,10 @@
 use mathlib.Core.Path.{refl}
 use borrow.Author.Needs.{needs}
 use Rattle.standing.specs.Maps.{mapOf}
-use Rattle.search.specs.Asks.{AtSpot, tableMap}
+use Rattle.paths.specs.Paths.{tableMap}
+use Rattle.paths.proofs.Ways.{at-here, here-room}
+use Rattle.search.specs.Asks.{AtSpot}
 use Rattle.search.proofs.Spots.{seat-node, spot-at, width-all, width-short}
-use Rattle.search.proofs.Ways.{at-here, here-room}
 use Rattle.search.proofs.ask_width.Statement.{statement}
 use Rattle.search.proofs.ask_width.Tie as tie
 

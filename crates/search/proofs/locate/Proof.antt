@@ -3,9 +3,9 @@
 use borrow.Author.Needs.{needs}
 use Rattle.format.specs.Kinds.{ruleIn}
 use Rattle.descent.specs.Vocabulary.{Searchable}
-use Rattle.search.specs.Asks.{tableMap}
+use Rattle.paths.specs.Paths.{tableMap}
+use Rattle.paths.proofs.Ways.{here-room}
 use Rattle.search.proofs.Spots.{end-here, end-path, end-reached, name-ask, own-searchable, spot, spot-in, starts}
-use Rattle.search.proofs.Ways.{here-room}
 use Rattle.search.proofs.locate.Statement.{statement}
 use Rattle.search.proofs.locate.Tie as tie
 

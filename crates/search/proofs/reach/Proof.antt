@@ -1,8 +1,8 @@
 -- `search::reach` meets its contract: the first name of the last node on the path.
 -- Assumes nothing.
 use borrow.Author.Needs.{needs}
+use Rattle.paths.proofs.Ways.{here-room}
 use Rattle.search.proofs.Spots.{end-here, end-reached}
-use Rattle.search.proofs.Ways.{here-room}
 use Rattle.search.proofs.reach.Statement.{statement}
 use Rattle.search.proofs.reach.Tie as tie
 

@@ -1,11 +1,11 @@
--- `search::highest` meets its contract. The invariant of its loop is `Upwards`: from the end of the path on, each node but the last is deep enough.
+-- `paths::highest` meets its contract. The invariant of its loop is `Upwards`: from the end of the path on, each node but the last is deep enough.
 -- The measure is the number of nodes above.
 -- Assumes nothing.
 use native.Mathlib.Omega.{arith}
 use borrow.Author.Needs.{needs}
-use Rattle.search.proofs.Spots.{Upwards, climb-end, climb-found, climb-more, climb-room, climb-start}
-use Rattle.search.proofs.highest.Statement.{statement}
-use Rattle.search.proofs.highest.Tie as tie
+use Rattle.paths.proofs.Climbing.{Upwards, climb-end, climb-found, climb-more, climb-room, climb-start}
+use Rattle.paths.proofs.highest.Statement.{statement}
+use Rattle.paths.proofs.highest.Tie as tie
 
 abbrev Inv-loop : tie.InvT-loop
 Inv-loop book step shared path len j₀ j = Upwards book step path len shared j

@@ -1,12 +1,12 @@
--- `search::seek` meets its contract. The invariant of its loop is `SeekingAt`: the names before the child at hand have symbols below s.
+-- `paths::seek` meets its contract. The invariant of its loop is `SeekingAt`: the names before the child at hand have symbols below s.
 -- The measure is how far it is to the end of the row.
 -- Assumes nothing.
 use Prim.Native.Nat.{_-_}
 use native.Mathlib.Omega.{arith}
-use Rattle.search.specs.Asks.{tableMap}
-use Rattle.search.proofs.Ways.{Here, SeekingAt, at-here, end-fits, here-room, here-small, row-fits, row-here, seek-first, seek-here, seek-less, seek-next, seek-none}
-use Rattle.search.proofs.seek.Statement.{statement}
-use Rattle.search.proofs.seek.Tie as tie
+use Rattle.paths.specs.Paths.{tableMap}
+use Rattle.paths.proofs.Ways.{Here, SeekingAt, at-here, end-fits, here-room, here-small, row-fits, row-here, seek-first, seek-here, seek-less, seek-next, seek-none}
+use Rattle.paths.proofs.seek.Statement.{statement}
+use Rattle.paths.proofs.seek.Tie as tie
 
 abbrev Inv-loop : tie.InvT-loop
 Inv-loop book stride step o s end c₀ c = SeekingAt book (tableMap book stride step) o s c

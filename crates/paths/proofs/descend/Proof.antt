@@ -1,14 +1,14 @@
--- `search::descend` meets its contract. The invariant of its loop is `Going`: the path so far, from the root to the node at hand.
+-- `paths::descend` meets its contract. The invariant of its loop is `Going`: the path so far, from the root to the node at hand.
 -- The measure is the room that is left in the path; depths rise along it, so it never runs out.
 -- Assumes nothing.
 use Prim.Native.Nat.{_-_, _<_}
 use native.Mathlib.Omega.{arith}
 use borrow.Author.Needs.{needs}
 use mathlib.Core.Path.{refl}
-use Rattle.search.specs.Asks.{tableMap}
-use Rattle.search.proofs.Ways.{Going, go-at, go-halt, go-on, go-room, go-small, go-start, here-small, root-here}
-use Rattle.search.proofs.descend.Statement.{statement}
-use Rattle.search.proofs.descend.Tie as tie
+use Rattle.paths.specs.Paths.{tableMap}
+use Rattle.paths.proofs.Ways.{Going, go-at, go-halt, go-on, go-room, go-small, go-start, here-small, root-here}
+use Rattle.paths.proofs.descend.Statement.{statement}
+use Rattle.paths.proofs.descend.Tie as tie
 
 abbrev Inv-loop : tie.InvT-loop
 Inv-loop book stride step start question path₀ n₀ o₀ path n o = Going book (tableMap book stride step) question path n o

@@ -32,9 +32,9 @@ use Rattle.standing.specs.Maps.{Map, Paced, Placed, Roomy, numberIn, recordAt}
 use Rattle.standing.proofs.Maps.{number-before, number-first, number-on, number-past, placed-on}
 use Rattle.descent.proofs.Paths.{halt-end, halt-leaf, halt-other, halt-short, passed-few, passed-on, passed-room, passed-sits, passed-start, taken}
 use Rattle.descent.proofs.Rows.{root-sits, seek-end, seek-found, seek-more, seek-some, seek-start}
-use Rattle.search.specs.Asks.{AtFork, AtNode, DescentSays, SoughtAt, WayOf}
-use Rattle.search.specs.declared.Way.{Way}
-use Rattle.search.specs.declared.Way.the-variants.{Down, Stay}
+use Rattle.paths.specs.Paths.{AtFork, AtNode, DescentSays, SoughtAt, WayOf}
+use Rattle.paths.specs.declared.Way.{Way}
+use Rattle.paths.specs.declared.Way.the-variants.{Down, Stay}
 
 -- ---- a node by its offset
 

@@ -1,12 +1,12 @@
--- `search::child` meets its contract: a law for each way out. Each is given its places, the way down first, and the question is named, so that
+-- `paths::child` meets its contract: a law for each way out. Each is given its places, the way down first, and the question is named, so that
 -- a wrong rule shows.
 -- Assumes nothing.
 use native.Mathlib.Omega.{arith}
 use mathlib.Core.Path.{_≡_}
 use borrow.Author.Needs.{needs}
-use Rattle.search.proofs.Ways.{at-here, end-fits, fork-at, go-down, here-room, row-fits, row-here, stay-end, stay-leaf, stay-other, stay-short}
-use Rattle.search.proofs.child.Statement.{statement}
-use Rattle.search.proofs.child.Tie as tie
+use Rattle.paths.proofs.Ways.{at-here, end-fits, fork-at, go-down, here-room, row-fits, row-here, stay-end, stay-leaf, stay-other, stay-short}
+use Rattle.paths.proofs.child.Statement.{statement}
+use Rattle.paths.proofs.child.Tie as tie
 
 -- the child has the question's symbol
 returns-5 : tie.Need-returns-5
