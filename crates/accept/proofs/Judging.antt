@@ -1,5 +1,5 @@
 -- What the check answers, way by way.
---     unsound, sound    bytes of which a part fails; of which all stand
+--     unsound, sound-checked    bytes of which a part fails; of which all stand
 --     trail-fails, walked-own, walk-ask, framed-says     a trailer that fails; after one that passes, what the walk over the entries asks, and
 --                       what its answer comes to
 --     names-told, table-ask, table-is     behind trailer and entries that stand: what the walk over the table asks, and what it answers
@@ -45,9 +45,9 @@ accepts : Checked → ℕ
 accepts (Sound t) = 1
 accepts Unsound = 0
 
-pub sound≠unsound : {t : Trailer} → Sound t ≡ Unsound → ⊥
+pub sound-checked≠unsound : {t : Trailer} → Sound t ≡ Unsound → ⊥
 unfolding accepts
-sound≠unsound q = let z : _≡_ {A = ℕ} 1 0 = ap accepts q in absurd (omega arith)
+sound-checked≠unsound q = let z : _≡_ {A = ℕ} 1 0 = ap accepts q in absurd (omega arith)
 
 pub unsound : (b : Bytes) → (Parts b → ⊥) → Unsound ≡ checkOn b (opened b)
 unfolding checkOn
@@ -57,12 +57,12 @@ unsound b fails = go (opened b) refl
     go (Book κ k xs) e = absurd (fails (opened-parts κ b k xs e))
     go NoBook e = refl
 
-pub sound : (b : Bytes) → Held b → (t : Trailer) → t ≡ trailerIn b → Parts b → Sound t ≡ checkOn b (opened b)
+pub sound-checked : (b : Bytes) → Held b → (t : Trailer) → t ≡ trailerIn b → Parts b → Sound t ≡ checkOn b (opened b)
 unfolding checkOn
-sound b held t e p = ap Sound e ∙ ap (checkOn b) (sym (parts-opened b (held-bytes b held) p))
+sound-checked b held t e p = ap Sound e ∙ ap (checkOn b) (sym (parts-opened b (held-bytes b held) p))
 
 pub parts-sound : (b : Bytes) → Held b → (r : Bool) → r ≡ true → PartsSay b r → (t : Trailer) → t ≡ trailerIn b → Sound t ≡ checkOn b (opened b)
-parts-sound b held true h p t e = sound b held t e p
+parts-sound b held true h p t e = sound-checked b held t e p
 parts-sound b held false h p t e = absurd (false≠true h)
 
 pub parts-long : (b : Bytes) (r : Bool) → r ≡ true → PartsSay b r → trailerSize ≤ length b
@@ -89,8 +89,8 @@ pub record NumbersRead (b : Bytes) (n k s u : ℕ) : Type 0 where
   pub table : s ≡ told b 2
   pub nodes : u ≡ told b 3
 
-pub asked : (b : Bytes) (n k s u : ℕ) (t : Trailer) → Trail b → t ≡ trailerIn b → n ≡ t .names → k ≡ t .block → s ≡ t .«blocks_at» → u ≡ t .«nodes_at» → NumbersRead b n k s u
-asked b n k s u t p e ne ke se ue = record {
+pub numbers-read : (b : Bytes) (n k s u : ℕ) (t : Trailer) → Trail b → t ≡ trailerIn b → n ≡ t .names → k ≡ t .block → s ≡ t .«blocks_at» → u ≡ t .«nodes_at» → NumbersRead b n k s u
+numbers-read b n k s u t p e ne ke se ue = record {
   trail = p;
   names = ne ∙ ap (λ (x : Trailer). x .names) e;
   block = ke ∙ ap (λ (x : Trailer). x .block) e;
@@ -183,7 +183,7 @@ unfolding checkOn
 sound-book b t bytes s = go (opened b) refl s
   where
     go : (o : Opened) → opened b ≡ o → Sound t ≡ checkOn b o → SoundBook b t
-    go NoBook e q = absurd (sound≠unsound q)
+    go NoBook e q = absurd (sound-checked≠unsound q)
     go (Book κ j xs) e q =
         let p : Parts b = opened-parts κ b j xs e in
         let is : t ≡ trailerIn b = cc in

@@ -1,4 +1,4 @@
--- All refusals of all calls, computed: each alone, and beside its neighbour in the order of refusals, which is then not the one that is given. What was lent
+-- All refusals of all calls, computed: each alone, and beside its neighbour in the order of refusals, which is then not the one that is given. What was lentRoom
 -- is left as it was. The books are document 01's by two, the same with one byte changed, the same with a shared count that is smaller than it could be, and
 -- the one without names. Each line has what the documents say and not what a branch of a definition says, so a wrong definition shows here by its numbers.
 --     build-refusals    8, 5, 6, 4; lists too long for a book, 7 and 9, are computed in the theorems' Edges
@@ -36,8 +36,8 @@ use Rattle.answers.specs.Widths.{width}
 -- ---- what comes in
 
 -- a room, or a part of one, that holds what another guest left there
-abbrev pub lent : ℕ → Bytes
-lent n = replicate n 7
+abbrev pub lentRoom : ℕ → Bytes
+lentRoom n = replicate n 7
 
 abbrev pub mar : Bytes
 mar = 3 ∷ text "Mar"
@@ -78,12 +78,12 @@ builds =
     ∷ (marina ++ mar, 2, 99, (6, 1)) ∷ (mar ++ mar, 2, 99, (6, 1)) ∷ (marina ++ (mar ++ (0 ∷ [])), 2, 99, (6, 1)) ∷ (mar ++ (0 ∷ mar), 2, 99, (5, 1))
     ∷ (mar ++ (marina ++ market), 2, 92, (4, 0)) ∷ []
 
-pub build-refusals : map (λ (c : BuildRow). build PlainBook (c .0) (c .1) (lent (c .2))) builds ≡ map (λ (c : BuildRow). record { answer = numbered (c .3 .0) (c .3 .1); room = lent (c .2) }) builds
+pub build-refusals : map (λ (c : BuildRow). build PlainBook (c .0) (c .1) (lentRoom (c .2))) builds ≡ map (λ (c : BuildRow). record { answer = numbered (c .3 .0) (c .3 .1); room = lentRoom (c .2) }) builds
 unfolding shared less depth glue groups widest rowBy tableWithin nodeTable table numbers joined entry blocksFrom front blocks offsets entryPart blockPart allFields trailer bookBy encode readFrom readList builtFrom buildBy
 build-refusals = refl
 
 -- two names of a plain list, which are one name once folded: 6 with the second record, and the room as it was
-pub mar-twice : build FoldedBook (mar ++ (3 ∷ text "mar")) 2 (lent 99) ≡ record { answer = numbered 6 1; room = lent 99 }
+pub mar-twice : build FoldedBook (mar ++ (3 ∷ text "mar")) 2 (lentRoom 99) ≡ record { answer = numbered 6 1; room = lentRoom 99 }
 unfolding shared less depth glue groups widest rowBy tableWithin nodeTable table numbers joined entry blocksFrom front blocks offsets entryPart blockPart allFields trailer bookBy encode readFrom readList builtFrom buildBy
 mar-twice = refl
 
@@ -105,7 +105,7 @@ reads =
     (broken, 0, 99, 2) ∷ (broken, 3, 99, 2) ∷ (broken, 0, 0, 2) ∷ (exampleBy2, 3, 99, 3) ∷ (exampleBy2, 70000, 99, 3) ∷ (exampleBy2, 3, 0, 3) ∷ (noNames, 0, 99, 3)
     ∷ (exampleBy2, 2, 12, 4) ∷ (exampleBy2, 0, 0, 4) ∷ []
 
-pub read-refusals : map (λ (c : ReadRow). readBack (c .0) (c .1) (lent (c .2))) reads ≡ map (λ (c : ReadRow). record { answer = refused (c .3); room = lent (c .2) }) reads
+pub read-refusals : map (λ (c : ReadRow). readBack (c .0) (c .1) (lentRoom (c .2))) reads ≡ map (λ (c : ReadRow). record { answer = refused (c .3); room = lentRoom (c .2) }) reads
 unfolding shared less begins same depth glue groups widest rowBy tableWithin nodeTable table numbers joined entry blocksFrom front blocks offsets entryPart blockPart allFields trailer bookBy decodeFrom decode number rising sound fitsBy namesOf isBookBy opened readBackOf readBack
 read-refusals = refl
 
@@ -158,13 +158,13 @@ unfolding shared less begins same depth glue groups widest rowBy tableWithin nod
 batch-taken = refl
 
 -- each row, and what it gets: kinds 0 to 7; spans that end at the buffer's end, past it, or begin past it; 11 before 1
-abbrev pub asked : List (Row × Answer)
-asked =
+abbrev pub rowsAsked : List (Row × Answer)
+rowsAsked =
     (row 0 0 6, refused 11) ∷ (row 1 0 6, given 1 1) ∷ (row 2 0 6, given 1 0) ∷ (row 3 0 6, given 1 1) ∷ (row 4 207 5, given 1 2) ∷ (row 5 0 4, given 6 0) ∷ (row 6 0 6, refused 11) ∷ (row 7 0 6, refused 11)
     ∷ (row 3 213 1, given 0 3) ∷ (row 3 213 2, refused 11) ∷ (row 3 214 0, given 0 3) ∷ (row 3 214 1, refused 11) ∷ (row 3 215 0, refused 11)
     ∷ (row 3 6 201, refused 1) ∷ (row 0 6 201, refused 11) ∷ (row 6 6 201, refused 11) ∷ (row 3 14 201, refused 11) ∷ (row 3 6 200, given 0 0) ∷ []
 
-pub batch-rows-alone : batch exampleBy2 buffer (map (λ (c : Row × Answer). c .0) asked) (leftRows 18) ≡ record { answer = given 18 0; rows = map (λ (c : Row × Answer). c .1) asked }
+pub batch-rows-alone : batch exampleBy2 buffer (map (λ (c : Row × Answer). c .0) rowsAsked) (leftRows 18) ≡ record { answer = given 18 0; rows = map (λ (c : Row × Answer). c .1) rowsAsked }
 unfolding shared less begins same depth glue groups widest rowBy tableWithin nodeTable table numbers joined entry blocksFrom front blocks offsets entryPart blockPart allFields trailer bookBy decodeFrom decode number rising sound fitsBy namesOf isBookBy opened childOf reachWithin reached count exactFrom exact place range width nearest ask mayEnd lit answer namesAnswer questionOf rowAnswer batchOf batch
 batch-rows-alone = refl
 
@@ -198,19 +198,19 @@ pub judge-refusals : map (λ (c : ListsRow). judgeLists (c .0) (c .1)) (badLists
 unfolding shared less readFrom readList ofReadings judgeLists
 judge-refusals = refl
 
-pub merge-refusals : map (λ (c : ListsRow). mergeLists (c .0) (c .1) (lent (c .2))) (badLists ++ (shortRoom ∷ [])) ≡ map (λ (c : ListsRow). record { answer = told3 (c .3); room = lent (c .2) }) (badLists ++ (shortRoom ∷ []))
+pub merge-refusals : map (λ (c : ListsRow). mergeLists (c .0) (c .1) (lentRoom (c .2))) (badLists ++ (shortRoom ∷ [])) ≡ map (λ (c : ListsRow). record { answer = told3 (c .3); room = lentRoom (c .2) }) (badLists ++ (shortRoom ∷ []))
 unfolding shared less kept merged encode readFrom readList ofReadings mergeLists
 merge-refusals = refl
 
 -- what is put of a union of 2,001 names; of 2,000, in a room that is too short
-pub put-2001 : putNames (lent 5) (replicate 2001 (text "a")) ≡ record { answer = told3 (7, 2000, 0); room = lent 5 }
+pub put-2001 : putNames (lentRoom 5) (replicate 2001 (text "a")) ≡ record { answer = told3 (7, 2000, 0); room = lentRoom 5 }
 put-2001 = refl
 
-pub put-2000 : putNames (lent 5) (replicate 2000 (text "a")) ≡ record { answer = told3 (4, 0, 0); room = lent 5 }
+pub put-2000 : putNames (lentRoom 5) (replicate 2000 (text "a")) ≡ record { answer = told3 (4, 0, 0); room = lentRoom 5 }
 unfolding encode
 put-2000 = refl
 
-pub merge-taken : mergeLists mar marina (lent 11) ≡ record { answer = given 11 0; room = mar ++ marina }
+pub merge-taken : mergeLists mar marina (lentRoom 11) ≡ record { answer = given 11 0; room = mar ++ marina }
 unfolding shared less kept merged encode readFrom readList ofReadings mergeLists
 merge-taken = refl
 
@@ -249,20 +249,20 @@ cards =
     (set exampleBy2 85 5, 99, 2, 13) ∷ (set exampleBy2 85 5, 99, 1, 13) ∷ (set exampleBy2 85 5, 0, 2, 13) ∷ ([], 0, 0, 13)
     ∷ (exampleBy2, 99, 1, 12) ∷ (exampleBy2, 99, 3, 12) ∷ (exampleBy2, 0, 1, 12) ∷ (exampleBy2, 24, 2, 4) ∷ (exampleBy2, 0, 2, 4) ∷ (broken, 13, 2, 4) ∷ (noNames, 0, 1, 12) ∷ []
 
-pub salvage-refusals : map (λ (c : CardRow). salvage (c .0) (lent (c .1)) (leftReport (c .2))) cards ≡ map (λ (c : CardRow). record { answer = refused (c .3); room = lent (c .1); rows = leftReport (c .2) }) cards
+pub salvage-refusals : map (λ (c : CardRow). salvage (c .0) (lentRoom (c .1)) (leftReport (c .2))) cards ≡ map (λ (c : CardRow). record { answer = refused (c .3); room = lentRoom (c .1); rows = leftReport (c .2) }) cards
 unfolding shared less joined encode decode decodeFrom entry front rising boundsFrom climbs spansFrom mapped judgedAlone salvage salvageFrom number same begins
 salvage-refusals = refl
 
 -- each number of the trailer off by one, but for a fourth name, which has its place in the second block: 13
-pub salvage-trailers : map (λ (s : Bytes). salvage s (lent 25) (leftReport 2))
+pub salvage-trailers : map (λ (s : Bytes). salvage s (lentRoom 25) (leftReport 2))
     (set exampleBy2 77 2 ∷ set exampleBy2 79 1 ∷ set exampleBy2 79 3 ∷ set exampleBy2 81 24 ∷ set exampleBy2 81 26 ∷ set exampleBy2 83 28 ∷ set exampleBy2 83 30
     ∷ set exampleBy2 85 3 ∷ set exampleBy2 85 5 ∷ set exampleBy2 87 92 ∷ set exampleBy2 87 94 ∷ [])
-    ≡ replicate 11 (record { answer = refused 13; room = lent 25; rows = leftReport 2 })
+    ≡ replicate 11 (record { answer = refused 13; room = lentRoom 25; rows = leftReport 2 })
 unfolding shared less joined encode decode decodeFrom entry front rising boundsFrom climbs spansFrom mapped judgedAlone salvage salvageFrom number same begins
 salvage-trailers = refl
 
 -- a room of just the length; and n = 0: no rows and no bytes
-pub salvage-taken-just : salvage exampleBy2 (lent 25) (leftReport 2) ∷ salvage broken (lent 14) (leftReport 2) ∷ salvage noNames [] [] ∷ []
+pub salvage-taken-just : salvage exampleBy2 (lentRoom 25) (leftReport 2) ∷ salvage broken (lentRoom 14) (leftReport 2) ∷ salvage noNames [] [] ∷ []
     ≡ record { answer = given 25 0; room = mar ++ (marina ++ market); rows = (1, 2) ∷ (1, 1) ∷ [] } ∷ record { answer = given 14 0; room = market; rows = (0, 0) ∷ (1, 1) ∷ [] }
     ∷ record { answer = given 0 0; room = []; rows = [] } ∷ []
 unfolding shared less joined encode decode decodeFrom entry front rising boundsFrom climbs spansFrom mapped judgedAlone salvage salvageFrom number same begins

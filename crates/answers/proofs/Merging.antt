@@ -3,7 +3,7 @@
 --     judge-one, judge-other     the first list is refused; only the second is
 --     judged-sound, judged-bad   what an answer of judging shows: both lists read well, or whatever is made of them is made of that answer
 --     too-many, too-short, all-put   a merge of lists that read well, by what it counts
---     Accepted, merge-accepted   where a merge's code is 0
+--     MergesWell, merge-accepted   where a merge's code is 0
 --     merge-within, merge-kept   the bytes that a merge counts stand in the room; what it leaves
 -- Assumes nothing.
 use Prim.Native.Nat.{ℕ, _≤_, _<_}
@@ -102,7 +102,7 @@ merge-kept s t room = merge-holds (Kept room) s t room (λ a n. same-kept room a
 
 -- ---- where a merge's code is 0
 
-pub record Accepted (s t room : Bytes) : Type 0 where
+pub record MergesWell (s t room : Bytes) : Type 0 where
   pub xs : List Bytes
   pub ys : List Bytes
   pub first : Reads s xs
@@ -110,14 +110,14 @@ pub record Accepted (s t room : Bytes) : Type 0 where
   pub few : length (merged plain xs ys) ≤ mostNames
   pub fits : length (encode (merged plain xs ys)) ≤ length room
 
-pub merge-accepted : (s t room : Bytes) → mergeLists s t room .answer .code ≡ 0 → Accepted s t room
+pub merge-accepted : (s t room : Bytes) → mergeLists s t room .answer .code ≡ 0 → MergesWell s t room
 unfolding mergeLists ofReadings
 merge-accepted s t room e = go (readAlone s) (readAlone t) refl refl e
   where
     left : Reading → Reading → Written
     left a b = ofReadings (λ a. record { answer = a; room = room }) (λ xs ys. putNames room (merged plain xs ys)) a b
 
-    go : (a b : Reading) → readAlone s ≡ a → readAlone t ≡ b → left a b .answer .code ≡ 0 → Accepted s t room
+    go : (a b : Reading) → readAlone s ≡ a → readAlone t ≡ b → left a b .answer .code ≡ 0 → MergesWell s t room
     go (Refused code i) b p q z = absurd (omega (arith, read-refused plain (length s) s code i p))
     go (Names xs) (Refused code i) p q z = absurd (omega (arith, read-refused plain (length t) t code i q))
     go (Names xs) (Names ys) p q z = many (leb (length all) mostNames) (leb (length (encode all)) (length room)) refl refl z
@@ -127,7 +127,7 @@ merge-accepted s t room e = go (readAlone s) (readAlone t) refl refl e
 
         many : (u v : Bool) → leb (length all) mostNames ≡ u → leb (length (encode all)) (length room) ≡ v
             → let w : Written = pick u (pick v (record { answer = given (length (encode all)) 0; room = over (encode all) room }) (record { answer = refused 4; room = room })) (record { answer = numbered 7 mostNames; room = room }) in w .answer .code ≡ 0
-            → Accepted s t room
+            → MergesWell s t room
         many true true a b k = record { xs = xs; ys = ys; first = record { names = p }; second = record { names = q }; few = leb-true (length all) mostNames a; fits = leb-true (length (encode all)) (length room) b }
         many true false a b k = absurd (omega arith)
         many false v a b k = absurd (omega arith)

@@ -19,7 +19,7 @@ use Rattle.words.proofs.Lists.{Within, all-append, all-at, all-map, all-map₂,
 use Rattle.words.proofs.Rising.{rises-left, rises-right}
 use Rattle.words.proofs.Words.{blind, leaves, shared-le}
 use Rattle.format.specs.Nodes.{depth, groups}
-use Rattle.format.proofs.Groups.{Parted, Short, children, depth-share, joinedGroups, part, shorter, whole}
+use Rattle.format.proofs.Groups.{PartedGroups, Short, children, depth-share, joinedGroups, part, shorter, whole}
 use Rattle.answers.specs.Questions.{childOf, nearest, reachWithin, reached}
 
 -- the word at j, counted from the first of ws, shares with q as much as any word of ws does
@@ -85,7 +85,7 @@ node-best q w v vs i r o = go (ltb (length q) d) refl o
 abbrev Reaches : ℕ → List ℕ → Type 0
 Reaches f q = (i : ℕ) (w : List ℕ) (g : Words) → Rises (w ∷ g) → length (w ∷ g) ≤ f → (j : ℕ) × (reachWithin f q i (w ∷ g) ≡ i + j) × Best q (w ∷ g) j
 
-child-out : (f : ℕ) (q : List ℕ) → Reaches f q → (d s stay i : ℕ) (gs : List Words) → Parted d gs → Rises (joinedGroups gs) → Short f gs
+child-out : (f : ℕ) (q : List ℕ) → Reaches f q → (d s stay i : ℕ) (gs : List Words) → PartedGroups d gs → Rises (joinedGroups gs) → Short f gs
     → Out q d s i stay (childOf (λ j g. reachWithin f q j g) d s stay i gs) (joinedGroups gs)
 unfolding childOf
 child-out f q ih d s stay i gs whole r a = missed refl nil

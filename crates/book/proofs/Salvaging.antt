@@ -1,5 +1,5 @@
 -- How a salvage goes, by the ways that its parts go. How names are saved is in the crate salvage, and what a block's row is, in cards.
---     turned                    what turn number i stores
+--     turnedBlock                    what turn number i stores
 --     salvage-refused, salvage-accepts, salvage-done     the call's equation, where saving refuses; what has been shown where it doesn't; the equation then
 -- Assumes nothing.
 use Prim.Native.Nat.{ℕ, _<_}
@@ -20,12 +20,12 @@ use Rattle.shapes.specs.Salvage.{keptRow, salvaged}
 use Rattle.shapes.proofs.Salvage.{keptOf}
 use Rattle.shapes.specs.declared.Answer.{Answer}
 use Rattle.shapes.specs.declared.Kept.{Kept}
-use Rattle.cards.specs.Cards.{BlockAsk}
+use Rattle.cards.specs.Cards.{CardBlockAsk}
 use Rattle.salvage.specs.Saving.{savedOf}
 use Rattle.book.proofs.Filling.{filled, filled-all}
 
-abbrev pub turned : Bytes → ℕ → Kept
-turned s i = keptOf (reported (getD (cardBlocks s) i Broken))
+abbrev pub turnedBlock : Bytes → ℕ → Kept
+turnedBlock s i = keptOf (reported (getD (cardBlocks s) i Broken))
 
 module _ (s room : Bytes) (old : List Kept) where
   abbrev out : Bytes
@@ -79,20 +79,20 @@ module _ (s room : Bytes) (old : List Kept) where
           go true true false p q r = absurd (nonzero _ (had true true false p q r) (λ h. omega arith))
           go true true true p q r = (p, eqb-true (length old) (length (cardBlocks s)) q, r)
 
-      pub salvage-asks : (i : ℕ) → i < length old → BlockAsk s i
+      pub salvage-asks : (i : ℕ) → i < length old → CardBlockAsk s i
       salvage-asks i h = record { map = salvage-accepts .0; within = omega (arith, salvage-accepts .1) }
 
-      rows-are : filled (turned s) old (length old) ≡ map (λ (b : Block). keptOf (reported b)) (cardBlocks s)
+      rows-are : filled (turnedBlock s) old (length old) ≡ map (λ (b : Block). keptOf (reported b)) (cardBlocks s)
       rows-are =
           let new : List Kept = map (λ (b : Block). keptOf (reported b)) (cardBlocks s) in
           let long : length new ≡ length old = length-map (cardBlocks s) (λ (b : Block). keptOf (reported b)) ∙ sym (salvage-accepts .1) in
-          ap (filled (turned s) old) (sym long) ∙ filled-all (turned s) old (keptOf (reported Broken)) new long (λ i lt. sym (List·getD-map (λ (b : Block). keptOf (reported b)) (cardBlocks s) i Broken))
+          ap (filled (turnedBlock s) old) (sym long) ∙ filled-all (turnedBlock s) old (keptOf (reported Broken)) new long (λ i lt. sym (List·getD-map (λ (b : Block). keptOf (reported b)) (cardBlocks s) i Broken))
 
-      pub salvage-done : salvaged a after (filled (turned s) old (length old)) ≡ salvage s room (map keptRow old)
+      pub salvage-done : salvaged a after (filled (turnedBlock s) old (length old)) ≡ salvage s room (map keptRow old)
       salvage-done =
           let p = salvage-accepts .0 in
           let q : as-many ≡ true = eq-eqb (length old) (length (cardBlocks s)) (salvage-accepts .1) in
           let r = salvage-accepts .2 in
-          ap (λ (w : Written). leaves w (map keptRow (filled (turned s) old (length old)))) (had true true true p q r)
+          ap (λ (w : Written). leaves w (map keptRow (filled (turnedBlock s) old (length old)))) (had true true true p q r)
           ∙ ap (leaves (saves true true true)) (ap (map keptRow) rows-are ∙ map-map keptRow (λ (b : Block). keptOf (reported b)) (cardBlocks s))
           ∙ sym (outcome-is true true true p q r)

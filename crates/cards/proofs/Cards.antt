@@ -5,7 +5,7 @@
 --     not-trailed, trailed, MapRead, map-read, not-met, table-ask, map-climbs, mapped-is     whether a map makes sense, by the code's tests
 --     mapped-long, mapped-few, mapped-low, mapped-high, mapped-table     what it shows
 --     bound-inner, bound-last   a bound, where the code reads it
---     Climbing: climbing-start, climbing-more, climbing-falls, climbing-done     the loop over the starts
+--     StartsClimb: climbing-start, climbing-more, climbing-falls, climbing-done     the loop over the starts
 --     span-is                   a block's span
 --     whole-says                whether it is whole, by what the check of a block says
 --     block-found, block-kept, names-found     block number i then
@@ -45,7 +45,7 @@ use Rattle.trailer.specs.Trailer.{Trail, TrailSays, trailerIn}
 use Rattle.trailer.specs.declared.Trailer.{Trailer}
 use Rattle.streams.proofs.Alone.{alone-run, run-alone}
 use Rattle.runs.specs.Judging.{BlockSays}
-use Rattle.cards.specs.Cards.{BlockAsk, PlainSays, SpanIs, Table, WholeSays}
+use Rattle.cards.specs.Cards.{CardBlockAsk, PlainSays, SpanIs, Table, WholeSays}
 
 -- ---- the trailer
 
@@ -213,7 +213,7 @@ module _ {s : Bytes} {i table nodes : ℕ} (t : Table s i) (te : table ≡ told 
       before (inr h) = absurd (away (omega (arith, t .upto, t .size)))
 
 -- i bounds are passed, the last of them `at`; whether all climb is told by the others
-pub record Climbing (s : Bytes) (count i at : ℕ) : Type 0 where
+pub record StartsClimb (s : Bytes) (count i at : ℕ) : Type 0 where
   pub upto : i ≤ count
   pub many : length (bounds s) ≡ suc count
   pub others : fromZero (bounds s) ≡ climbs at (drop (suc i) (bounds s))
@@ -228,10 +228,10 @@ module _ (s : Bytes) {count : ℕ} (ce : count ≡ blockCount (told s 0) (told s
   pub climbing-not : {at : ℕ} → at ≡ getD (bounds s) 0 0 → (at ≡ 0 → ⊥) → false ≡ fromZero (bounds s)
   climbing-not {at} e away = no-map (fromZero (bounds s)) (λ t. away (eqb-true at 0 (both-true (eqb at 0) (climbs at (drop 1 (bounds s))) (sym (first-is e) ∙ t) .0)))
 
-  pub climbing-start : {at : ℕ} → at ≡ getD (bounds s) 0 0 → at ≡ 0 → Climbing s count 0 at
+  pub climbing-start : {at : ℕ} → at ≡ getD (bounds s) 0 0 → at ≡ 0 → StartsClimb s count 0 at
   climbing-start {at} e z = record { upto = omega arith; many = all-bounds; others = first-is e ∙ ap (λ (t : Bool). both t (climbs at (drop 1 (bounds s)))) (eq-eqb at 0 z) }
 
-module _ {s : Bytes} {count i at next : ℕ} (w : Climbing s count i at) (h : i < count) (e : next ≡ getD (bounds s) (i + 1) 0) where
+module _ {s : Bytes} {count i at next : ℕ} (w : StartsClimb s count i at) (h : i < count) (e : next ≡ getD (bounds s) (i + 1) 0) where
   one-more : fromZero (bounds s) ≡ both (ltb at next) (climbs next (drop (suc (i + 1)) (bounds s)))
   one-more =
       let number-is : suc i ≡ i + 1 = omega arith in
@@ -241,15 +241,15 @@ module _ {s : Bytes} {count i at next : ℕ} (w : Climbing s count i at) (h : i 
   pub climbing-falls : next ≤ at → false ≡ fromZero (bounds s)
   climbing-falls l = no-map (fromZero (bounds s)) (λ t. lt-irrefl at (omega (arith, ltb-true at next (both-true (ltb at next) (climbs next (drop (suc (i + 1)) (bounds s))) (sym one-more ∙ t) .0))))
 
-  pub climbing-more : at < next → Climbing s count (i + 1) next
+  pub climbing-more : at < next → StartsClimb s count (i + 1) next
   climbing-more l = record { upto = omega arith; many = w .many; others = one-more ∙ ap (λ (t : Bool). both t (climbs next (drop (suc (i + 1)) (bounds s)))) (lt-ltb at next l) }
 
-pub climbing-done : {s : Bytes} {count i at : ℕ} → Climbing s count i at → count ≤ i → true ≡ fromZero (bounds s)
+pub climbing-done : {s : Bytes} {count i at : ℕ} → StartsClimb s count i at → count ≤ i → true ≡ fromZero (bounds s)
 climbing-done {s} {count} {i} {at} w h = sym (w .others ∙ climbs-end at (bounds s) (suc i) (omega (arith, w .many)))
 
 -- ---- a block
 
-module _ {s : Bytes} {i : ℕ} (ask : BlockAsk s i) where
+module _ {s : Bytes} {i : ℕ} (ask : CardBlockAsk s i) where
   here : i < blockCount (told s 0) (told s 1)
   here = omega (arith, ask .within, blocks-many s)
 
@@ -302,7 +302,7 @@ whole-says s start end names o h false name len says = broken (judgedAlone names
 
 -- ---- a block's report row
 
-module _ {s : Bytes} {i start end names : ℕ} (ask : BlockAsk s i) (k : SpanIs s i start end names) (r : Bool) (says : WholeSays s start end names r) where
+module _ {s : Bytes} {i start end names : ℕ} (ask : CardBlockAsk s i) (k : SpanIs s i start end names) (r : Bool) (says : WholeSays s start end names r) where
   -- the block, by what the code found of it
   pub block-found : getD (cardBlocks s) i Broken ≡ pick r (Whole (decode (take (end - start) (drop start s)))) Broken
   block-found = block-is ask k ∙ says

@@ -1,6 +1,6 @@
 -- A worn card's blocks, as the code asks and tells of them.
 --     Table             the block table lies where the trailer says, and has a bound of number i
---     BlockAsk          the map makes sense, and there is a block of number i
+--     CardBlockAsk          the map makes sense, and there is a block of number i
 --     SpanIs            where block i stands, and how many names it should have
 --     PlainSays         whether a kind of book is the plain one
 --     WholeAsk, WholeSays     a span inside the bytes; whether its block, judged alone, is whole
@@ -22,7 +22,7 @@ pub record Table (s : Bytes) (i : ℕ) : Type 0 where
   pub size : told s 2 + 2 * blockCount (told s 0) (told s 1) ≡ told s 3
   pub upto : i ≤ blockCount (told s 0) (told s 1)
 
-pub record BlockAsk (s : Bytes) (i : ℕ) : Type 0 where
+pub record CardBlockAsk (s : Bytes) (i : ℕ) : Type 0 where
   pub map : mapped s ≡ true
   pub within : i < length (cardBlocks s)
 

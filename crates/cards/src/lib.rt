@@ -10,7 +10,7 @@ ghost use Rattle.format.specs.Salvage.{Broken, blockCount, bounds, fromZero, ma
 ghost use Rattle.answers.specs.Salvage.{cardBlocks, reported};
 ghost use Rattle.shapes.specs.Salvage.{keptRow};
 ghost use Rattle.kinds.specs.Known.{kindBy};
-ghost use Rattle.cards.specs.Cards.{BlockAsk, PlainSays, SpanIs, Table, WholeAsk, WholeSays};
+ghost use Rattle.cards.specs.Cards.{CardBlockAsk, PlainSays, SpanIs, Table, WholeAsk, WholeSays};
 use kinds::Kind;
 use shapes::Kept;
 use symbols::Rule;
@@ -106,7 +106,7 @@ pub fn block_count(card: &[u8]) -> usize
 
 // The span of block i.
 pub fn span_of(card: &[u8], i: usize) -> Span
-    requires { ⌜ BlockAsk (now card) i ⌝ }
+    requires { ⌜ CardBlockAsk (now card) i ⌝ }
     ensures { λ r. ⌜ SpanIs (now (card .entry)) i (r .start) (r .end) (r .names) ⌝ }
 {
     let t = trailer::read(card);
@@ -133,7 +133,7 @@ pub fn is_whole(card: &[u8], span: Span) -> bool
 
 // The report row of block i.
 pub fn judge_block(card: &[u8], i: usize) -> Kept
-    requires { ⌜ BlockAsk (now card) i ⌝ }
+    requires { ⌜ CardBlockAsk (now card) i ⌝ }
     ensures { λ r. ⌜ keptRow r ≡ reported (getD (cardBlocks (now (card .entry))) i Broken) ⌝ }
 {
     let span = span_of(card, i);

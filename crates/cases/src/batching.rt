@@ -5,7 +5,7 @@ use book::Answer;
 use book::Row;
 ghost use Prim.Native.Nat.{_+_, _*_, _<_, _≤_};
 ghost use lib.ListN.{length};
-ghost use Rattle.cases.specs.Places.{Placed};
+ghost use Rattle.cases.specs.Places.{CasePlaced};
 ghost use Rattle.cases.specs.Sums.{Reduced};
 use crate::bytes;
 use crate::bytes::Sums;
@@ -110,8 +110,8 @@ fn print_batch(number: usize, book: &[u8], questions: &[u8], rows: [Row; 65], n:
 
 // Runs the case behind another. A case that is cut off, or has too many rows or places, is the last.
 pub fn run_one(number: usize, file: &[u8], before: Place) -> Place
-    requires { ⌜ Placed (now file) before × (before .next < length (now file)) ⌝ }
-    ensures { λ r. ⌜ Placed (now (file .entry)) r × (before .next < r .next) ⌝ }
+    requires { ⌜ CasePlaced (now file) before × (before .next < length (now file)) ⌝ }
+    ensures { λ r. ⌜ CasePlaced (now (file .entry)) r × (before .next < r .next) ⌝ }
 {
     let at = before.next;
     let last = places::without_book(before, file.len());

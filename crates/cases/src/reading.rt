@@ -2,7 +2,7 @@
 // length. Where the book's length is 0, the book is that of the case before.
 ghost use Prim.Native.Nat.{_<_};
 ghost use lib.ListN.{length};
-ghost use Rattle.cases.specs.Places.{Placed};
+ghost use Rattle.cases.specs.Places.{CasePlaced};
 use crate::bytes;
 use crate::lines;
 use crate::places;
@@ -21,8 +21,8 @@ fn print_read(number: usize, book: &[u8], position: usize, room: &mut [u8]) {
 
 // Runs the case behind another. A case that is cut off, or has too long a room, is the last.
 pub fn run_one(number: usize, file: &[u8], before: Place) -> Place
-    requires { ⌜ Placed (now file) before × (before .next < length (now file)) ⌝ }
-    ensures { λ r. ⌜ Placed (now (file .entry)) r × (before .next < r .next) ⌝ }
+    requires { ⌜ CasePlaced (now file) before × (before .next < length (now file)) ⌝ }
+    ensures { λ r. ⌜ CasePlaced (now (file .entry)) r × (before .next < r .next) ⌝ }
 {
     let at = before.next;
     let last = places::without_book(before, file.len());

@@ -1,7 +1,7 @@
 // The walk over a file of cases, the same for all calls. Nothing is taken on trust: whatever the file holds, the program is safe and ends.
 ghost use Prim.Native.Nat.{_<_};
 ghost use lib.ListN.{length};
-ghost use Rattle.cases.specs.Places.{Placed};
+ghost use Rattle.cases.specs.Places.{CasePlaced};
 use crate::asking;
 use crate::batching;
 use crate::building;
@@ -25,8 +25,8 @@ pub enum Call {
 
 // Runs the case behind another.
 fn run_one(call: Call, number: usize, file: &[u8], before: Place) -> Place
-    requires { ⌜ Placed (now file) before × (before .next < length (now file)) ⌝ }
-    ensures { λ r. ⌜ Placed (now (file .entry)) r × (before .next < r .next) ⌝ }
+    requires { ⌜ CasePlaced (now file) before × (before .next < length (now file)) ⌝ }
+    ensures { λ r. ⌜ CasePlaced (now (file .entry)) r × (before .next < r .next) ⌝ }
 {
     match call {
         Call::Build => {

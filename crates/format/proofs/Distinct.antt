@@ -13,7 +13,7 @@ use mathlib.Core.List.{List, List·Memᴰ as Among, List·Memᴰ·head as here, 
 use lib.ListN.{length, length-append}
 use Rattle.words.specs.Words.{Bytes, Rule, less, pick, same, word}
 use Rattle.words.specs.Rising.{Sure}
-use Rattle.words.proofs.Members.{Distinct, distinct-few, mapped, more, none, rising-distinct}
+use Rattle.words.proofs.Members.{Distinct, distinct-few, among-map, more, none, rising-distinct}
 use Rattle.words.proofs.Words.{less-asym, same-true}
 use Rattle.format.specs.Distinct.{distinct}
 use Rattle.format.specs.Merging.{kept, merged}
@@ -33,7 +33,7 @@ distinct-has {z} (x ∷ xs) (there m) = go (same x z) refl (distinct-has xs m)
 -- names are distinct where their words are
 names-distinct : (ρ : Rule) (xs : List Bytes) → Distinct (map (word ρ) xs) → Distinct xs
 names-distinct ρ [] d = none
-names-distinct ρ (x ∷ xs) (more n d) = more (λ m. n (mapped (word ρ) m)) (names-distinct ρ xs d)
+names-distinct ρ (x ∷ xs) (more n d) = more (λ m. n (among-map (word ρ) m)) (names-distinct ρ xs d)
 
 module _ (ρ : Rule) (ok : Sure ρ) where
   pub rising-few : (xs : List Bytes) → rising ρ [] xs ≡ true → (all : List Bytes) → ((z : Bytes) → Among z xs → Among z all) → length xs ≤ length (distinct all)

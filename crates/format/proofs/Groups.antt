@@ -87,12 +87,12 @@ above-at : (w : List ℕ) (vs : Words) (d : ℕ) → Above w vs → All (λ v. d
 above-at w [] d a s = nil
 above-at w (v ∷ vs) d (cons h a) (cons k s) = cons (less-at w v d h k) (above-at w vs d a s)
 
-pub climbs : (ws : Words) (d : ℕ) → Rises ws → Share d ws → Climbs d ws
-climbs [] d r s = flat
-climbs (w ∷ ws) d (rise p a r) (cons h s) = climb (above-at w ws d a (all-tail h)) (climbs ws d r (all-map (λ y k. all-tail k) s))
+pub share-climbs : (ws : Words) (d : ℕ) → Rises ws → Share d ws → Climbs d ws
+share-climbs [] d r s = flat
+share-climbs (w ∷ ws) d (rise p a r) (cons h s) = climb (above-at w ws d a (all-tail h)) (share-climbs ws d r (all-map (λ y k. all-tail k) s))
 
 pub ranked-group : (w v : List ℕ) (vs : Words) → Rises (w ∷ v ∷ vs) → Ranked (depth w (v ∷ vs)) (w ∷ v ∷ vs)
-ranked-group w v vs r = record { rises = r; climbs = climbs (w ∷ v ∷ vs) (depth w (v ∷ vs)) r (depth-share w (v ∷ vs)) }
+ranked-group w v vs r = record { rises = r; climbs = share-climbs (w ∷ v ∷ vs) (depth w (v ∷ vs)) r (depth-share w (v ∷ vs)) }
 
 pub ranked-right : (d : ℕ) (xs ys : Words) → Ranked d (xs ++ ys) → Ranked d ys
 ranked-right d xs ys r = record { rises = rises-right xs ys (r .rises); climbs = climbs-right xs ys (r .climbs) }
@@ -131,23 +131,23 @@ joined-groups d (w ∷ ws) = go (groups d ws) (joined-groups d ws)
     go (g ∷ gs) e = cut (eqb (at w d) (at (first g) d)) g gs ∙ ap (λ (r : Words). w ∷ r) e
 
 -- no group is empty, all words of one agree at d, and those after it have greater symbols there
-pub data Parted (d : ℕ) : List Words → Type 0 where
-  whole : Parted d []
-  part : {w : List ℕ} {g : Words} {gs : List Words} → Same d w g → All (λ y. at w d < at y d) (joinedGroups gs) → Parted d gs → Parted d ((w ∷ g) ∷ gs)
+pub data PartedGroups (d : ℕ) : List Words → Type 0 where
+  whole : PartedGroups d []
+  part : {w : List ℕ} {g : Words} {gs : List Words} → Same d w g → All (λ y. at w d < at y d) (joinedGroups gs) → PartedGroups d gs → PartedGroups d ((w ∷ g) ∷ gs)
 
-glue-parted : (d : ℕ) (w : List ℕ) (gs : List Words) → All (λ v. at w d ≤ at v d) (joinedGroups gs) → Parted d gs → Parted d (glue d w gs)
+glue-parted : (d : ℕ) (w : List ℕ) (gs : List Words) → All (λ v. at w d ≤ at v d) (joinedGroups gs) → PartedGroups d gs → PartedGroups d (glue d w gs)
 unfolding glue
 glue-parted d w gs c whole = part nil nil whole
 glue-parted d w gs c (part {w = v} {g = g} {gs = hs} s u p) = go (eqb (at w d) (at v d)) refl (eq-or-lt-of-le (all-head c))
   where
-    go : (t : Bool) → eqb (at w d) (at v d) ≡ t → (at w d ≡ at v d) ⊎ (at w d < at v d) → Parted d (pick t ((w ∷ v ∷ g) ∷ hs) ((w ∷ []) ∷ (v ∷ g) ∷ hs))
+    go : (t : Bool) → eqb (at w d) (at v d) ≡ t → (at w d ≡ at v d) ⊎ (at w d < at v d) → PartedGroups d (pick t ((w ∷ v ∷ g) ∷ hs) ((w ∷ []) ∷ (v ∷ g) ∷ hs))
     go true e l =
         let k : at w d ≡ at v d = eqb-true (at w d) (at v d) e in
         part {w = w} (cons (sym k) (all-map (λ y h. h ∙ sym k) s)) (all-map (λ y h. omega arith) u) p
     go false e (inl k) = absurd (eqb-false (at w d) (at v d) e k)
     go false e (inr l) = part {w = w} nil (cons l (all-append (all-map (λ y h. omega arith) s) (all-map (λ y h. omega arith) u))) (part s u p)
 
-pub groups-parted : (d : ℕ) (ws : Words) → Climbs d ws → Parted d (groups d ws)
+pub groups-parted : (d : ℕ) (ws : Words) → Climbs d ws → PartedGroups d (groups d ws)
 unfolding groups
 groups-parted d [] c = whole
 groups-parted d (w ∷ ws) (climb a c) =
@@ -165,7 +165,7 @@ short n (g ∷ gs) l = cons {a = g} (omega (arith, length-append g (joinedGroups
 pub shorter : {m n : ℕ} (gs : List Words) → m ≤ n → Short m gs → Short n gs
 shorter gs l a = all-map (λ h k. omega arith) a
 
-smaller : (d : ℕ) (w : List ℕ) (ws : Words) (gs : List Words) → Parted d gs → joinedGroups gs ≡ w ∷ ws → (Same d w ws → ⊥) → Short (length ws) gs
+smaller : (d : ℕ) (w : List ℕ) (ws : Words) (gs : List Words) → PartedGroups d gs → joinedGroups gs ≡ w ∷ ws → (Same d w ws → ⊥) → Short (length ws) gs
 smaller d w ws gs whole e n = nil
 smaller d w ws gs (part {w = u} {g = h} s a whole) e n =
     let f : u ∷ h ≡ w ∷ ws = sym (append-nil (u ∷ h)) ∙ e in
@@ -177,7 +177,7 @@ smaller d w ws gs (part {w = u} {g = h} s a (part {w = x} {g = k} {gs = hs} t b 
     cons {a = u ∷ h} (omega arith) (short (length ws) ((x ∷ k) ∷ hs) (omega arith))
 
 pub record Children (d : ℕ) (w v : List ℕ) (vs : Words) : Type 0 where
-  pub parted : Parted d (groups d (w ∷ v ∷ vs))
+  pub parted : PartedGroups d (groups d (w ∷ v ∷ vs))
   pub all : joinedGroups (groups d (w ∷ v ∷ vs)) ≡ w ∷ v ∷ vs
   pub small : Short (length (v ∷ vs)) (groups d (w ∷ v ∷ vs))
   pub rises : Rises (joinedGroups (groups d (w ∷ v ∷ vs)))
@@ -296,7 +296,7 @@ deeper d w v (u ∷ vs) (rise p (cons h a) (rise q b r)) (cons l c) (cons e s) =
 abbrev pub Few : ℕ → Type 0
 Few f = (i s : ℕ) (w : List ℕ) (g : Words) → Rises (w ∷ g) → length (w ∷ g) ≤ f → suc (length (tableWithin f i s (w ∷ g))) ≤ 2 * length (w ∷ g)
 
-rows-few : (f : ℕ) → Few f → (i d : ℕ) (gs : List Words) → Parted d gs → Rises (joinedGroups gs) → Short f gs
+rows-few : (f : ℕ) → Few f → (i d : ℕ) (gs : List Words) → PartedGroups d gs → Rises (joinedGroups gs) → Short f gs
     → length (rowWithin f i d gs) + length gs ≤ 2 * length (joinedGroups gs)
 unfolding rowBy
 rows-few f few i d gs whole r a = omega arith
@@ -310,7 +310,7 @@ rows-few f few i d gs (part {w = w} {g = g} {gs = hs} s u p) r (cons l a) =
     )
 
 -- a node has two-groups children at least
-two-groups : (d : ℕ) (w v : List ℕ) (vs : Words) (gs : List Words) → Parted d gs → joinedGroups gs ≡ w ∷ v ∷ vs → Short (length (v ∷ vs)) gs → 2 ≤ length gs
+two-groups : (d : ℕ) (w v : List ℕ) (vs : Words) (gs : List Words) → PartedGroups d gs → joinedGroups gs ≡ w ∷ v ∷ vs → Short (length (v ∷ vs)) gs → 2 ≤ length gs
 two-groups d w v vs gs whole e a = absurd (lt-irrefl 0 (omega (arith, ap length e)))
 two-groups d w v vs gs (part {w = u} {g = h} s b whole) e (cons l a) = absurd (lt-irrefl 0 (omega (arith, ap length (sym (append-nil (u ∷ h)) ∙ e))))
 two-groups d w v vs gs (part s b (part t c p)) e a = omega arith

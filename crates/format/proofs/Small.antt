@@ -23,7 +23,7 @@ use Rattle.format.specs.Spans.{nodeTable}
 use Rattle.format.specs.Widths.{widest}
 use Rattle.format.specs.Records.{longest}
 use Rattle.format.proofs.Entries.{by-blocks, entries-first}
-use Rattle.format.proofs.Groups.{Parted, Short, children, depth-length, joinedGroups, part, rowWithin, shorter, whole, within-few}
+use Rattle.format.proofs.Groups.{PartedGroups, Short, children, depth-length, joinedGroups, part, rowWithin, shorter, whole, within-few}
 use Rattle.format.proofs.Numbers.{bytes-all, numbers-bytes, take-bytes}
 use Rattle.format.proofs.Widths.{widest-low}
 
@@ -43,7 +43,7 @@ unfolding allFields
 fields-append [] ss = refl
 fields-append (r ∷ rs) ss = ap (λ (l : List ℕ). fields r ++ l) (fields-append rs ss)
 
-row-small : (f : ℕ) → SmallTable f → (i d : ℕ) (gs : List Words) → Parted d gs → Rises (joinedGroups gs) → All Modest (joinedGroups gs) → Short f gs
+row-small : (f : ℕ) → SmallTable f → (i d : ℕ) (gs : List Words) → PartedGroups d gs → Rises (joinedGroups gs) → All Modest (joinedGroups gs) → Short f gs
     → i + length (joinedGroups gs) ≤ 2000 → Two (allFields (rowWithin f i d gs))
 unfolding rowBy allFields
 row-small f small i d gs whole r a t n = nil

@@ -21,7 +21,7 @@ use Rattle.words.proofs.Rising.{nth-less, nth-positive, span-all, span-cons, sp
 use Rattle.words.proofs.Words.{apart, between, less-at, less-parts, shared-comm, shared-le, shared-self, shared-trans}
 use Rattle.format.specs.Spans.{deep, rowTable, Climbs, Ranked, nodeTable}
 use Rattle.format.specs.Nodes.{depth, fork, leaf, table}
-use Rattle.format.proofs.Groups.{Same, Share, climbs, depth-last, last, node-few, node-more, node-one, ranked-group, ranked-right, row-none, row-run, run-end, run-same, table-root}
+use Rattle.format.proofs.Groups.{Same, Share, depth-last, last, node-few, node-more, node-one, ranked-group, ranked-right, row-none, row-run, run-end, run-same, share-climbs, table-root}
 
 module _ (ws : Words) where
   last-snoc : (v : List ℕ) (vs us : Words) (z : List ℕ) → v ∷ vs ≡ us ++ (z ∷ []) → last v vs ≡ z
@@ -155,4 +155,4 @@ module _ (ws : Words) where
     ranked-within d lo hi a b h =
         let share : Share d (span ws lo hi) = span-all ws lo hi (omega arith) b (λ i l m.
         span-all ws lo hi (omega arith) b (λ k x y. omega (arith, span-share lo hi i k b l m x y))) in
-        record { rises = span-rises ws lo hi r; climbs = climbs (span ws lo hi) d (span-rises ws lo hi r) share }
+        record { rises = span-rises ws lo hi r; climbs = share-climbs (span ws lo hi) d (span-rises ws lo hi r) share }

@@ -11,7 +11,7 @@ use mathlib.Core.Bool.{true}
 use mathlib.Core.List.{List, List·Memᴰ as Among, Memᴰ·cast, [], _∷_, map}
 use Rattle.words.specs.Words.{Bytes, Rule, word}
 use Rattle.words.specs.Rising.{Sure}
-use Rattle.words.proofs.Members.{map-injective, mapped, rising-unique, unmapped}
+use Rattle.words.proofs.Members.{map-injective, among-map, rising-unique, unmapped}
 use Rattle.format.specs.Merging.{merged}
 use Rattle.format.specs.Records.{rising}
 use Rattle.format.proofs.Merging.{among-either, among-left, among-word, merged-both, merged-rises, rising-only}
@@ -28,18 +28,18 @@ module _ (ρ : Rule) (ok : Sure ρ) where
 
   module _ (w : List ℕ) (xs ys : List Bytes) where
     pub word-left : In w xs → In w (merged ρ xs ys)
-    word-left m = let s = unmapped (word ρ) xs m in Memᴰ·cast (s .is) (mapped (word ρ) (among-left ρ xs ys (s .member)))
+    word-left m = let s = unmapped (word ρ) xs m in Memᴰ·cast (s .is) (among-map (word ρ) (among-left ρ xs ys (s .member)))
 
     pub word-right : In w ys → In w (merged ρ xs ys)
     word-right m =
         let s = unmapped (word ρ) ys m in
         let t = among-word ρ ok xs ys (s .member) in
-        Memᴰ·cast (s .is ∙ t .is) (mapped (word ρ) (t .member))
+        Memᴰ·cast (s .is ∙ t .is) (among-map (word ρ) (t .member))
 
     pub word-either : In w (merged ρ xs ys) → In w xs ⊎ In w ys
     word-either m =
         let s = unmapped (word ρ) (merged ρ xs ys) m in
-        ⊎-elim (λ k. inl (Memᴰ·cast (s .is) (mapped (word ρ) k))) (λ k. inr (Memᴰ·cast (s .is) (mapped (word ρ) k))) (among-either ρ xs ys (s .member))
+        ⊎-elim (λ k. inl (Memᴰ·cast (s .is) (among-map (word ρ) k))) (λ k. inr (Memᴰ·cast (s .is) (among-map (word ρ) k))) (among-either ρ xs ys (s .member))
 
   -- rising names with the same words have their words in the same order
   same-words : (xs ys : List Bytes) → Rising xs → Rising ys → ((w : List ℕ) → In w xs → In w ys) → ((w : List ℕ) → In w ys → In w xs) → map (word ρ) xs ≡ map (word ρ) ys

@@ -1,5 +1,5 @@
 -- Laws of the heads of two lists.
---     Headed, headed            a list that has not ended: its next record, the name in it, and the records behind
+--     Headed, head-read            a list that has not ended: its next record, the name in it, and the records behind
 --     shows-alone, shows-only, shows-first, shows-second     the head that is shown
 --     alone-second, alone-first, lesser-first, lesser-second, lesser-both     ways out of `next_head`
 --     rest-of                   a list that reads well is the records of its names
@@ -23,7 +23,7 @@ use Rattle.format.specs.Records.{encode}
 use Rattle.format.proofs.Merging.{merged-both, merged-first, merged-none, merged-second, rising-only}
 use Rattle.format.proofs.Records.{First, read-names, rising-first}
 use Rattle.answers.specs.Heads.{Head, lesserHead}
-use Rattle.heads.specs.Heads.{HeadAsk, LesserSays, RestOf, Step, headIn}
+use Rattle.heads.specs.Heads.{HeadAsk, LesserSays, RestOf, HeadStep, headIn}
 use Rattle.heads.specs.declared.Lesser.{Lesser}
 use Rattle.heads.specs.declared.Lesser.the-variants.{Both, First as FirstLess, Second}
 
@@ -39,10 +39,10 @@ pub record Headed (s : Bytes) (at size : ℕ) (xs : List Bytes) : Type 0 where
   pub name-is : take (at + size - (at + 1)) (drop (at + 1) s) ≡ x
   pub record-is : take size (drop at s) ≡ encode (x ∷ [])
 
-pub headed : (s : Bytes) (at size : ℕ) (xs : List Bytes) → RestOf s at xs → (at ≡ length s → ⊥) → size ≡ 1 + getD s at 0 → Headed s at size xs
+pub head-read : (s : Bytes) (at size : ℕ) (xs : List Bytes) → RestOf s at xs → (at ≡ length s → ⊥) → size ≡ 1 + getD s at 0 → Headed s at size xs
 unfolding encode
-headed s at size [] r n e = absurd (n (omega (arith, ap length (r .bytes), length-drop at s, r .within)))
-headed s at size (x ∷ xs) r n e =
+head-read s at size [] r n e = absurd (n (omega (arith, ap length (r .bytes), length-drop at s, r .within)))
+head-read s at size (x ∷ xs) r n e =
     let f = rising-first plain [] x xs (r .rises) in
     let byte : getD s at 0 ≡ length x = zero-at ∙ ap (λ (l : Bytes). getD l 0 0) (r .bytes) in
     let big : size ≡ suc (length x) = omega arith in
@@ -127,11 +127,11 @@ module _ {first second : Bytes} {i j : ℕ} {xs ys : List Bytes} (a : RestOf fir
       go [] f = refl
       go (z ∷ zs) f = absurd (lt-irrefl 0 (omega (arith, ap length f, length-drop j second)))
 
-  pub alone-second : i ≡ length first → 0 < length xs + length ys → (size : ℕ) → size ≡ 1 + getD second j 0 → Step first second i j xs ys (headIn true j size i (j + size))
+  pub alone-second : i ≡ length first → 0 < length xs + length ys → (size : ℕ) → size ≡ 1 + getD second j 0 → HeadStep first second i j xs ys (headIn true j size i (j + size))
   unfolding merged
   alone-second e some size z =
       let none : xs ≡ [] = none-left e in
-      let h = headed second j size ys b (λ f. lt-irrefl 0 (omega (arith, ap length none, ap length (none-right f)))) z in
+      let h = head-read second j size ys b (λ f. lt-irrefl 0 (omega (arith, ap length none, ap length (none-right f)))) z in
       record {
         name = h .x;
         xs-left = [];
@@ -149,12 +149,12 @@ module _ {first second : Bytes} {i j : ℕ} {xs ys : List Bytes} (a : RestOf fir
   -- a record of the first list is there
   module _ (here : i ≡ length first → ⊥) (size : ℕ) (z : size ≡ 1 + getD first i 0) where
     p : Headed first i size xs
-    p = headed first i size xs a here z
+    p = head-read first i size xs a here z
 
     pub head-fits : i + size ≤ length first
     head-fits = p .fits
 
-    pub alone-first : j ≡ length second → Step first second i j xs ys (headIn false i size (i + size) j)
+    pub alone-first : j ≡ length second → HeadStep first second i j xs ys (headIn false i size (i + size) j)
     alone-first e =
         let none : ys ≡ [] = none-right e in
         record {
@@ -174,7 +174,7 @@ module _ {first second : Bytes} {i j : ℕ} {xs ys : List Bytes} (a : RestOf fir
     -- and one of the second
     module _ (there : j ≡ length second → ⊥) (other : ℕ) (w : other ≡ 1 + getD second j 0) where
       q : Headed second j other ys
-      q = headed second j other ys b there w
+      q = head-read second j other ys b there w
 
       heads : merged plain xs ys ≡ merged plain (p .x ∷ p .others) (q .x ∷ q .others)
       heads = ap₂ (merged plain) (p .all) (q .all)
@@ -186,7 +186,7 @@ module _ {first second : Bytes} {i j : ℕ} {xs ys : List Bytes} (a : RestOf fir
       abbrev y : Bytes
       y = take (j + other - (j + 1)) (drop (j + 1) second)
 
-      pub lesser-first : {r : Lesser} → LesserSays x y r → r ≡ FirstLess → Step first second i j xs ys (headIn false i size (i + size) j)
+      pub lesser-first : {r : Lesser} → LesserSays x y r → r ≡ FirstLess → HeadStep first second i j xs ys (headIn false i size (i + size) j)
       lesser-first {r} says e =
           let l : less (word plain (p .x)) (word plain (q .x)) ≡ true = rw (← p .name-is, ← q .name-is) (rw e at says) in
           record {
@@ -203,7 +203,7 @@ module _ {first second : Bytes} {i j : ℕ} {xs ys : List Bytes} (a : RestOf fir
             lesser = shows-first i j size (p .size-is) (p .all) (q .all) (less-asym (word plain (p .x)) (word plain (q .x)) l);
           }
 
-      pub lesser-second : {r : Lesser} → LesserSays x y r → r ≡ Second → Step first second i j xs ys (headIn true j other i (j + other))
+      pub lesser-second : {r : Lesser} → LesserSays x y r → r ≡ Second → HeadStep first second i j xs ys (headIn true j other i (j + other))
       lesser-second {r} says e =
           let l : less (word plain (q .x)) (word plain (p .x)) ≡ true = rw (← p .name-is, ← q .name-is) (rw e at says) in
           record {
@@ -220,7 +220,7 @@ module _ {first second : Bytes} {i j : ℕ} {xs ys : List Bytes} (a : RestOf fir
             lesser = shows-second i j other (q .size-is) (p .all) (q .all) l;
           }
 
-      pub lesser-both : {r : Lesser} → LesserSays x y r → r ≡ Both → Step first second i j xs ys (headIn false i size (i + size) (j + other))
+      pub lesser-both : {r : Lesser} → LesserSays x y r → r ≡ Both → HeadStep first second i j xs ys (headIn false i size (i + size) (j + other))
       lesser-both {r} says e =
           let l : word plain (p .x) ≡ word plain (q .x) = rw (← p .name-is, ← q .name-is) (rw e at says) in
           record {
@@ -274,7 +274,7 @@ pub ask-fits : {first second : Bytes} {i j : ℕ} → HeadAsk first i second j �
 ask-fits k size here z = head-fits (k .ahead) (k .beside) here size z
 
 pub ask-other-fits : {first second : Bytes} {i j : ℕ} → HeadAsk first i second j → (size : ℕ) → (j ≡ length second → ⊥) → size ≡ 1 + getD second j 0 → j + size ≤ length second
-ask-other-fits {second = second} {j = j} k size here z = headed second j size (k .ys) (k .beside) here z .fits
+ask-other-fits {second = second} {j = j} k size here z = head-read second j size (k .ys) (k .beside) here z .fits
 
 pub second-fits : {first second : Bytes} {i j : ℕ} → HeadAsk first i second j → (size : ℕ) → i ≡ length first → size ≡ 1 + getD second j 0 → j + size ≤ length second
 second-fits {first} {second} {i} {j} k size e z = ask-other-fits k size (λ f. lt-irrefl j (omega (arith, second-left k e))) z

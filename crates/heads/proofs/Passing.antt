@@ -1,5 +1,5 @@
 -- Laws of passing records.
---     Passes, passes-start, passes-here, passes-more, passes-ended, passes-all     record by record
+--     PassesOn, passes-start, passes-here, passes-more, passes-ended, passes-all     record by record
 -- Assumes nothing.
 use Prim.Native.Nat.{ℕ, _+_, _-_, _≤_, _<_}
 use native.Mathlib.Omega.{arith}
@@ -13,7 +13,7 @@ use Rattle.format.proofs.Records.{encode-append}
 use Rattle.numbers.proofs.Parts.{part-length}
 use Rattle.heads.specs.Heads.{RestOf}
 use Rattle.heads.specs.Passing.{ListAsk, PassedTo}
-use Rattle.heads.proofs.Heads.{headed, no-records}
+use Rattle.heads.proofs.Heads.{head-read, no-records}
 
 -- of the names xs those of `done` are passed, which with `left` are so many
 pub record Part (s : Bytes) (count at left : ℕ) (xs : List Bytes) : Type 0 where
@@ -24,28 +24,28 @@ pub record Part (s : Bytes) (count at left : ℕ) (xs : List Bytes) : Type 0 whe
   pub rest : RestOf s at others
   pub size : at ≡ length (encode done)
 
-pub record Passes (s : Bytes) (count at left : ℕ) : Type 0 where
+pub record PassesOn (s : Bytes) (count at left : ℕ) : Type 0 where
   pub within : at ≤ length s
   pub state : (xs : List Bytes) → RestOf s 0 xs → Part s count at left xs
 
-pub passes-start : (s : Bytes) (count : ℕ) → Passes s count 0 count
+pub passes-start : (s : Bytes) (count : ℕ) → PassesOn s count 0 count
 unfolding encode
 passes-start s count = record {
   within = omega arith;
   state = λ xs r. record { done = []; others = xs; all = refl; counted = omega arith; rest = r; size = refl };
 }
 
-module _ {s : Bytes} {count at left : ℕ} (k : Passes s count at left) where
+module _ {s : Bytes} {count at left : ℕ} (k : PassesOn s count at left) where
   module _ (n : at ≡ length s → ⊥) (size : ℕ) (e : size ≡ 1 + getD s at 0) where
     pub passes-fits : ListAsk s → at + size ≤ length s
-    passes-fits q = headed s at size (k .state (q .xs) (q .rest) .others) (k .state (q .xs) (q .rest) .rest) n e .fits
+    passes-fits q = head-read s at size (k .state (q .xs) (q .rest) .others) (k .state (q .xs) (q .rest) .rest) n e .fits
 
-    pub passes-more : ListAsk s → 0 < left → Passes s count (at + size) (left - 1)
+    pub passes-more : ListAsk s → 0 < left → PassesOn s count (at + size) (left - 1)
     passes-more q l = record { within = passes-fits q; state = λ xs r. more xs (k .state xs r) }
       where
         more : (xs : List Bytes) → Part s count at left xs → Part s count (at + size) (left - 1) xs
         more xs o =
-            let h = headed s at size (o .others) (o .rest) n e in
+            let h = head-read s at size (o .others) (o .rest) n e in
             let long : length (encode (h .x ∷ [])) ≡ size = ap length (sym (h .record-is)) ∙ part-length s at size (h .fits) in
             record {
               done = o .done ++ (h .x ∷ []);

@@ -15,7 +15,7 @@ use Rattle.words.specs.Words.{Bytes, pick}
 use Rattle.format.specs.Alone.{BothRead}
 use Rattle.answers.specs.Heads.{Head as Numbers, headAt, headOf, lesserHead}
 use Rattle.answers.proofs.Heads.{head-read}
-use Rattle.heads.specs.Heads.{HeadAsk, HeadSays, RestOf, Step, shownBy}
+use Rattle.heads.specs.Heads.{HeadAsk, HeadSays, RestOf, HeadStep, shownBy}
 use Rattle.heads.specs.Passing.{ListAsk, PassedTo}
 use Rattle.heads.specs.declared.Next.{Next}
 use Rattle.heads.proofs.Heads.{no-records, rest-of, some-left}
@@ -52,7 +52,7 @@ module _ {s t : Bytes} (b : BothRead s t) where
       behind-ask = record { xs = drop c (b .xs); ys = drop d (b .ys); ahead = ahead; beside = beside; some = some-left ahead beside (omega (arith, passed-within)) }
 
       module _ {r : Next} (says : HeadSays s i t j r) where
-        step : Step s t i j (drop c (b .xs)) (drop d (b .ys)) r
+        step : HeadStep s t i j (drop c (b .xs)) (drop d (b .ys)) r
         step = says (drop c (b .xs)) (drop d (b .ys)) ahead beside (some-left ahead beside (omega (arith, passed-within)))
 
         pub head-some : (k : ℕ) → k ≤ 1 → k ≤ r .size

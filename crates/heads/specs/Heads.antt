@@ -4,7 +4,7 @@
 --     headIn            a head, by its numbers
 --     HeadAsk           what is asked for the lesser head of two lists
 --     shownBy           the head as a step shows it
---     Step, HeadSays    it is the next name of the union, and the lesser head; for any names that the records are
+--     HeadStep, HeadSays    it is the next name of the union, and the lesser head; for any names that the records are
 -- The laws are in proofs/. Assumes nothing: these are definitions.
 use Prim.Native.Nat.{ℕ, _+_, _-_, _≤_, _<_}
 use mathlib.Core.Path.{_≡_}
@@ -45,7 +45,7 @@ abbrev pub shownBy : Next → Head
 shownBy r = (pick (r .second) 2 1, r .from + 1, r .size - 1)
 
 -- `name` comes next, its record stands where r says, which is the lesser head, and the lists go on with others
-pub record Step (first second : Bytes) (i j : ℕ) (xs ys : List Bytes) (r : Next) : Type 0 where
+pub record HeadStep (first second : Bytes) (i j : ℕ) (xs ys : List Bytes) (r : Next) : Type 0 where
   pub name : Bytes
   pub xs-left : List Bytes
   pub ys-left : List Bytes
@@ -59,4 +59,4 @@ pub record Step (first second : Bytes) (i j : ℕ) (xs ys : List Bytes) (r : Nex
   pub lesser : shownBy r ≡ lesserHead (1, i + 1, length (getD xs 0 [])) (2, j + 1, length (getD ys 0 [])) xs ys
 
 abbrev pub HeadSays : Bytes → ℕ → Bytes → ℕ → Next → Type 0
-HeadSays first i second j r = (xs ys : List Bytes) → RestOf first i xs → RestOf second j ys → 0 < length xs + length ys → Step first second i j xs ys r
+HeadSays first i second j r = (xs ys : List Bytes) → RestOf first i xs → RestOf second j ys → 0 < length xs + length ys → HeadStep first second i j xs ys r

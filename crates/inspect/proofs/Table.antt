@@ -35,7 +35,7 @@ use Rattle.streams.proofs.Here.{first-low, words-count}
 use Rattle.standing.specs.Maps.{Roomy, inRows, mapBy, mapIn, mapOf, recordAt}
 use Rattle.standing.specs.Stands.{NodeAt, Stands}
 use Rattle.standing.proofs.Bytes.{bytes-stand, stands-bytes}
-use Rattle.standing.proofs.Walk.{Head, node-head}
+use Rattle.standing.proofs.Walk.{NodeHead, node-head}
 use Rattle.inspect.specs.Check.{LeafSays, NodeAsk, NodeSays, TableAsk, isRows}
 use Rattle.inspect.proofs.Nodes.{leaf-not, leaf-stands}
 
@@ -121,7 +121,7 @@ module _ (b : Bytes) (start end n : ℕ) (held : Held b) (a : TableAsk b start e
     some : 0 < n
     some = omega arith
 
-    head : (stride step : ℕ) → Root stride step b n start end → Head (mapBy stride step) b (wordsIn b) 0 0 (0 + n) start end
+    head : (stride step : ℕ) → Root stride step b n start end → NodeHead (mapBy stride step) b (wordsIn b) 0 0 (0 + n) start end
     head stride step g = node-head (mapBy stride step) b (wordsIn b) (a .known .rises) 0 0 (0 + n) start end (omega (arith, some)) (omega (arith, words-count (ruleIn b) b, a .count)) g
 
     pub table-short : end - start < nodeSize → false ≡ isRows b start end

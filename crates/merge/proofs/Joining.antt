@@ -15,7 +15,7 @@ use Rattle.format.specs.Outcomes.{over}
 use Rattle.format.proofs.Records.{encode-append}
 use Rattle.numbers.proofs.Parts.{part-length}
 use Rattle.records.specs.Putting.{RecordPut}
-use Rattle.heads.specs.Heads.{HeadAsk, HeadSays, RestOf, Step}
+use Rattle.heads.specs.Heads.{HeadAsk, HeadSays, RestOf, HeadStep}
 use Rattle.heads.specs.declared.Next.{Next}
 use Rattle.heads.proofs.Heads.{no-records, some-left}
 use Rattle.merge.specs.Joining.{Joined, MergeAsk, MergedInto}
@@ -57,7 +57,7 @@ module _ {first second room₀ room : Bytes} {i j names bytes : ℕ} (k : Joins 
     joins-ask h = record { xs = now .xs-left; ys = now .ys-left; ahead = now .ahead; beside = now .beside; some = some-left (now .ahead) (now .beside) h }
 
     module _ (h : i + j < length first + length second) {r : Next} (says : HeadSays first i second j r) where
-      head-step : Step first second i j (now .xs-left) (now .ys-left) r
+      head-step : HeadStep first second i j (now .xs-left) (now .ys-left) r
       unfolding now joins-ask
       head-step = says (now .xs-left) (now .ys-left) (now .ahead) (now .beside) (joins-ask h .some)
 

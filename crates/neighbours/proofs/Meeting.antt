@@ -1,5 +1,5 @@
 -- What a name shares with the one before it: by its count, or along the block of the one before.
---     rule-is, folded-other                       the rule that the code took is the book's; the two are two
+--     rule-is                                     the rule that the code took is the book's
 --     start-..                                    where a block starts
 --     meet-reads, meet-before                     the entries' bytes
 --     meet-low                                    the count is never more than what they share
@@ -30,20 +30,17 @@ use Rattle.format.specs.Records.{longest}
 use Rattle.format.specs.Book.{number, namesOf, told}
 use Rattle.symbols.specs.Rules.{byKind, ruleBy}
 use Rattle.symbols.specs.declared.Rule.{Rule as ByRule}
-use Rattle.symbols.specs.declared.Rule.the-variants.{Folded, Plain}
+use Rattle.symbols.specs.declared.Rule.the-variants.{Plain}
 use Rattle.symbols.proofs.Symbols.{rule-by}
 use Rattle.numbers.proofs.Parts.{packed-high, packed-low}
 use Rattle.streams.specs.Streams.{Here, Known, offsetAt, offsetFrom, restAt}
 use Rattle.streams.proofs.Here.{Comes, comes, here-fits, here-rises, name-short, words-nth}
-use Rattle.neighbours.specs.Neighbours.{AlongAsk, AlongSays, MeetAsk, Meets, PartSays, StartAsk, sharedBefore, startOf, wholeBefore}
+use Rattle.neighbours.specs.Neighbours.{AlongAsk, AlongSays, MeetAsk, Meets, PartSays, StartAsk, sharedBefore, blockStart, wholeBefore}
 use Rattle.neighbours.proofs.Along.{before-is}
 
 -- t is what the book told, and r the way that was taken
 rule-is : (κ : BookKind) (t r : ByRule) → t ≡ byKind κ → t ≡ r → ruleOf κ ≡ ruleBy r
 rule-is κ t r te e = sym (rule-by κ) ∙ ap ruleBy (sym te ∙ e)
-
-pub folded-other : _≡_ {A = ByRule} Folded Plain → ⊥
-folded-other e = lt-irrefl 0 (omega (arith, ap (λ (r : ByRule). ruleBy r 65) e))
 
 -- ---- where a block starts
 
@@ -66,7 +63,7 @@ module _ (b : Bytes) (i : ℕ) (ask : StartAsk b i) (k s : ℕ) (ke : k ≡ told
   pub start-sum : s < 65536 → Fits w64 (s + 2 * (i / k))
   start-sum h = omega (arith, div-le-self i k, ask .within, ask .few)
 
-  pub start-told : (r : ℕ) → r ≡ number b (s + 2 * (i / k)) → r ≡ startOf b i
+  pub start-told : (r : ℕ) → r ≡ number b (s + 2 * (i / k)) → r ≡ blockStart b i
   start-told r e = e ∙ ap₂ (λ (n m : ℕ). number b (n + 2 * m)) se same ∙ ask .blocks .place (i / told b 1) within
 
 -- ---- the two names
@@ -208,7 +205,7 @@ module _ (b : Bytes) (p a i : ℕ) (m : MeetAsk b p a i) where
         whole = w;
       }
 
-      go : (v : Bool) → eqb (getD b p 0) 0 ≡ v → start ≡ pick v p (startOf b (i - 1)) → AlongAsk r b start a c
+      go : (v : Bool) → eqb (getD b p 0) 0 ≡ v → start ≡ pick v p (blockStart b (i - 1)) → AlongAsk r b start a c
       go true q at-p = asks (pred i) (omega (arith, m .some)) (at-p ∙ m .before) (ap (λ (o : ℕ). getD b o 0) at-p ∙ eqb-true (getD b p 0) 0 q)
       go false q at-first =
           let l : (i - 1) / told b 1 * told b 1 + (i - 1) % told b 1 ≡ i - 1 = div-add-mod' (i - 1) (told b 1) in
@@ -227,7 +224,7 @@ module _ (b : Bytes) (p a i : ℕ) (m : MeetAsk b p a i) where
 
 module _ (b : Bytes) (p i : ℕ) where
   pub whole-own : getD b p 0 ≡ 0 → p ≡ wholeBefore b p i
-  whole-own z = ap (λ (v : Bool). pick v p (startOf b i)) (sym (eq-eqb (getD b p 0) 0 z))
+  whole-own z = ap (λ (v : Bool). pick v p (blockStart b i)) (sym (eq-eqb (getD b p 0) 0 z))
 
-  pub whole-first : (getD b p 0 ≡ 0 → ⊥) → (r : ℕ) → r ≡ startOf b i → r ≡ wholeBefore b p i
-  whole-first n r e = e ∙ ap (λ (v : Bool). pick v p (startOf b i)) (sym (ne-eqb (getD b p 0) 0 n))
+  pub whole-first : (getD b p 0 ≡ 0 → ⊥) → (r : ℕ) → r ≡ blockStart b i → r ≡ wholeBefore b p i
+  whole-first n r e = e ∙ ap (λ (v : Bool). pick v p (blockStart b i)) (sym (ne-eqb (getD b p 0) 0 n))

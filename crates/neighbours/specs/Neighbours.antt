@@ -3,12 +3,12 @@
 --     EndAsk, endBy         up to where a rest is held to another one
 --     NextAsk, sharedNext   one entry further along a block
 --     AlongAsk, AlongSays   entries from a block's start on up to the one at a; what the name there shares with the one before
---     StartAsk, startOf     where the block of a name starts
+--     StartAsk, blockStart     where the block of a name starts
 --     wholeBefore           an entry that stores a name whole, from which the names up to number i can be gone along
 --     sharedBefore          what a name shares with the one before it
 --     MeetAsk, Meets, PartSays     name i is not the first, its entry stands at a, and that of the name before at p; they can part at d; the
 --                           entry of name i where they can, or 0 where they don't
---     CountAsk              that, where what they share has to be counted
+--     AlongCountAsk              that, where what they share has to be counted
 -- The laws are in proofs/. Assumes nothing: these are definitions.
 use Prim.Native.Nat.{ℕ, max, min, pred, _+_, _-_, _*_, _/_, _≤_, _<_}
 use mathlib.Core.Path.{_≡_}
@@ -88,12 +88,12 @@ pub record StartAsk (b : Bytes) (i : ℕ) : Type 0 where
   pub within : i < length (namesOf b)
   pub few : length (namesOf b) ≤ mostNames
 
-abbrev pub startOf : Bytes → ℕ → ℕ
-startOf b i = offsetAt b (i / told b 1 * told b 1)
+abbrev pub blockStart : Bytes → ℕ → ℕ
+blockStart b i = offsetAt b (i / told b 1 * told b 1)
 
 -- the name at p is stored whole, or else its block's first name is
 abbrev pub wholeBefore : Bytes → ℕ → ℕ → ℕ
-wholeBefore b p i = pick (eqb (getD b p 0) 0) p (startOf b i)
+wholeBefore b p i = pick (eqb (getD b p 0) 0) p (blockStart b i)
 
 -- what name i shares with the one before it, in symbols
 abbrev pub sharedBefore : Bytes → ℕ → ℕ
@@ -109,7 +109,7 @@ pub record MeetAsk (b : Bytes) (p a i : ℕ) : Type 0 where
   pub here : Here b i a
 
 -- by the plain rule a count says it, but for 0
-pub record CountAsk (b : Bytes) (p a i : ℕ) : Type 0 where
+pub record AlongCountAsk (b : Bytes) (p a i : ℕ) : Type 0 where
   pub meet : MeetAsk b p a i
   pub whole : byKind (kindOf b) ≡ Plain → getD b a 0 ≡ 0
 

@@ -7,7 +7,7 @@ ghost use lib.ListN.{getD, length};
 ghost use Rattle.symbols.specs.Rules.{ruleBy};
 ghost use Rattle.symbols.specs.declared.Rule.the-variants.{Folded, Plain};
 ghost use Rattle.streams.specs.Streams.{entryEnd};
-ghost use Rattle.neighbours.specs.Neighbours.{AlongAsk, AlongSays, CountAsk, EndAsk, MeetAsk, NextAsk, PartSays, RestAsk, StartAsk, endBy, sharedBefore, sharedNext, sharedParts, startOf, wholeBefore};
+ghost use Rattle.neighbours.specs.Neighbours.{AlongAsk, AlongSays, AlongCountAsk, EndAsk, MeetAsk, NextAsk, PartSays, RestAsk, StartAsk, endBy, sharedBefore, sharedNext, sharedParts, blockStart, wholeBefore};
 use symbols::Rule;
 
 // Where the entry after the one at an offset stands.
@@ -102,7 +102,7 @@ fn folded_along(book: &[u8], start: usize, a: usize, c: usize) -> usize
 // Where the block of name number i starts.
 fn start_of(book: &[u8], i: usize) -> usize
     requires { ⌜ StartAsk (now book) i ⌝ }
-    ensures { λ r. ⌜ r ≡ startOf (now (book .entry)) i ⌝ }
+    ensures { λ r. ⌜ r ≡ blockStart (now (book .entry)) i ⌝ }
 {
     let k = trailer::block(book);
     numbers::number_at(book, trailer::blocks_at(book) + 2 * (i / k))
@@ -123,7 +123,7 @@ fn whole_before(book: &[u8], p: usize, i: usize) -> usize
 // walk over the node table keeps no offset while this counts. Kept out of line on purpose: it has two call sites that the compiler can't
 // make one, and so it is not put into the recursion, which would need more stack and more instructions with the loops inside (DECISIONS 135).
 fn shared_along(book: &[u8], p: usize, a: usize, i: usize) -> usize
-    requires { ⌜ CountAsk (now book) p a i ⌝ }
+    requires { ⌜ AlongCountAsk (now book) p a i ⌝ }
     ensures { λ r. ⌜ r ≡ a + 65536 * sharedBefore (now (book .entry)) i ⌝ }
 {
     let start = whole_before(book, p, i - 1);

@@ -30,7 +30,7 @@ use Rattle.format.proofs.Numbers.{two-bytes}
 use Rattle.format.proofs.Groups.{row-few, table-root}
 use Rattle.format.proofs.Widths.{widest-one, widest-span}
 use Rattle.format.proofs.Spans.{ranked-rest, ranked-span, ranked-within, span-few, table-more, table-none, table-one, table-run}
-use Rattle.nodes.specs.Frames.{Cur, Framed, Open, depthIn, endIn, frameCount, frameSize, markIn, more, none, raised, sharesAt, symbolOf, widthIn, withFrame}
+use Rattle.nodes.specs.Frames.{Cur, FramesStand, Open, depthIn, endIn, frameCount, frameSize, markIn, more, none, raised, sharesAt, symbolOf, widthIn, withFrame}
 
 -- a record by its numbers
 abbrev pub nodeBy : ℕ → ℕ → ℕ → ℕ → ℕ → ℕ → Node
@@ -163,14 +163,14 @@ module _ (frames : List ℕ) (t w : ℕ) where
   unfolding raised
   raised-length = length-set frames (frameSize * t + 1) (max w (widthIn frames t))
 
-pub framed-with : {frames : List ℕ} {t : ℕ} (d w e m : ℕ) → Framed frames t → suc t < frameCount → Framed (withFrame frames (suc t) d w e m) (suc t)
+pub framed-with : {frames : List ℕ} {t : ℕ} (d w e m : ℕ) → FramesStand frames t → suc t < frameCount → FramesStand (withFrame frames (suc t) d w e m) (suc t)
 framed-with {frames} {t} d w e m f h = record {
   sentinel = frame-below frames (suc t) d w e m 0 (omega arith) .depth ∙ f .sentinel;
   slots = with-length frames (suc t) d w e m ∙ f .slots;
   slot = h;
 }
 
-pub framed-raised : {frames : List ℕ} {t : ℕ} (w : ℕ) → Framed frames t → Framed (raised frames t w) t
+pub framed-raised : {frames : List ℕ} {t : ℕ} (w : ℕ) → FramesStand frames t → FramesStand (raised frames t w) t
 framed-raised {frames} {t} w f = record {
   sentinel = frame-raised frames t w 0 .depth ∙ f .sentinel;
   slots = raised-length frames t w ∙ f .slots;

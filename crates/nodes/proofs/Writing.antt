@@ -1,6 +1,6 @@
 -- Laws of the writer of the node table.
 --     back-full, back-more          a record in front of those at the end of a room
---     symbol-root, symbol-under, symbol-past     the symbol that leads to a node, by a piece of a name
+--     symbol-root, symbol-under, symbol-shifted     the symbol that leads to a node, by a piece of a name
 --     leaf-put                      the leaf of a name
 --     node-some .. node-put         the node of the top frame
 --     Shutting: shutting-start, shutting-more; passing-on, passing-deeper, passing-done     frame after frame
@@ -27,8 +27,8 @@ use Rattle.format.proofs.Widths.{widest-low}
 use Rattle.records.specs.Lists.{Ready, names, startOf, words}
 use Rattle.records.proofs.Starts.{ready-rises, ready-size, ready-word, start-all, start-fits, start-name, start-next, words-length}
 use Rattle.nodes.specs.declared.LeftOpen.{LeftOpen}
-use Rattle.nodes.specs.Frames.{Cur, Framed, Tail, depthIn, endIn, frameCount, frameSize, leftOf, markIn, none, raised, sharesAt, symbolOf, widthIn, withFrame}
-use Rattle.nodes.specs.Writing.{Behind, Closing, Counted, LeafPut, NameAsk, NameAt, NamePut, NodeAsk, NodePut, NodesPut, Onward, Passing, PushAsk, PutBack, RaiseAsk, Rowing}
+use Rattle.nodes.specs.Frames.{Cur, FramesStand, Tail, depthIn, endIn, frameCount, frameSize, leftOf, markIn, none, raised, sharesAt, symbolOf, widthIn, withFrame}
+use Rattle.nodes.specs.Writing.{Behind, Closing, Counted, LeafPut, NameAsk, NameAt, NamePut, CloseAsk, NodePut, NodesPut, Onward, Passing, PushAsk, PutBack, RaiseAsk, Rowing}
 use Rattle.nodes.proofs.Frames.{Closes, cur-all, cur-close, cur-few, cur-keep, cur-leaf, cur-push, framed-raised, framed-with, nodeBy, open-depth, open-few, open-within}
 
 -- ---- one record more, in front of those at the end of a room
@@ -66,8 +66,8 @@ module _ (skip p : ℕ) (w : List ℕ) where
   pub symbol-under : (r : ℕ) → (p ≡ 0 → ⊥) → skip ≤ pred p → r ≡ at w (p - 1 - skip) → r ≡ symbolOf (p - skip) w
   symbol-under r z h e = let i : p - skip ≡ suc (p - 1 - skip) = omega arith in e ∙ ap (λ (x : ℕ). symbolOf x w) (sym i)
 
-pub symbol-past : (ρ : Rule) (s : Bytes) (skip p : ℕ) → (p ≡ 0 → ⊥) → skip + length s < p → 0 ≡ symbolOf (p - skip) (word ρ s)
-symbol-past ρ s skip p z h =
+pub symbol-shifted : (ρ : Rule) (s : Bytes) (skip p : ℕ) → (p ≡ 0 → ⊥) → skip + length s < p → 0 ≡ symbolOf (p - skip) (word ρ s)
+symbol-shifted ρ s skip p z h =
     let i : p - skip ≡ suc (p - 1 - skip) = omega arith in
     sym (ap (λ (x : ℕ). symbolOf x (word ρ s)) i ∙ at-past (word ρ s) (p - 1 - skip) (omega (arith, length-map s ρ)))
 
@@ -108,7 +108,7 @@ module _ {ρ : Rule} {rest : Bytes} {skip j left : ℕ} where
             cur = rw (add-one j, w .counted, size) c;
           }
 
-      module _ {p : LeftOpen} {room₀ : Bytes} (f : Framed frames (p .top)) (h : left < depthIn frames (p .top)) (k : Closing ws j left frames p room₀) where
+      module _ {p : LeftOpen} {room₀ : Bytes} (f : FramesStand frames (p .top)) (h : left < depthIn frames (p .top)) (k : Closing ws j left frames p room₀) where
         closes : Closes ws (a .rises) frames (k .cur)
         closes = cur-close ws (a .rises) frames (k .cur) (f .sentinel) h
 
@@ -144,7 +144,7 @@ module _ {ρ : Rule} {rest : Bytes} {skip j left : ℕ} where
       same = refl;
     }
 
-    module _ {p : LeftOpen} {room₀ : Bytes} (a : NodeAsk ρ rest skip j left frames p room₀) where
+    module _ {p : LeftOpen} {room₀ : Bytes} (a : CloseAsk ρ rest skip j left frames p room₀) where
       last : Closes (a .ws) (a .name .rises) frames (a .closing .cur)
       last = closes (a .name) (a .framed) (a .deeper) (a .closing)
 
@@ -157,7 +157,7 @@ module _ {ρ : Rule} {rest : Bytes} {skip j left : ℕ} where
       pub node-mark : (m : ℕ) → m ≡ markIn frames (p .top) → m ≤ p .count
       node-mark m is = omega (arith, last .mark-behind, a .closing .written .counted)
 
-    pub node-put : {room₀ room : Bytes} {p : LeftOpen} {sy d e m t w : ℕ} → NodeAsk ρ rest skip j left frames p room₀
+    pub node-put : {room₀ room : Bytes} {p : LeftOpen} {sy d e m t w : ℕ} → CloseAsk ρ rest skip j left frames p room₀
         → PutBack room₀ room (p .count) (nodeBy sy (d - 1) j (e - j) t w) → t ≡ p .count - m + 1 → (x q y : ℕ) → d ≡ depthIn frames (p .top) → e ≡ endIn frames (p .top) → m ≡ markIn frames (p .top)
         → y ≡ widthIn frames (p .top) → w ≡ max (p .width) y
         → x ≡ depthIn frames (p .top - 1) → q ≡ max left x → sy ≡ symbolOf (q - skip) (word ρ rest)
@@ -203,7 +203,7 @@ module _ {ρ : Rule} {rest : Bytes} {skip j left : ℕ} where
       top-depth : x ≡ depthIn frames (p .top)
       top-depth = d ∙ ap (depthIn frames) e
 
-      pub passing-deeper : NameAsk ρ rest skip j left frames top count room₀ → left < x → NodeAsk ρ rest skip j left frames p room
+      pub passing-deeper : NameAsk ρ rest skip j left frames top count room₀ → left < x → CloseAsk ρ rest skip j left frames p room
       passing-deeper a h = record {
         framed = k .framed;
         deeper = omega (arith, top-depth);

@@ -6,7 +6,7 @@
 --     frameSize, frameCount     how many bytes a frame has; for how many frames there is a place
 --     depthIn, widthIn, endIn, markIn    the numbers of frame t
 --     withFrame, raised         the row with frame t anew; with names of that length in frame t, too
---     Framed                    a row of frames with one on top
+--     FramesStand                    a row of frames with one on top
 --     Open                      the frames of the nodes that hold name j; from name c on the rows that they have so far
 --     symbolOf                  the symbol that leads to a node from a parent whose shifted depth is p; 0 for the root
 --     Cur                       a whole node of names j to c stands in front of those rows
@@ -63,7 +63,7 @@ withFrame frames t depth width end mark = sets frames (frameSize * t) (depth ∷
 unfoldable pub raised : Bytes → ℕ → ℕ → Bytes
 raised frames t width = set frames (frameSize * t + 1) (max width (widthIn frames t))
 
-pub record Framed (frames : List ℕ) (top : ℕ) : Type 0 where
+pub record FramesStand (frames : List ℕ) (top : ℕ) : Type 0 where
   pub sentinel : depthIn frames 0 ≡ 0
   pub slots : length frames ≡ frameSize * frameCount
   pub slot : top < frameCount

@@ -4,7 +4,7 @@
 --     Counted           records at the end of a room, and how many
 --     NameAt            a piece of name j; Behind: the names behind j; Closing: the name, and nodes that begin with it
 --     NameAsk           what is asked of a name; Passing: its leaf, and nodes in front of it; LeafPut, NamePut: none, and all of them
---     NodeAsk, NodePut  the same of the node of one frame; Onward: of those of several
+--     CloseAsk, NodePut  the same of the node of one frame; Onward: of those of several
 --     PushAsk, RaiseAsk what one frame more asks, and names more in a frame
 --     NodesAsk          what is asked of all names; Rowing: the walk over them; NodesPut: the whole table
 -- The laws are in proofs/. Assumes nothing: these are definitions.
@@ -17,7 +17,7 @@ use Rattle.words.specs.Words.{Bytes, Rule, Words, word}
 use Rattle.format.specs.Nodes.{Node, table, nodeSize}
 use Rattle.format.specs.Spans.{nodePart}
 use Rattle.records.specs.Lists.{Ready, startOf, words}
-use Rattle.nodes.specs.Frames.{Cur, Framed, Open, Tail, depthIn, frameCount, frameSize}
+use Rattle.nodes.specs.Frames.{Cur, FramesStand, Open, Tail, depthIn, frameCount, frameSize}
 use Rattle.nodes.specs.declared.LeftOpen.{LeftOpen}
 
 pub record PutBack (room₀ room : Bytes) (w : ℕ) (node : Node) : Type 0 where
@@ -55,14 +55,14 @@ pub record Closing (ws : Words) (j left : ℕ) (frames : List ℕ) (p : LeftOpen
 -- ---- one name
 
 pub record NameAsk (ρ : Rule) (rest : Bytes) (skip j left : ℕ) (frames : List ℕ) (top count : ℕ) (room : Bytes) : Type 0 where
-  pub framed : Framed frames top
+  pub framed : FramesStand frames top
   pub ws : Words
   pub name : NameAt ρ ws rest skip j left
   pub behind : Behind ws j frames top count room
 
 pub record Passing (ρ : Rule) (rest : Bytes) (skip j left : ℕ) (frames : List ℕ) (top count : ℕ) (room₀ : Bytes) (p : LeftOpen) (room : Bytes) : Type 0 where
   pub kept : length room ≡ length room₀
-  pub framed : Framed frames (p .top)
+  pub framed : FramesStand frames (p .top)
   pub closing : (ws : Words) → NameAt ρ ws rest skip j left → Behind ws j frames top count room₀ → Closing ws j left frames p room
 
 -- no frame is closed yet
@@ -77,8 +77,8 @@ pub record NamePut (ρ : Rule) (rest : Bytes) (skip j left : ℕ) (frames : List
 
 -- ---- the nodes of frames
 
-pub record NodeAsk (ρ : Rule) (rest : Bytes) (skip j left : ℕ) (frames : List ℕ) (p : LeftOpen) (room : Bytes) : Type 0 where
-  pub framed : Framed frames (p .top)
+pub record CloseAsk (ρ : Rule) (rest : Bytes) (skip j left : ℕ) (frames : List ℕ) (p : LeftOpen) (room : Bytes) : Type 0 where
+  pub framed : FramesStand frames (p .top)
   pub deeper : left < depthIn frames (p .top)
   pub ws : Words
   pub name : NameAt ρ ws rest skip j left
@@ -120,7 +120,7 @@ pub record Rowing (ρ : Rule) (s : Bytes) (n : ℕ) (room₀ room : Bytes) (fram
   pub low : j ≤ n
   pub here : end ≡ startOf s j
   pub kept : length room ≡ length room₀
-  pub framed : Framed frames top
+  pub framed : FramesStand frames top
   pub done : List Node
   pub written : Counted (length (words ρ s)) j count room done
   pub rows : 0 < j → Open (words ρ s) frames (pred j) top j done

@@ -11,7 +11,7 @@ ghost use Rattle.symbols.specs.Rules.{ruleBy};
 ghost use Rattle.fields.specs.Node.{nodeOf};
 ghost use Rattle.nodes.specs.Frames.{depthIn, endIn, frameCount, frameSize, markIn, raised, symbolOf, widthIn, withFrame};
 ghost use Rattle.nodes.specs.Counting.{CountAsk, NodeCount, StaysOpen};
-ghost use Rattle.nodes.specs.Writing.{LeafPut, NameAsk, NamePut, NodeAsk, NodePut, NodesAsk, NodesPut, PushAsk, PutBack, RaiseAsk};
+ghost use Rattle.nodes.specs.Writing.{LeafPut, NameAsk, NamePut, CloseAsk, NodePut, NodesAsk, NodesPut, PushAsk, PutBack, RaiseAsk};
 use symbols::Rule;
 
 // How many bytes a frame has: one more than its node's depth and the greatest length of its names so far, in one each; where its names end
@@ -167,7 +167,7 @@ fn close_node(
     p: LeftOpen,
     room: &mut [u8],
 ) -> LeftOpen
-    requires { ⌜ NodeAsk (ruleBy rule) (now rest) skip j left (now frames) p (now room) ⌝ }
+    requires { ⌜ CloseAsk (ruleBy rule) (now rest) skip j left (now frames) p (now room) ⌝ }
     ensures { λ r. ⌜ NodePut (ruleBy rule) (now (rest .entry)) skip j left (now (frames .entry)) p (now (room .entry)) r (now (room .exit)) ⌝ }
 {
     let top = p.top;

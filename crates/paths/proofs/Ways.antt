@@ -1,5 +1,5 @@
 -- The way down: what the functions of the descent keep, and how each of their ways ends.
---     Here, here-.., at-here    a node by its offset: its record, by the node's number
+--     AtOffset, here-.., at-here    a node by its offset: its record, by the node's number
 --     row-.., end-fits          a row of children, by offsets and by numbers
 --     own-rule                  the rule that the trailer tells is the bytes' own
 --     asked-length, asked-at    a question has as many symbols as bytes; its symbol at a depth
@@ -39,7 +39,7 @@ use Rattle.paths.specs.declared.Way.the-variants.{Down, Stay}
 -- ---- a node by its offset
 
 -- at o stands the record of a node
-pub record Here (b : Bytes) (μ : Map) (o : ℕ) : Type 0 where
+pub record AtOffset (b : Bytes) (μ : Map) (o : ℕ) : Type 0 where
   pub searchable : Searchable (ruleIn b) b μ
   pub placed : Placed μ o
   pub inside : numberIn μ o < length (table (wordsIn b))
@@ -51,7 +51,7 @@ strides-few p h = mul-le-mul {n₂ = 65535} (omega arith) (p .few)
 pub row-fits : {b : Bytes} {μ : Map} {x : ℕ} → Searchable (ruleIn b) b μ → x < 65536 → Fits w64 (x * μ .stride)
 row-fits s h = omega (arith, strides-few (s .paced) h)
 
-module _ {b : Bytes} {μ : Map} {o : ℕ} (h : Here b μ o) where
+module _ {b : Bytes} {μ : Map} {o : ℕ} (h : AtOffset b μ o) where
   pub here-room : Roomy (μ .step) b o
   here-room = subst (λ (x : ℕ). Roomy (μ .step) b x) (sym (h .placed)) (h .searchable .table .room (numberIn μ o) (h .inside))
 
@@ -64,7 +64,7 @@ module _ {b : Bytes} {μ : Map} {o : ℕ} (h : Here b μ o) where
   pub end-fits : {x : ℕ} → x < 65536 → Fits w64 (o + x * μ .stride)
   end-fits k = omega (arith, here-small, strides-few (h .searchable .paced) k)
 
-pub at-here : {b : Bytes} {μ : Map} {o : ℕ} → AtNode b μ o → Here b μ o
+pub at-here : {b : Bytes} {μ : Map} {o : ℕ} → AtNode b μ o → AtOffset b μ o
 at-here a = record { searchable = a .searchable; placed = a .placed; inside = a .sits .inside }
 
 -- x is how many nodes the one at o has, and c the offset of another
@@ -80,7 +80,7 @@ module _ {b : Bytes} {μ : Map} {o : ℕ} (a : AtNode b μ o) {x : ℕ} (xe : x 
     row-past h = omega (arith, nodes-are, number-past μ (a .searchable .paced .some) (a .placed) x p h)
 
     -- in the row stands a child
-    pub row-here : c < o + x * μ .stride → Here b μ c
+    pub row-here : c < o + x * μ .stride → AtOffset b μ c
     row-here h = record { searchable = a .searchable; placed = p; inside = omega (arith, row-before h, a .sits .ends) }
 
 -- ---- symbols by the bytes' own rule
@@ -223,7 +223,7 @@ module _ {b : Bytes} {μ : Map} {start : ℕ} (s : Searchable (ruleIn b) b μ) (
   none : numberIn μ start ≡ 0
   none = number-first μ start (omega arith)
 
-  pub root-here : Here b μ start
+  pub root-here : AtOffset b μ start
   root-here = record {
     searchable = s;
     placed = omega (arith, ap (λ (x : ℕ). x * μ .stride) none);

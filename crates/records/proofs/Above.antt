@@ -2,7 +2,7 @@
 --     part-byte                  a byte of a part of a list
 --     in-both                    what they share is in both
 --     rests-part                 behind the bytes that they share they part
---     Alike, symbols-alike       they share so many symbols
+--     AlikeSoFar, symbols-alike       they share so many symbols
 --     one-ended, symbol-above, symbol-not-above     what that shows, one law for each way that the code goes
 --     above-not, above-less, above-shares, above-short     what is told by the number that `sharedAbove` is
 -- Assumes nothing.
@@ -33,7 +33,7 @@ abbrev picked : Rule → Bytes → Bytes → Bool → ℕ
 picked ρ x y b = pick b (shared (word ρ x) (word ρ y)) (length y)
 
 -- they have j symbols in common
-pub record Alike (rule : ByRule) (s : Bytes) (p m o len j : ℕ) : Type 0 where
+pub record AlikeSoFar (rule : ByRule) (s : Bytes) (p m o len j : ℕ) : Type 0 where
   pub old-inside : p + m ≤ length s
   pub new-inside : o + len ≤ length s
   pub common : j ≡ shared (word (ruleBy rule) (part s p m)) (word (ruleBy rule) (part s o len))
@@ -56,7 +56,7 @@ module _ {s : Bytes} {p m o len i : ℕ} (q : AboveAsk s p m o len i) where
 
     pub symbols-alike : (rule : ByRule) {t : ℕ}
         → t ≡ shared (word (ruleBy rule) (take (p + most - (p + i)) (drop (p + i) s))) (word (ruleBy rule) (take (o + most - (o + i)) (drop (o + i) s)))
-        → Alike rule s p m o len (i + t)
+        → AlikeSoFar rule s p m o len (i + t)
     symbols-alike rule {t} e =
         let ρ : Rule = ruleBy rule in
         let x : Bytes = part s p m in
@@ -74,7 +74,7 @@ module _ {s : Bytes} {p m o len i : ℕ} (q : AboveAsk s p m o len i) where
         }
 
 -- where the names part, their symbols tell which one is less
-module _ {rule : ByRule} {s : Bytes} {p m o len j : ℕ} (a : Alike rule s p m o len j) where
+module _ {rule : ByRule} {s : Bytes} {p m o len j : ℕ} (a : AlikeSoFar rule s p m o len j) where
   old-length : length (part s p m) ≡ m
   old-length = part-length s p m (a .old-inside)
 

@@ -1,5 +1,5 @@
 -- Laws of the reading of a list, one for each way that the code goes.
---     ReadUpTo, Reads            so many names are read, and noted: reads-start
+--     ReadUpTo, ReadsOn            so many names are read, and noted: reads-start
 --     StandsAt, stands-at        the next record begins here, with this length
 --     Comparing                  it is of good length, and its name agrees with the last so far: comparing-start, byte-same
 --     ComesApart                 and no further: one-ends, bytes-differ
@@ -162,13 +162,13 @@ reading-start ρ lw s most lens counts shares a b = record {
 }
 
 -- .. and the rows are as long as they were
-pub record Reads (ρ : Rule) (s : Bytes) (most : ℕ) (lens₀ counts₀ shares₀ lens counts shares : List ℕ) (o p m n : ℕ) : Type 0 where
+pub record ReadsOn (ρ : Rule) (s : Bytes) (most : ℕ) (lens₀ counts₀ shares₀ lens counts shares : List ℕ) (o p m n : ℕ) : Type 0 where
   pub read : ReadUpTo ρ s most lens counts shares o p m n
   pub lens-kept : length lens ≡ length lens₀
   pub counts-kept : length counts ≡ length counts₀
   pub shares-kept : length shares ≡ length shares₀
 
-pub reads-start : (ρ : Rule) → Sure ρ → (s : Bytes) (most : ℕ) (lens counts shares : List ℕ) → length lens ≡ length counts → length lens ≡ length shares → Reads ρ s most lens counts shares lens counts shares 0 0 0 0
+pub reads-start : (ρ : Rule) → Sure ρ → (s : Bytes) (most : ℕ) (lens counts shares : List ℕ) → length lens ≡ length counts → length lens ≡ length shares → ReadsOn ρ s most lens counts shares lens counts shares 0 0 0 0
 reads-start ρ lw s most lens counts shares a b = record { read = reading-start ρ lw s most lens counts shares a b; lens-kept = refl; counts-kept = refl; shares-kept = refl }
 
 pub good-list : {ρ : Rule} {s : Bytes} {most : ℕ} {lens counts shares : List ℕ} {o p m n : ℕ} → ReadUpTo ρ s most lens counts shares o p m n → o ≡ length s → Judged ρ s most lens counts shares (Good n)
@@ -336,7 +336,7 @@ module _ {ρ : Rule} {s : Bytes} {most : ℕ} {lens counts shares : List ℕ} {o
     -- the rows as they are then
     module _ {lens′ counts′ shares′ : List ℕ} where
       pub reads-noted : n < length lens → lens′ ≡ set lens n len → counts′ ≡ set counts n i → shares′ ≡ set shares n j
-          → Reads ρ s most lens₀ counts₀ shares₀ lens′ counts′ shares′ (o + 1 + len) (o + 1) len (n + 1)
+          → ReadsOn ρ s most lens₀ counts₀ shares₀ lens′ counts′ shares′ (o + 1 + len) (o + 1) len (n + 1)
       reads-noted l new-lens new-counts new-shares =
           let r : ReadUpTo ρ s most lens counts shares o p m n = k .stands .read in
           let x : Bytes = part s (o + 1) len in
@@ -354,7 +354,7 @@ module _ {ρ : Rule} {s : Bytes} {most : ℕ} {lens counts shares : List ℕ} {o
 
       -- there is no place to note it, so not all that may come can be noted
       pub reads-passed : length lens ≤ n → lens′ ≡ lens → counts′ ≡ counts → shares′ ≡ shares
-          → Reads ρ s most lens₀ counts₀ shares₀ lens′ counts′ shares′ (o + 1 + len) (o + 1) len (n + 1)
+          → ReadsOn ρ s most lens₀ counts₀ shares₀ lens′ counts′ shares′ (o + 1 + len) (o + 1) len (n + 1)
       reads-passed l new-lens new-counts new-shares = rw (new-lens, new-counts, new-shares) (record {
         read = one-read lens counts shares (k .stands .read .counts-row) (k .stands .read .shares-row) (λ b. absurd (lt-irrefl n (omega arith))) h;
         lens-kept = lens-kept;

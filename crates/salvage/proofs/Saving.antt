@@ -34,7 +34,7 @@ use Rattle.shapes.specs.declared.Answer.{Answer}
 use Rattle.streams.specs.Streams.{EntryAt, Stream, entryEnd, nameAt}
 use Rattle.entries.specs.Reading.{NameRead}
 use Rattle.entries.proofs.Reading.{stream-next}
-use Rattle.cards.specs.Cards.{BlockAsk, SpanIs, WholeSays}
+use Rattle.cards.specs.Cards.{CardBlockAsk, SpanIs, WholeSays}
 use Rattle.cards.proofs.Cards.{block-found, block-kept, mapped-is, names-found}
 use Rattle.salvage.specs.Saving.{BytesPut, NamesAsk, NamesPut, savedOf}
 
@@ -174,7 +174,7 @@ saving-done {s} {start} {m} {at} {room₀} {room} {o} {line} {len} {end} {i} w h
 
 -- ---- the blocks
 
-module _ {s : Bytes} {i start end names : ℕ} (ask : BlockAsk s i) (k : SpanIs s i start end names) (r : Bool) (says : WholeSays s start end names r) where
+module _ {s : Bytes} {i start end names : ℕ} (ask : CardBlockAsk s i) (k : SpanIs s i start end names) (r : Bool) (says : WholeSays s start end names r) where
   -- a broken block has no records
   pub block-left : not r ≡ true → (room : Bytes) (at : ℕ) → BytesPut (recordsIn (getD (cardBlocks s) i Broken)) room room at at
   block-left h room at =
@@ -208,7 +208,7 @@ unfolding joined
 blocks-start room e f = record { upto = omega arith; many = e; few = f; bounded = omega arith; put = put-none room 0 }
 
 module _ {s room₀ room : Bytes} {count i end : ℕ} (w : Blocks s room₀ room count i end) where
-  pub blocks-ask : mapped s ≡ true → i < count → BlockAsk s i
+  pub blocks-ask : mapped s ≡ true → i < count → CardBlockAsk s i
   blocks-ask e h = record { map = e; within = omega (arith, w .many) }
 
   pub blocks-more : i < count → {room' : Bytes} {to : ℕ} → BytesPut (recordsIn (getD (cardBlocks s) i Broken)) room room' end to → to ≤ 12864 * (i + 1) → Blocks s room₀ room' count (i + 1) to

@@ -7,7 +7,7 @@ ghost use lib.ListN.{getD};
 ghost use Rattle.format.specs.Salvage.{Broken, mapped};
 ghost use Rattle.answers.specs.Salvage.{cardBlocks, recordsIn, savedRecords};
 ghost use Rattle.shapes.specs.Shapes.{written};
-ghost use Rattle.cards.specs.Cards.{BlockAsk};
+ghost use Rattle.cards.specs.Cards.{CardBlockAsk};
 ghost use Rattle.salvage.specs.Saving.{BytesPut, NamesAsk, NamesPut, savedOf};
 use entries::Cursor;
 use shapes::Answer;
@@ -38,7 +38,7 @@ fn put_names(card: &[u8], start: usize, m: usize, room: &mut [u8], at: usize) ->
 
 // The records of block i, if it is whole, behind the first `at` bytes of the room; and where they end.
 fn put_block(card: &[u8], i: usize, room: &mut [u8], at: usize) -> usize
-    requires { ⌜ BlockAsk (now card) i × (at ≤ 12864 * i) ⌝ }
+    requires { ⌜ CardBlockAsk (now card) i × (at ≤ 12864 * i) ⌝ }
     ensures { λ r. ⌜ BytesPut (recordsIn (getD (cardBlocks (now (card .entry))) i Broken)) (now (room .entry)) (now (room .exit)) at r × (r ≤ 12864 * (i + 1)) ⌝ }
 {
     let span = cards::span_of(card, i);

@@ -38,7 +38,7 @@ use Rattle.format.specs.Book.{namesOf, told}
 use Rattle.trailer.specs.declared.Trailer.{Trailer}
 use Rattle.names.specs.Names.{Named, PositionAsk}
 use Rattle.paths.specs.Paths.{AtFork, AtNode, DescentSays, HighestAt, OnPath, SoughtAt, tableMap}
-use Rattle.paths.proofs.Ways.{Here, asked-at, asked-length, at-here, here-room, here-told, own-rule, path-at, row-before, row-here, row-past}
+use Rattle.paths.proofs.Ways.{AtOffset, asked-at, asked-length, at-here, here-room, here-told, own-rule, path-at, row-before, row-here, row-past}
 use Rattle.search.specs.Asks.{Askable, AtSpot, MetSays, NearSays, SpotSays}
 
 -- ---- `compare` and `meet`
@@ -71,11 +71,11 @@ module _ (b q : Bytes) {μ : Map} (s : Searchable (ruleIn b) b μ) {p : List ℕ
   ends : Sits (wordsIn b) (numberIn μ last)
   ends = passed-sits (wordsIn b) (s .rises) (t .way .path) (s .short)
 
-  pub end-here : Here b μ last
+  pub end-here : AtOffset b μ last
   end-here = record { searchable = s; placed = t .ended; inside = ends .inside }
 
   -- node number j of the path
-  passed-here : (j : ℕ) → j < n → Here b μ (getD p j 0)
+  passed-here : (j : ℕ) → j < n → AtOffset b μ (getD p j 0)
   passed-here j h = record {
     searchable = s;
     placed = t .placed j h;
@@ -97,7 +97,7 @@ module _ (b q : Bytes) {μ : Map} (s : Searchable (ruleIn b) b μ) {p : List ℕ
   -- by numbers
   highest : {m r : ℕ} → HighestAt b (μ .step) p n m r → Highest (wordsIn b) (map (numberIn μ) p) n m (numberIn μ r)
   highest {m} {r} h =
-      let here : Here b μ r = subst (λ (o : ℕ). Here b μ o) (sym (h .is)) (passed-here (h .index) (h .within)) in
+      let here : AtOffset b μ r = subst (λ (o : ℕ). AtOffset b μ o) (sym (h .is)) (passed-here (h .index) (h .within)) in
       record {
         index = h .index;
         within = h .within;
@@ -254,7 +254,7 @@ module _ {b : Bytes} {μ : Map} (q : Bytes) (o : Searchable (ruleIn b) b μ) whe
       shared-le (askedIn b q) (nth (wordsIn b) (reached (askedIn b q) (wordsIn b))),
     )
 
-    spot-here : Here b μ u
+    spot-here : AtOffset b μ u
     spot-here = record { searchable = o; placed = a .placed; inside = a .located .found .sits .inside }
 
     pub width-all : m ≡ length q → {n : ℕ} → n ≡ recordAt (μ .step) b u .width → _≡_ {A = Numbers} (n, 0) (width (askedIn b q) (wordsIn b), 0)

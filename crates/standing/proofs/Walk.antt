@@ -1,5 +1,5 @@
 -- The walk over a row, child by child, that judges whether the row of a whole group stands from o₀ on.
---     Head, node-head      what a node's record says of its words
+--     NodeHead, node-head      what a node's record says of its words
 --     Walk                 so far it may: the group's row stands just where the row from lo on stands from o on
 --     walk-start           at the group's first word
 --     walk-more            one child more, where the words that meet there share just d symbols
@@ -29,7 +29,7 @@ use Rattle.standing.proofs.Records.{stands-end}
 use Rattle.standing.proofs.Children as child
 
 -- what a node's record says of its words; s led to it, and it ends at e
-pub record Head (μ : Map) (b : Bytes) (ws : Words) (s lo hi o e : ℕ) : Type 0 where
+pub record NodeHead (μ : Map) (b : Bytes) (ws : Words) (s lo hi o e : ℕ) : Type 0 where
   pub room : Roomy (μ .step) b o
   pub past : o + μ .stride ≤ e
   pub symbol : recordAt (μ .step) b o .symbol ≡ s
@@ -70,10 +70,10 @@ unfolding deep
 deep-short ws r lo hi n a l h = omega (arith, less-short (nth ws lo) (nth ws (pred hi)) (nth-less ws lo (pred hi) r (omega arith) (omega arith)))
 
 module _ (μ : Map) (b : Bytes) (ws : Words) (r : Rises ws) where
-  pub node-head : (s lo hi o e : ℕ) → lo < hi → hi ≤ length ws → NodeAt μ b ws lo hi s o e → Head μ b ws s lo hi o e
+  pub node-head : (s lo hi o e : ℕ) → lo < hi → hi ≤ length ws → NodeAt μ b ws lo hi s o e → NodeHead μ b ws s lo hi o e
   node-head s lo hi o e a l n = go (eq-or-lt-of-le a)
     where
-      go : (suc lo ≡ hi) ⊎ (suc lo < hi) → Head μ b ws s lo hi o e
+      go : (suc lo ≡ hi) ⊎ (suc lo < hi) → NodeHead μ b ws s lo hi o e
       go (inl k) =
           let f = child.node-leaf ws r μ b s lo o e (omega arith) (subst (λ (x : ℕ). NodeAt μ b ws lo x s o e) (sym k) n) in
           let m : recordAt (μ .step) b o .names ≡ 1 = ap (λ (x : Node). x .names) (f .told) in

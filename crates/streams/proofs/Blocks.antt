@@ -24,11 +24,11 @@ use Rattle.format.specs.Spans.{lastOf}
 use Rattle.format.proofs.Entries.{blocks-first, entries-first}
 use Rattle.format.proofs.Numbers.{high-byte, low-byte}
 use Rattle.streams.specs.Runs.{Rest, Run}
-use Rattle.streams.proofs.Fronts.{Headed, both-are, front-run, headed, is-good, run-front, two}
+use Rattle.streams.proofs.Fronts.{FrontHead, both-are, front-run, rising-headed, is-good, run-front, two}
 
 -- ---- rising in two parts
 
-raised : (ρ : Rule) (prev x : Bytes) (xs : List Bytes) → Headed ρ prev x xs → rising ρ prev (x ∷ xs) ≡ true
+raised : (ρ : Rule) (prev x : Bytes) (xs : List Bytes) → FrontHead ρ prev x xs → rising ρ prev (x ∷ xs) ≡ true
 unfolding rising
 raised ρ prev x xs h = both-are _ _ (is-good (length x) (h .some) (h .short)) (both-are _ _ (h .rises) (h .others))
 
@@ -39,29 +39,29 @@ less-empty ρ lw (a ∷ x) h = less-start (ρ a) (word ρ x) ∙ lt-ltb 0 (ρ a)
 -- only the first name looks at the one before
 pub rising-after : (ρ : Rule) (prev p x : Bytes) (xs : List Bytes) → less (word ρ p) (word ρ x) ≡ true → rising ρ prev (x ∷ xs) ≡ true → rising ρ p (x ∷ xs) ≡ true
 rising-after ρ prev p x xs l h =
-    let d = headed ρ prev x xs h in
+    let d = rising-headed ρ prev x xs h in
     raised ρ p x xs (record { some = d .some; short = d .short; rises = l; others = d .others })
 
 pub rising-alone : (ρ : Rule) (lw : Sure ρ) (prev x : Bytes) (xs : List Bytes) → rising ρ prev (x ∷ xs) ≡ true → rising ρ [] (x ∷ xs) ≡ true
-rising-alone ρ lw prev x xs h = rising-after ρ prev [] x xs (less-empty ρ lw x (headed ρ prev x xs h .some)) h
+rising-alone ρ lw prev x xs h = rising-after ρ prev [] x xs (less-empty ρ lw x (rising-headed ρ prev x xs h .some)) h
 
 pub rising-left : (ρ : Rule) (prev : Bytes) (xs zs : List Bytes) → rising ρ prev (xs ++ zs) ≡ true → rising ρ prev xs ≡ true
 unfolding rising
 rising-left ρ prev [] zs h = refl
 rising-left ρ prev (x ∷ xs) zs h =
-    let d = headed ρ prev x (xs ++ zs) h in
+    let d = rising-headed ρ prev x (xs ++ zs) h in
     raised ρ prev x xs (record { some = d .some; short = d .short; rises = d .rises; others = rising-left ρ x xs zs (d .others) })
 
 pub rising-right : (ρ : Rule) (prev : Bytes) (xs zs : List Bytes) → rising ρ prev (xs ++ zs) ≡ true → rising ρ (lastOf prev xs) zs ≡ true
 unfolding lastOf
 rising-right ρ prev [] zs h = h
-rising-right ρ prev (x ∷ xs) zs h = rising-right ρ x xs zs (headed ρ prev x (xs ++ zs) h .others)
+rising-right ρ prev (x ∷ xs) zs h = rising-right ρ x xs zs (rising-headed ρ prev x (xs ++ zs) h .others)
 
 pub rising-join : (ρ : Rule) (prev : Bytes) (xs zs : List Bytes) → rising ρ prev xs ≡ true → rising ρ (lastOf prev xs) zs ≡ true → rising ρ prev (xs ++ zs) ≡ true
 unfolding lastOf
 rising-join ρ prev [] zs h g = g
 rising-join ρ prev (x ∷ xs) zs h g =
-    let d = headed ρ prev x xs h in
+    let d = rising-headed ρ prev x xs h in
     raised ρ prev x (xs ++ zs) (record { some = d .some; short = d .short; rises = d .rises; others = rising-join ρ x xs zs (d .others) g })
 
 -- ---- the first block
@@ -115,7 +115,7 @@ module _ (ρ : Rule) (lw : Sure ρ) (b : Bytes) (k s u t o : ℕ) (prev x : Byte
       record {
         room = omega (arith, ap length p, length-drop t b, length-append (numbers ns) (drop u b), length-drop u b);
         place = omega (arith, low, high);
-        below = headed ρ prev x xs (h .rises) .rises;
+        below = rising-headed ρ prev x xs (h .rises) .rises;
         run = front-run ρ b (o + length f) o [] (take k (x ∷ xs)) ho (omega arith)
             (q ∙ ap (λ (y : Bytes). f ++ y) (sym behind)) (head-rising ρ lw prev k x xs one (rising-left ρ prev (take k (x ∷ xs)) (drop k (x ∷ xs)) r));
         upto = omega arith;

@@ -3,7 +3,7 @@
 --     Entered, entered       what one entry that passes the tests is
 --     is-good, both-are      two tests at once
 --     Fronts, run-front      a run gives the bytes, and that the names rise
---     Headed, headed         names that rise, taken apart
+--     FrontHead, rising-headed         names that rise, taken apart
 --     front-run              the bytes, and that the names rise, give a run
 --     run-unique             the names of a run are determined by the bytes and by how many they are
 -- Assumes nothing.
@@ -104,14 +104,14 @@ run-front ρ b e o prev (x ∷ xs) w (more k q h) =
 
 -- ---- from the bytes to the tests
 
-pub record Headed (ρ : Rule) (prev x : Bytes) (xs : List Bytes) : Type 0 where
+pub record FrontHead (ρ : Rule) (prev x : Bytes) (xs : List Bytes) : Type 0 where
   pub some : 1 ≤ length x
   pub short : length x ≤ longest
   pub rises : less (word ρ prev) (word ρ x) ≡ true
   pub others : rising ρ x xs ≡ true
 
-pub headed : (ρ : Rule) (prev x : Bytes) (xs : List Bytes) → rising ρ prev (x ∷ xs) ≡ true → Headed ρ prev x xs
-headed ρ prev x xs h =
+pub rising-headed : (ρ : Rule) (prev x : Bytes) (xs : List Bytes) → rising ρ prev (x ∷ xs) ≡ true → FrontHead ρ prev x xs
+rising-headed ρ prev x xs h =
     let f = rising-first ρ prev x xs h in
     let g = good-length (length x) (f .size) in
     record { some = g .0; short = g .1; rises = f .above; others = f .rest }
@@ -121,7 +121,7 @@ pub front-run : (ρ : Rule) (b : Bytes) (e o : ℕ) (prev : Bytes) (xs : List By
 unfolding front entry
 front-run ρ b e o prev [] ho w q h = done {o = o} (omega (arith, ap length q, length-drop o b, length-drop e b))
 front-run ρ b e o prev (x ∷ xs) ho w q h =
-    let hd = headed ρ prev x xs h in
+    let hd = rising-headed ρ prev x xs h in
     let lc = rising-local ρ prev x (hd .rises) in
     let t : Bytes = front x xs ++ drop e b in
     let d : Bytes = drop (shared prev x) x in
@@ -134,7 +134,7 @@ front-run ρ b e o prev (x ∷ xs) ho w q h =
         ap₂ (λ (n m : ℕ). take n prev ++ take m (drop (o + 2) b)) (cu .count) (cu .size)
         ∙ ap₂ (λ (u v : Bytes). u ++ v) (take-shared prev x) (cu .rest) ∙ take-append-drop (shared prev x) x
 
-    stepped : Headed ρ prev x xs → Local prev x (shared prev x) → EntryCut b o (shared prev x) (drop (shared prev x) x) (front x xs ++ drop e b) → Step ρ b o e prev
+    stepped : FrontHead ρ prev x xs → Local prev x (shared prev x) → EntryCut b o (shared prev x) (drop (shared prev x) x) (front x xs ++ drop e b) → Step ρ b o e prev
     stepped hd lc cu =
         let z : o + 2 + 0 ≡ o + 2 = omega arith in
         let first : getD (drop (shared prev x) x) 0 0 ≡ getD b (o + 2) 0 =

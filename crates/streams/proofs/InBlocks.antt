@@ -17,7 +17,7 @@ use Rattle.format.specs.Entries.{front}
 use Rattle.streams.specs.Runs.{Frame, Has, Rest, Run, more}
 use Rattle.streams.specs.Streams.{InBlocks, offsetAt, offsetFrom}
 use Rattle.streams.proofs.Blocks.{rest-first, rest-none}
-use Rattle.streams.proofs.Places.{offset-add, run-end, run-next-count}
+use Rattle.streams.proofs.Places.{offset-add, run-stops, run-next-count}
 use Rattle.streams.proofs.Walks.{has-names}
 
 module _ (ρ : Rule) (lw : Sure ρ) (b : Bytes) (k s u : ℕ) (one : 1 ≤ k) (small : length b ≤ longestBook) (hs : s ≤ length b) (hu : u ≤ length b) where
@@ -53,7 +53,7 @@ module _ (ρ : Rule) (lw : Sure ρ) (b : Bytes) (k s u : ℕ) (one : 1 ≤ k) (s
       (omega (arith, length-drop k (x ∷ xs))) in
       let size : length (take k (x ∷ xs)) ≡ k = length-take-le k (x ∷ xs) (omega arith) in
       let here : offsetFrom b (o + length (front [] (take k (x ∷ xs)))) (p - k) ≡ offsetFrom b o p =
-      ap (λ (n : ℕ). offsetFrom b n (p - k)) (sym (run-end ρ b (o + length (front [] (take k (x ∷ xs)))) o [] (take k (x ∷ xs)) (f .run)) ∙ ap (offsetFrom b o) size) ∙ sym (offset-add b o k (p - k))
+      ap (λ (n : ℕ). offsetFrom b n (p - k)) (sym (run-stops ρ b (o + length (front [] (take k (x ∷ xs)))) o [] (take k (x ∷ xs)) (f .run)) ∙ ap (offsetFrom b o) size) ∙ sym (offset-add b o k (p - k))
       ∙ ap (offsetFrom b o) z in
       record {
         end = g .end;
@@ -84,7 +84,7 @@ module _ (ρ : Rule) (lw : Sure ρ) (b : Bytes) (k s u : ℕ) (one : 1 ≤ k) (s
       let g = others (t + 2) end _ (drop k (x ∷ xs)) (omega (arith, f .upto)) (omega (arith, f .room)) (f .others) (omega (arith, length-drop k (x ∷ xs))) in
       let both : length (x ∷ xs) ≡ length (take k (x ∷ xs)) + length (drop k (x ∷ xs)) = omega (arith, length-take k (x ∷ xs), length-drop k (x ∷ xs)) in
       ap (offsetFrom b o) both ∙ offset-add b o (length (take k (x ∷ xs))) (length (drop k (x ∷ xs)))
-      ∙ ap (λ (i : ℕ). offsetFrom b i (length (drop k (x ∷ xs)))) (run-end ρ b end o [] (take k (x ∷ xs)) (f .run)) ∙ g
+      ∙ ap (λ (i : ℕ). offsetFrom b i (length (drop k (x ∷ xs)))) (run-stops ρ b end o [] (take k (x ∷ xs)) (f .run)) ∙ g
 
   first-end : BlocksEnd 0
   first-end t o prev [] ho ht r h = none-end t o prev ho ht r

@@ -1,7 +1,7 @@
 -- Where the entries stand, one after the other.
 --     offset-add, offset-next     entry number i + j is entry number j after entry number i
 --     stream-at                 a stream from entry number i on
---     run-end, run-first-count, run-next-count    a run ends where its last entry does; inside it the stored count is what is shared
+--     run-stops, run-first-count, run-next-count    a run ends where its last entry does; inside it the stored count is what is shared
 -- Assumes nothing.
 use Prim.Native.Nat.{ℕ, zero, suc, _+_, _≤_, _<_}
 use native.Mathlib.Nat.{not-suc-le-zero, le-of-suc-le-suc}
@@ -54,10 +54,10 @@ stream-at b xs i s h = subst (λ (p : Bytes). Stream b (offsetAt b i) p (drop i 
 
 -- ---- a run
 
-pub run-end : (ρ : Rule) (b : Bytes) (e o : ℕ) (prev : Bytes) (xs : List Bytes) → Run ρ b e o prev xs → offsetFrom b o (length xs) ≡ e
+pub run-stops : (ρ : Rule) (b : Bytes) (e o : ℕ) (prev : Bytes) (xs : List Bytes) → Run ρ b e o prev xs → offsetFrom b o (length xs) ≡ e
 unfolding offsetFrom
-run-end ρ b e o prev [] (done q) = q
-run-end ρ b e o prev (x ∷ xs) (more k q r) = run-end ρ b e (entryEnd b o) x xs r
+run-stops ρ b e o prev [] (done q) = q
+run-stops ρ b e o prev (x ∷ xs) (more k q r) = run-stops ρ b e (entryEnd b o) x xs r
 
 pub run-first-count : (ρ : Rule) (b : Bytes) (e o : ℕ) (prev : Bytes) (xs : List Bytes) → e ≤ length b → Run ρ b e o prev xs → 0 < length xs
     → getD b o 0 ≡ shared prev (getD xs 0 [])

@@ -22,7 +22,7 @@ use Rattle.format.specs.Spans.{nodeTable}
 use Rattle.format.specs.Widths.{widest}
 use Rattle.answers.specs.Calls.{build, buildBy, builtFrom}
 use Rattle.answers.specs.Merging.{judgeLists, mergeLists, ofReadings}
-use Rattle.answers.proofs.AllRefusals.{BuildRow, ListsRow, lent, mar, told3}
+use Rattle.answers.proofs.AllRefusals.{BuildRow, ListsRow, lentRoom, mar, told3}
 use Rattle.theorems.specs.Letters.{characters, wellFormed}
 
 -- ---- texts
@@ -51,7 +51,7 @@ abbrev pub longBuilds : List BuildRow
 longBuilds =
     (many 2000 ++ (0 ∷ []), 2, 99, (5, 2000)) ∷ (many 2000 ++ (2 ∷ 7 ∷ 207 ∷ []), 2, 99, (6, 2000)) ∷ (rows-of 30 2001 0, 2, 99, (7, 2000)) ∷ (rows-of 198 325 0, 2, 0, (9, 0)) ∷ (many 2000, 64, 99, (4, 0)) ∷ []
 
-pub edges-build : map (λ (c : BuildRow). build PlainBook (c .0) (c .1) (lent (c .2))) longBuilds ≡ map (λ (c : BuildRow). record { answer = numbered (c .3 .0) (c .3 .1); room = lent (c .2) }) longBuilds
+pub edges-build : map (λ (c : BuildRow). build PlainBook (c .0) (c .1) (lentRoom (c .2))) longBuilds ≡ map (λ (c : BuildRow). record { answer = numbered (c .3 .0) (c .3 .1); room = lentRoom (c .2) }) longBuilds
 unfolding shared less depth glue groups widest rowBy tableWithin nodeTable table numbers joined entry blocksFrom front blocks offsets entryPart blockPart allFields trailer bookBy encode readFrom readList builtFrom buildBy rows-of
 edges-build = refl
 
@@ -63,6 +63,6 @@ edges-judge = refl
 abbrev pub longLists : List ListsRow
 longLists = (many 2001, 0 ∷ [], 99, (5, 0, 2)) ∷ (many 2000, rows-of 0 2 1999, 0, (7, 2000, 0)) ∷ (many 1999, rows-of 0 2 1998, 99, (4, 0, 0)) ∷ []
 
-pub edges-merge : map (λ (c : ListsRow). mergeLists (c .0) (c .1) (lent (c .2))) longLists ≡ map (λ (c : ListsRow). record { answer = told3 (c .3); room = lent (c .2) }) longLists
+pub edges-merge : map (λ (c : ListsRow). mergeLists (c .0) (c .1) (lentRoom (c .2))) longLists ≡ map (λ (c : ListsRow). record { answer = told3 (c .3); room = lentRoom (c .2) }) longLists
 unfolding shared less kept merged encode readFrom readList ofReadings mergeLists rows-of
 edges-merge = refl

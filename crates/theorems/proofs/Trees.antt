@@ -20,7 +20,7 @@ use Rattle.words.proofs.Words.{shared-le}
 use Rattle.format.specs.Spans.{rowTable, nodeTable}
 use Rattle.format.specs.Nodes.{depth, fork, groups, leaf, table}
 use Rattle.format.specs.Records.{longest, sound}
-use Rattle.format.proofs.Groups.{Parted, Same, Share, children, deeper, depth-length, depth-share, joinedGroups, node-more, node-one, part, row-run, whole}
+use Rattle.format.proofs.Groups.{PartedGroups, Same, Share, children, deeper, depth-length, depth-share, joinedGroups, node-more, node-one, part, row-run, whole}
 use Rattle.format.proofs.Records.{rising-sizes, sound-rising, symbols-rises}
 use Rattle.format.proofs.Spans.{table-few}
 use Rattle.theorems.specs.Demands.{Climbing, Path, down, nodeDepth, stop}
@@ -55,7 +55,7 @@ record Branch (d : ℕ) (g : Words) : Type 0 where
   deep : d < nodeDepth g
   short : All (λ w. length w ≤ longest) g
 
-child-of : (d : ℕ) (gs : List Words) → Parted d gs → Rises (joinedGroups gs) → Share d (joinedGroups gs) → All (λ w. length w ≤ longest) (joinedGroups gs)
+child-of : (d : ℕ) (gs : List Words) → PartedGroups d gs → Rises (joinedGroups gs) → Share d (joinedGroups gs) → All (λ w. length w ≤ longest) (joinedGroups gs)
     → (j : ℕ) → j < length gs → Branch d (getD gs j [])
 unfolding nodeDepth
 child-of d gs whole r s a j l = absurd (not-suc-le-zero l)

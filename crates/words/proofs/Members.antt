@@ -2,7 +2,7 @@
 --     all-member        what holds of all elements holds of a member
 --     rising-unique     two rising lists of words with the same members are one list
 --     Distinct, rising-distinct, distinct-few     no element stands twice; so it is with rising words; as many as some list has members, at most
---     mapped, From, unmapped, map-injective     the members of a list that is mapped
+--     among-map, From, unmapped, map-injective     the members of a list that is among-map
 -- Assumes nothing.
 use Prim.Native.Nat.{ℕ, suc, _≤_, zero-le}
 use native.Mathlib.Omega.{arith}
@@ -89,11 +89,11 @@ pub rising-distinct : {ws : Words} → Rises ws → Distinct ws
 rising-distinct start = none
 rising-distinct (rise {w = w} p a r) = more (λ m. not-self w w (all-member a m) refl) (rising-distinct r)
 
--- ---- the members of a list that is mapped
+-- ---- the members of a list that is among-map
 
-pub mapped : {A B : Type 0} (f : A → B) {z : A} {l : List A} → Among z l → Among (f z) (map f l)
-mapped f (here e) = here (ap f e)
-mapped f (there m) = there (mapped f m)
+pub among-map : {A B : Type 0} (f : A → B) {z : A} {l : List A} → Among z l → Among (f z) (map f l)
+among-map f (here e) = here (ap f e)
+among-map f (there m) = there (among-map f m)
 
 pub record From {A B : Type 0} (f : A → B) (w : B) (l : List A) : Type 0 where
   pub source : A

@@ -2,7 +2,7 @@
 -- Assumes nothing.
 use borrow.Author.Needs.{needs}
 use Rattle.trailer.specs.Trailer.{Trail}
-use Rattle.accept.proofs.Judging.{NumbersRead, asked, framed-says, trail-fails, trail-passes, walk-ask, walked-own}
+use Rattle.accept.proofs.Judging.{NumbersRead, numbers-read, framed-says, trail-fails, trail-passes, walk-ask, walked-own}
 use Rattle.accept.proofs.is_framed.Statement.{statement}
 use Rattle.accept.proofs.is_framed.Tie as tie
 
@@ -16,7 +16,7 @@ four : (c : tie.After-wide164)
     (c .before .before .before .wide16 .result) (c .before .before .wide162 .result) (c .before .wide163 .result) (c .wide164 .result)
 four c =
     let read = c .before .before .before .before .before in
-    asked _ _ _ _ _ _ (passed (read .before)) (read .read .ensures)
+    numbers-read _ _ _ _ _ _ (passed (read .before)) (read .read .ensures)
     (c .before .before .before .wide16 .ensures .0) (c .before .before .wide162 .ensures .0) (c .before .wide163 .ensures .0) (c .wide164 .ensures .0)
 
 pub is-framed-spec : {M : Type 1} → statement M

@@ -64,7 +64,7 @@ use Rattle.shapes.proofs.Answer.Laws as P′
 use Rattle.shapes.proofs.Salvage.{keptOf}
 use Rattle.shapes.proofs.Kept as K
 use Rattle.shapes.proofs.Kept.Laws as K′
-use Rattle.cards.specs.Cards.{BlockAsk}
+use Rattle.cards.specs.Cards.{CardBlockAsk}
 use Rattle.salvage.specs.Saving.{savedOf}
 use Rattle.salvage.proofs.save_names as saves
 use Rattle.salvage.proofs.save_names.Symbol as saves-def
@@ -75,7 +75,7 @@ use Rattle.cards.proofs.judge_block.Symbol as judges-def
 use Rattle.cards.proofs.judge_block.Symbol.{name as #judge-block}
 use Rattle.cards.proofs.judge_block.Met as judges-thm
 use Rattle.book.proofs.Filling.{filled, length-filled}
-use Rattle.book.proofs.Salvaging.{salvage-asks, salvage-done, salvage-refused, turned}
+use Rattle.book.proofs.Salvaging.{salvage-asks, salvage-done, salvage-refused, turnedBlock}
 use Rattle.book.proofs.Walking.{guards, not-not, tests, zero-holds}
 use Rattle.book.proofs.book_salvage.Key.{name as #book-salvage}
 use Rattle.book.proofs.book_salvage as f
@@ -144,7 +144,7 @@ module _ {M : Type 1} (𝓤 : URA M) (H : Heap 𝓤) (A : Atoms 𝓤) (W : Given
 
   -- what turn number i stores, and the report rows after i turns
   abbrev reply : ℕ → Kept
-  reply = turned (now card)
+  reply = turnedBlock (now card)
 
   abbrev fill : ℕ → List Kept
   fill = filled reply old
@@ -202,7 +202,7 @@ module _ {M : Type 1} (𝓤 : URA M) (H : Heap 𝓤) (A : Atoms 𝓤) (W : Given
   abbrev to-judge : ℕ → Judges 𝓤 H A mem run .Ghost
   to-judge i = (((κd, tt), (qd, tt), tt, (card, (i, tt)), (vd ∷ [], (vint w64 i ∷ [], tt))), tt)
 
-  asks-judge : (i : ℕ) → i < 2 ^ 64 → BlockAsk (now card) i → ent 𝓤 (sep 𝓤 (A .lft κd qd) (sem 𝓤 H A OwnD)) (sep 𝓤 (Judges 𝓤 H A mem run .pre (to-judge i)) (sem 𝓤 H A OwnD))
+  asks-judge : (i : ℕ) → i < 2 ^ 64 → CardBlockAsk (now card) i → ent 𝓤 (sep 𝓤 (A .lft κd qd) (sem 𝓤 H A OwnD)) (sep 𝓤 (Judges 𝓤 H A mem run .pre (to-judge i)) (sem 𝓤 H A OwnD))
   asks-judge i small ask =
       qed W (‵ (flft κd qd) ∷ ‵ OwnD ∷ []) ∵ move ! (1 ∷ []) $ use1 W (‵ OwnD ⊛ ‵ OwnD) (shr-slice-copy 𝓤 H A W (named 0) κd u8 .twice card (vd ∷ [])) $ split ! $
       nothing ! $ owned ! usize (Is usize) (uint-makes 𝓤 H A W w64) i _ (refl, small) $ fjoin ! $ move ! (1 ∷ 0 ∷ []) $ fjoin ! $

@@ -1,14 +1,14 @@
--- `cards::starts_rise` meets its contract: `Climbing` carries the loop; the bounds that are left are its measure.
+-- `cards::starts_rise` meets its contract: `StartsClimb` carries the loop; the bounds that are left are its measure.
 -- Assumes nothing.
 use Prim.Native.Nat.{_-_}
 use native.Mathlib.Omega.{arith}
 use borrow.Author.Needs.{needs}
-use Rattle.cards.proofs.Cards.{Climbing, climbing-done, climbing-falls, climbing-more, climbing-not, climbing-start}
+use Rattle.cards.proofs.Cards.{StartsClimb, climbing-done, climbing-falls, climbing-more, climbing-not, climbing-start}
 use Rattle.cards.proofs.starts_rise.Statement.{statement}
 use Rattle.cards.proofs.starts_rise.Tie as tie
 
 abbrev Inv-loop : tie.InvT-loop
-Inv-loop card count at₀ i₀ at i = Climbing card count i at
+Inv-loop card count at₀ i₀ at i = StartsClimb card count i at
 
 abbrev μ-loop : tie.MeasureT-loop
 μ-loop card count at₀ i₀ at i = count - i

@@ -1,12 +1,12 @@
--- `heads::pass_records` meets its contract. The loop keeps `Passes`; the records that are left to pass are its measure.
+-- `heads::pass_records` meets its contract. The loop keeps `PassesOn`; the records that are left to pass are its measure.
 -- Assumes nothing.
 use native.Mathlib.Omega.{arith}
-use Rattle.heads.proofs.Passing.{Passes, passes-all, passes-ended, passes-fits, passes-more, passes-start}
+use Rattle.heads.proofs.Passing.{PassesOn, passes-all, passes-ended, passes-fits, passes-more, passes-start}
 use Rattle.heads.proofs.pass_records.Statement.{statement}
 use Rattle.heads.proofs.pass_records.Tie as tie
 
 abbrev Inv-loop : tie.InvT-loop
-Inv-loop list count at₀ left₀ at left = Passes list count at left
+Inv-loop list count at₀ left₀ at left = PassesOn list count at left
 
 abbrev μ-loop : tie.MeasureT-loop
 μ-loop list count at₀ left₀ at left = left

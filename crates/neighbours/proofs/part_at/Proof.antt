@@ -3,7 +3,8 @@
 use native.Mathlib.Omega.{arith}
 use mathlib.Core.Path.{sym, _∙_}
 use borrow.Author.Needs.{needs}
-use Rattle.neighbours.proofs.Meeting.{folded-other, meet-fewer, meet-just, meet-least, meet-less, meet-other, meet-reads, meet-stored}
+use Rattle.symbols.proofs.Symbols.{folded-other}
+use Rattle.neighbours.proofs.Meeting.{meet-fewer, meet-just, meet-least, meet-less, meet-other, meet-reads, meet-stored}
 use Rattle.neighbours.proofs.part_at.Statement.{statement}
 use Rattle.neighbours.proofs.part_at.Tie as tie
 

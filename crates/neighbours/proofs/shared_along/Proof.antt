@@ -3,7 +3,8 @@
 use native.Mathlib.Omega.{arith}
 use mathlib.Core.Path.{refl, sym, _∙_}
 use borrow.Author.Needs.{needs}
-use Rattle.neighbours.proofs.Meeting.{folded-other, meet-asks, meet-before, meet-counted, meet-most, meet-packed, meet-reads, meet-starts}
+use Rattle.symbols.proofs.Symbols.{folded-other}
+use Rattle.neighbours.proofs.Meeting.{meet-asks, meet-before, meet-counted, meet-most, meet-packed, meet-reads, meet-starts}
 use Rattle.neighbours.proofs.shared_along.Statement.{statement}
 use Rattle.neighbours.proofs.shared_along.Tie as tie
 

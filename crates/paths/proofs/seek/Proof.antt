@@ -4,7 +4,7 @@
 use Prim.Native.Nat.{_-_}
 use native.Mathlib.Omega.{arith}
 use Rattle.paths.specs.Paths.{tableMap}
-use Rattle.paths.proofs.Ways.{Here, SeekingAt, at-here, end-fits, here-room, here-small, row-fits, row-here, seek-first, seek-here, seek-less, seek-next, seek-none}
+use Rattle.paths.proofs.Ways.{AtOffset, SeekingAt, at-here, end-fits, here-room, here-small, row-fits, row-here, seek-first, seek-here, seek-less, seek-next, seek-none}
 use Rattle.paths.proofs.seek.Statement.{statement}
 use Rattle.paths.proofs.seek.Tie as tie
 
@@ -15,7 +15,7 @@ abbrev μ-loop : tie.MeasureT-loop
 μ-loop book stride step o s end c₀ c = end - c
 
 -- in the row stands a child
-kid : (c : tie.In-loop Inv-loop μ-loop) → let a = c .before .before .before .before .args in Here (a .book .now) (tableMap (a .book .now) (a .stride) (a .step)) (c .before .loop .c)
+kid : (c : tie.In-loop Inv-loop μ-loop) → let a = c .before .before .before .before .args in AtOffset (a .book .now) (tableMap (a .book .now) (a .stride) (a .step)) (c .before .loop .c)
 kid c = row-here (c .before .before .before .before .pre .at-node) (c .before .before .nodes .ensures .0) (c .before .loop .inv .placed) (c .loop-test .taken)
 
 -- its symbol is not below s

@@ -20,7 +20,7 @@ abbrev μ-bytes : tie.MeasureT-bytes
 
 abbrev Inv-records : tie.InvT-records
 Inv-records rule list limit lens₀ counts₀ shares₀ at₀ prev₀ before₀ n₀ lens counts shares at prev before n =
-    law.Reads (ruleBy rule) list limit lens₀ counts₀ shares₀ lens counts shares at prev before n
+    law.ReadsOn (ruleBy rule) list limit lens₀ counts₀ shares₀ lens counts shares at prev before n
 
 abbrev μ-records : tie.MeasureT-records
 μ-records rule list limit lens₀ counts₀ shares₀ at₀ prev₀ before₀ n₀ lens counts shares at prev before n = length list - at

@@ -9,7 +9,7 @@ use Rattle.records.proofs.shared_above.Tie as tie
 
 -- behind the first i bytes so many symbols more are the same
 alike : (c : tie.After-shared-on)
-    → let a = c .before .before .before .before .before .args in law.Alike (a .rule) (a .list .now) (a .prev) (a .before) (a .start) (a .len) (a .i + c .shared-on .result)
+    → let a = c .before .before .before .before .before .args in law.AlikeSoFar (a .rule) (a .list .now) (a .prev) (a .before) (a .start) (a .len) (a .i + c .shared-on .result)
 alike c =
     let l = c .before .before .before in
     law.symbols-alike (l .before .before .pre) (l .lesser .ensures) _ (c .shared-on .ensures)

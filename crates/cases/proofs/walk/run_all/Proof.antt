@@ -4,12 +4,12 @@
 use Prim.Native.Nat.{_-_, _≤_}
 use borrow.Author.Needs.{needs}
 use lib.ListN.{length}
-use Rattle.cases.specs.Places.{Placed}
+use Rattle.cases.specs.Places.{CasePlaced}
 use Rattle.cases.proofs.walk.run_all.Statement.{statement}
 use Rattle.cases.proofs.walk.run_all.Tie as tie
 
 abbrev Inv-loop : tie.InvT-loop
-Inv-loop call file place₀ number₀ place number = Placed file place × (number ≤ place .next)
+Inv-loop call file place₀ number₀ place number = CasePlaced file place × (number ≤ place .next)
 
 abbrev μ-loop : tie.MeasureT-loop
 μ-loop call file place₀ number₀ place number = length file - place .next
