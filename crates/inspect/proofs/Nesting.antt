@@ -11,7 +11,7 @@ use native.Mathlib.Omega.{arith}
 use mathlib.Core.Path.{_≡_}
 use Rattle.words.specs.Words.{Bytes}
 use Rattle.standing.specs.Maps.{recordAt}
-use Rattle.inspect.specs.Check.{MayBeFork}
+use Rattle.looks.specs.Looks.{MayBeFork}
 
 -- of a node, or its row, of n names and of depth d
 abbrev pub levelsLeft : ℕ → ℕ → ℕ

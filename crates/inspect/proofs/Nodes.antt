@@ -23,7 +23,8 @@ use Rattle.streams.proofs.Here.{here-length, words-count}
 use Rattle.standing.specs.Maps.{Roomy, mapBy, recordAt}
 use Rattle.standing.specs.Stands.{GroupAt, NodeAt}
 use Rattle.standing.proofs.Children as child
-use Rattle.inspect.specs.Check.{LeafAt, NodeAsk, NodeSays, NodeStands}
+use Rattle.looks.specs.Looks.{LeafAt}
+use Rattle.inspect.specs.Check.{NodeAsk, NodeSays, NodeStands}
 
 -- ---- one name
 

@@ -1,10 +1,10 @@
 -- The ways through the row check, one law for each, over plain values.
 --     Paces             so many strides from one offset to another
 --     Rows              where the loops over a row have come to: the record at `child`, and the entry of its first name lo at a
---     Walked            beside it, the walk has come there
+--     WalkedForAny            beside it, the walk has come there
 --     Pending           the invariant of both loops: the walk will have, once the record at hand tells the symbol of lo
 --     Turn              the child at hand, of the names up to `next`, stands up to m, and c is where its last name's entry stands
---     Onward            behind it another record starts, and the entry of its first name stands at l
+--     RowGoesOn            behind it another record starts, and the entry of its first name stands at l
 --     led-to, fork-like what a look at a record says, where it says yes
 --     pending-.., rows-..     the ways
 -- Assumes nothing.
@@ -33,7 +33,8 @@ use Rattle.standing.proofs.Maps.{strides-left}
 use Rattle.standing.proofs.Walk.{Expected, Walk, deep-short, group-end, node-head, walk-done, walk-more, walk-next, walk-start}
 use Rattle.neighbours.specs.Neighbours.{MeetAsk, Meets, PartSays, sharedBefore}
 use Rattle.neighbours.proofs.Meeting.{meet-level}
-use Rattle.inspect.specs.Check.{ForkSays, LeafSays, LedSays, LedTo, MayBeFork, NodeAsk, NodeSays, NodeStands}
+use Rattle.looks.specs.Looks.{ForkSays, LeafSays, LedSays, LedTo, MayBeFork}
+use Rattle.inspect.specs.Check.{NodeAsk, NodeSays, NodeStands}
 use Rattle.inspect.proofs.Nodes.{Asked, RowStands, leaf-not, leaf-stands, node-of, row-of, says-no, says-yes}
 
 -- ---- ways over nodes
@@ -75,7 +76,7 @@ pub record Rows (b : Bytes) (stride step o e lo₀ d a₀ child lo a g : ℕ) : 
 abbrev Walks : Bytes → ℕ → ℕ → ℕ → ℕ → ℕ → ℕ → ℕ → Type 0
 Walks b stride step o lo₀ d child lo = (hi : ℕ) → suc lo₀ < hi → lo < hi → hi ≤ length (wordsIn b) → Walk (mapBy stride step) b (wordsIn b) lo₀ hi d (o + stride) lo child
 
-pub record Walked (b : Bytes) (stride step o e lo₀ d a₀ child lo a g : ℕ) : Type 0 where
+pub record WalkedForAny (b : Bytes) (stride step o e lo₀ d a₀ child lo a g : ℕ) : Type 0 where
   pub rows : Rows b stride step o e lo₀ d a₀ child lo a g
   pub walk : Walks b stride step o lo₀ d child lo
 
@@ -94,7 +95,7 @@ pub record Pending (b : Bytes) (stride step o e lo₀ d a₀ child lo a g : ℕ)
 
 -- s is the symbol that led to the child
 pub record Turn (b : Bytes) (stride step o e lo₀ d a₀ child lo a g next m c s : ℕ) : Type 0 where
-  pub walked : Walked b stride step o e lo₀ d a₀ child lo a g
+  pub walked : WalkedForAny b stride step o e lo₀ d a₀ child lo a g
   pub told : next ≡ lo + recordAt step b child .names
   pub some : lo < next
   pub upto : next ≤ length (namesOf b)
@@ -105,7 +106,7 @@ pub record Turn (b : Bytes) (stride step o e lo₀ d a₀ child lo a g next m c 
   pub left : Paces stride m e
   pub led : s ≡ recordAt step b child .symbol
 
-pub record Onward (b : Bytes) (stride step o e lo₀ d a₀ child lo a g next m c s l : ℕ) : Type 0 where
+pub record RowGoesOn (b : Bytes) (stride step o e lo₀ d a₀ child lo a g next m c s l : ℕ) : Type 0 where
   pub turn : Turn b stride step o e lo₀ d a₀ child lo a g next m c s
   pub room : m < e
   pub other : recordAt step b m .symbol ≡ s → ⊥
@@ -172,7 +173,7 @@ module _ {b : Bytes} {stride step o e lo₀ d a₀ : ℕ} where
   -- ---- up to the child
 
   module _ {child lo a g : ℕ} where
-    expects : Walked b stride step o e lo₀ d a₀ child lo a g → RowStands b stride step o e lo₀ d → Expected (mapBy stride step) b (wordsIn b) lo₀ (groupEnd b step o lo₀) d lo child e
+    expects : WalkedForAny b stride step o e lo₀ d a₀ child lo a g → RowStands b stride step o e lo₀ d → Expected (mapBy stride step) b (wordsIn b) lo₀ (groupEnd b step o lo₀) d lo child e
     expects w s =
         walk-next (mapBy stride step) b (wordsIn b) (w .rows .asked .ask .known .rises) lo₀ (groupEnd b step o lo₀) d (o + stride) (two s) (inside s) lo child (w .walk (groupEnd b step o lo₀) (two s) (w .rows .ahead s) (inside s)) e (s .group)
 
@@ -191,7 +192,7 @@ module _ {b : Bytes} {stride step o e lo₀ d a₀ : ℕ} where
           never (k .symbol ∙ sym (here-symbol (ruleIn b) b lo a (p .rows .asked .ask .known) (p .rows .here) (p .rows .some) d _ (p .rows .low) refl), k .first))
 
       -- the symbol of lo led to the record
-      pub pending-led : LedTo b step child lo d a → Walked b stride step o e lo₀ d a₀ child lo a g
+      pub pending-led : LedTo b step child lo d a → WalkedForAny b stride step o e lo₀ d a₀ child lo a g
       pending-led led = record {
         rows = p .rows;
         walk = p .walk (λ l.
@@ -199,7 +200,7 @@ module _ {b : Bytes} {stride step o e lo₀ d a₀ : ℕ} where
             (λ q. p .other l (here-symbol (ruleIn b) b lo a (p .rows .asked .ask .known) (p .rows .here) (p .rows .some) d _ (p .rows .low) (led .0) ∙ sym q)));
       }
 
-    module _ (w : Walked b stride step o e lo₀ d a₀ child lo a g) (led : LedTo b step child lo d a) where
+    module _ (w : WalkedForAny b stride step o e lo₀ d a₀ child lo a g) (led : LedTo b step child lo d a) where
       known : Known (ruleIn b) b
       known = w .rows .asked .ask .known
 
@@ -484,7 +485,7 @@ module _ {b : Bytes} {stride step o e lo₀ d a₀ : ℕ} where
               rows-ended q = refused (t .walked .rows .asked) (λ k.
                   lt-irrefl l (omega (arith, t .walked .rows .asked .ask .ended, moved, here-rises b next (length (namesOf b)) (omega (arith, short k h, k .within)))))
 
-              pub rows-onward : l < u → Onward b stride step o e lo₀ d a₀ child lo a g next m c s l
+              pub rows-onward : l < u → RowGoesOn b stride step o e lo₀ d a₀ child lo a g next m c s l
               rows-onward q =
                   let in-names : next < length (namesOf b) = among (apart next (length (namesOf b))) in
                   record {
@@ -503,7 +504,7 @@ module _ {b : Bytes} {stride step o e lo₀ d a₀ : ℕ} where
                       let z : next ≡ length (namesOf b) = omega (arith, t .upto) in
                       absurd (lt-irrefl l (omega (arith, t .walked .rows .asked .ask .ended, moved ∙ ap (offsetAt b) z)))
 
-      module _ {l : ℕ} (w : Onward b stride step o e lo₀ d a₀ child lo a g next m c s l) where
+      module _ {l : ℕ} (w : RowGoesOn b stride step o e lo₀ d a₀ child lo a g next m c s l) where
         pub rows-meets : MeetAsk b c l next
         rows-meets = record {
           known = w .turn .walked .rows .asked .ask .known;

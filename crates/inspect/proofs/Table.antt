@@ -36,7 +36,8 @@ use Rattle.standing.specs.Maps.{Roomy, inRows, mapBy, mapIn, mapOf, recordAt}
 use Rattle.standing.specs.Stands.{NodeAt, Stands}
 use Rattle.standing.proofs.Bytes.{bytes-stand, stands-bytes}
 use Rattle.standing.proofs.Walk.{NodeHead, node-head}
-use Rattle.inspect.specs.Check.{LeafSays, NodeAsk, NodeSays, TableAsk, isRows}
+use Rattle.looks.specs.Looks.{LeafSays}
+use Rattle.inspect.specs.Check.{NodeAsk, NodeSays, TableAsk, isRows}
 use Rattle.inspect.proofs.Nodes.{leaf-not, leaf-stands}
 
 -- ---- names out of bytes are modest

@@ -13,11 +13,11 @@ use borrow.Fn.Kinds.{In}
 use borrow.Fn.PlainCycle.{Measures, is, falls, and}
 use Rattle.format.specs.Book.{namesOf}
 use Rattle.standing.specs.Maps.{Roomy, recordAt}
-use Rattle.inspect.specs.Check.{LedTo, MayBeFork}
+use Rattle.looks.specs.Looks.{LedTo, MayBeFork}
 use Rattle.inspect.proofs.Nesting.{fork-falls, levelsLeft}
 use Rattle.inspect.proofs.Nodes.{Asked}
 use Rattle.inspect.proofs.Rows as law
-use Rattle.inspect.proofs.Rows.{Onward, Pending, Turn, Walked}
+use Rattle.inspect.proofs.Rows.{RowGoesOn, Pending, Turn, WalkedForAny}
 use Rattle.inspect.proofs.check_node.Reads as check-node
 use Rattle.inspect.proofs.check_node.Kinds as check-node-kinds
 use Rattle.inspect.proofs.+check_node+check_row.Lts-check_node as check-node-lts
@@ -30,9 +30,9 @@ use Rattle.fields.proofs.names.Reads as names-reads
 use Rattle.fields.proofs.nodes.Reads as nodes-reads
 use Rattle.fields.proofs.symbol.Reads as symbol-reads
 use Rattle.fields.proofs.width.Reads as width-reads
-use Rattle.inspect.proofs.is_leaf.Reads as is-leaf-reads
-use Rattle.inspect.proofs.is_led_to.Reads as is-led-to-reads
-use Rattle.inspect.proofs.may_be_fork.Reads as may-be-fork-reads
+use Rattle.looks.proofs.is_leaf.Reads as is-leaf-reads
+use Rattle.looks.proofs.is_led_to.Reads as is-led-to-reads
+use Rattle.looks.proofs.may_be_fork.Reads as may-be-fork-reads
 use Rattle.neighbours.proofs.next_entry.Reads as next-entry-reads
 use Rattle.neighbours.proofs.part_at.Reads as part-at-reads
 use Rattle.numbers.proofs.greater.Reads as greater-reads
@@ -92,7 +92,7 @@ led t c = law.led-to _ _ _ _ _ _ (c .before .is-led-to .result) (c .before .is-l
 
 walked : (t : ℕ) (c : check-row-lts.Else2 (row-claims t) (check-row-at t) check-row.Post Inv-loop2 μ-loop2 Inv-loop μ-loop)
     → let a = c .before .before .before .before .before .before .args in let l = c .before .before .loop2 in
-    Walked (a .book .now) (a .stride) (a .step) (a .o) (a .end) (a .lo) (a .d) (a .a) (l .child) (l .first) (l .entry) (l .greatest)
+    WalkedForAny (a .book .now) (a .stride) (a .step) (a .o) (a .end) (a .lo) (a .d) (a .a) (l .child) (l .first) (l .entry) (l .greatest)
 walked t c = law.pending-led (c .before .before .loop2 .inv .1) (led t c)
 
 -- the record at hand may be a fork's
@@ -119,7 +119,7 @@ turn t c =
 onward : (t : ℕ) (c : check-row-lts.Else11 (row-claims t) (check-row-at t) check-row.Post Inv-loop2 μ-loop2 Inv-loop μ-loop)
     → let joined = c .before .before .before .before .before .before in let looked = joined .before .before .before .before .before in
     let a = looked .before .before .before .before .before .before .args in let l = looked .before .before .loop2 in
-    Onward (a .book .now) (a .stride) (a .step) (a .o) (a .end) (a .lo) (a .d) (a .a) (l .child) (l .first) (l .entry) (l .greatest) (joined .if3 .first) (joined .if3 .child) (joined .if3 .entry) (joined .if3 .led) (c .before .before .next-entry .result)
+    RowGoesOn (a .book .now) (a .stride) (a .step) (a .o) (a .end) (a .lo) (a .d) (a .a) (l .child) (l .first) (l .entry) (l .greatest) (joined .if3 .first) (joined .if3 .child) (joined .if3 .entry) (joined .if3 .led) (c .before .before .next-entry .result)
 onward t c =
     let symbol = c .before .before .before .before in
     law.rows-onward (turn t (symbol .before .before)) (symbol .before .if7 .left) _ (symbol .symbol3 .ensures .0) (c .before .before .before .if10 .left) _ _ (c .before .before .next-entry .ensures) (c .before .blocks-at .ensures .0) (c .if11 .left)

@@ -1,10 +1,10 @@
--- `inspect::is_leaf` meets its contract.
+-- `looks::is_leaf` meets its contract.
 -- Assumes nothing.
 use native.Mathlib.Omega.{arith}
 use borrow.Author.Needs.{needs}
-use Rattle.inspect.proofs.Fields.{leaf-depth, leaf-nodes, leaf-width}
-use Rattle.inspect.proofs.is_leaf.Statement.{statement}
-use Rattle.inspect.proofs.is_leaf.Tie as tie
+use Rattle.looks.proofs.Fields.{leaf-depth, leaf-nodes, leaf-width}
+use Rattle.looks.proofs.is_leaf.Statement.{statement}
+use Rattle.looks.proofs.is_leaf.Tie as tie
 
 pub is-leaf-spec : {M : Type 1} → statement M
 is-leaf-spec =

@@ -1,9 +1,9 @@
--- `inspect::leads` meets its contract.
+-- `looks::leads` meets its contract.
 -- Assumes nothing.
 use borrow.Author.Needs.{needs}
-use Rattle.inspect.proofs.Entry.{lead-in, lead-past}
-use Rattle.inspect.proofs.leads.Statement.{statement}
-use Rattle.inspect.proofs.leads.Tie as tie
+use Rattle.looks.proofs.Entry.{lead-in, lead-past}
+use Rattle.looks.proofs.leads.Statement.{statement}
+use Rattle.looks.proofs.leads.Tie as tie
 
 pub leads-spec : {M : Type 1} → statement M
 leads-spec =

@@ -1,9 +1,9 @@
--- `inspect::has_symbol` meets its contract: a capital letter has its symbol by the book's rule, and any other byte by both the same.
+-- `looks::has_symbol` meets its contract: a capital letter has its symbol by the book's rule, and any other byte by both the same.
 -- Assumes nothing.
 use borrow.Author.Needs.{needs}
-use Rattle.inspect.proofs.Entry.{has-by, has-own}
-use Rattle.inspect.proofs.has_symbol.Statement.{statement}
-use Rattle.inspect.proofs.has_symbol.Tie as tie
+use Rattle.looks.proofs.Entry.{has-by, has-own}
+use Rattle.looks.proofs.has_symbol.Statement.{statement}
+use Rattle.looks.proofs.has_symbol.Tie as tie
 
 pub has-symbol-spec : {M : Type 1} → statement M
 has-symbol-spec =

@@ -18,7 +18,7 @@ use Rattle.symbols.specs.Rules.{byKind, ruleBy}
 use Rattle.symbols.specs.declared.Rule.{Rule as ByRule}
 use Rattle.symbols.proofs.Symbols.{rule-by}
 use Rattle.streams.specs.Streams.{restAt}
-use Rattle.inspect.specs.Check.{LeadAsk}
+use Rattle.looks.specs.Looks.{LeadAsk}
 
 -- a byte x and a symbol s
 module _ (b : Bytes) (x s : ℕ) where

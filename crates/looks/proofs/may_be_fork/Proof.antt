@@ -1,12 +1,12 @@
--- `inspect::may_be_fork` meets its contract: each way out but the last is a field of `MayBeFork` or its contrary.
+-- `looks::may_be_fork` meets its contract: each way out but the last is a field of `MayBeFork` or its contrary.
 -- Assumes nothing.
 use native.Mathlib.Omega.{arith}
 use borrow.Author.Needs.{needs}
 use Rattle.format.specs.Nodes.{nodeSize}
 use Rattle.standing.proofs.Maps.{strides-most}
-use Rattle.inspect.proofs.Fields.{fork-ends}
-use Rattle.inspect.proofs.may_be_fork.Statement.{statement}
-use Rattle.inspect.proofs.may_be_fork.Tie as tie
+use Rattle.looks.proofs.Fields.{fork-ends}
+use Rattle.looks.proofs.may_be_fork.Statement.{statement}
+use Rattle.looks.proofs.may_be_fork.Tie as tie
 
 pub may-be-fork-spec : {M : Type 1} → statement M
 may-be-fork-spec =

@@ -16,7 +16,7 @@ use Rattle.words.specs.Words.{Bytes, at, word}
 use Rattle.format.specs.Kinds.{ruleIn}
 use Rattle.streams.specs.Streams.{restAt}
 use Rattle.standing.specs.Maps.{recordAt}
-use Rattle.inspect.specs.Check.{ForkSays, LeafSays, LedSays}
+use Rattle.looks.specs.Looks.{ForkSays, LeafSays, LedSays}
 
 -- x is the symbol that the record tells, v says whether the entry tells it too, z is the first name
 module _ (b : Bytes) (step o i d a x : ℕ) (v : Bool) (xe : x ≡ recordAt step b o .symbol) (ve : v ≡ eqb x (at (word (ruleIn b) (restAt b a)) (d - getD b a 0))) where

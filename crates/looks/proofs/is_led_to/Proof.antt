@@ -1,9 +1,9 @@
--- `inspect::is_led_to` meets its contract.
+-- `looks::is_led_to` meets its contract.
 -- Assumes nothing.
 use borrow.Author.Needs.{needs}
-use Rattle.inspect.proofs.Fields.{led-first, led-symbol}
-use Rattle.inspect.proofs.is_led_to.Statement.{statement}
-use Rattle.inspect.proofs.is_led_to.Tie as tie
+use Rattle.looks.proofs.Fields.{led-first, led-symbol}
+use Rattle.looks.proofs.is_led_to.Statement.{statement}
+use Rattle.looks.proofs.is_led_to.Tie as tie
 
 pub is-led-to-spec : {M : Type 1} → statement M
 is-led-to-spec =
