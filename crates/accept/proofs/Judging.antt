@@ -45,9 +45,9 @@ accepts : Checked → ℕ
 accepts (Sound t) = 1
 accepts Unsound = 0
 
-pub sound-checked≠unsound : {t : Trailer} → Sound t ≡ Unsound → ⊥
+pub sound≠unsound : {t : Trailer} → Sound t ≡ Unsound → ⊥
 unfolding accepts
-sound-checked≠unsound q = let z : _≡_ {A = ℕ} 1 0 = ap accepts q in absurd (omega arith)
+sound≠unsound q = let z : _≡_ {A = ℕ} 1 0 = ap accepts q in absurd (omega arith)
 
 pub unsound : (b : Bytes) → (Parts b → ⊥) → Unsound ≡ checkOn b (opened b)
 unfolding checkOn
@@ -183,7 +183,7 @@ unfolding checkOn
 sound-book b t bytes s = go (opened b) refl s
   where
     go : (o : Opened) → opened b ≡ o → Sound t ≡ checkOn b o → SoundBook b t
-    go NoBook e q = absurd (sound-checked≠unsound q)
+    go NoBook e q = absurd (sound≠unsound q)
     go (Book κ j xs) e q =
         let p : Parts b = opened-parts κ b j xs e in
         let is : t ≡ trailerIn b = cc in
