@@ -35,7 +35,7 @@ use Rattle.answers.specs.Salvage.{cardBlocks, reported}
 use Rattle.answers.proofs.Salvage.{Mapped, block-at, blocks-many, mapped-parts}
 use Rattle.numbers.proofs.Parts.{Held, held-bytes}
 use Rattle.symbols.specs.Rules.{byKind}
-use Rattle.symbols.proofs.Symbols.{folded-other}
+use Rattle.symbols.proofs.Symbols.{rules-differ}
 use Rattle.kinds.specs.Known.{isFull, kindBy, markBack, markFront}
 use Rattle.kinds.proofs.Telling.{kind-told}
 use Rattle.symbols.specs.declared.Rule.{Rule as ByRule}
@@ -120,10 +120,10 @@ trailed s false says h = absurd (false≠true (sym h))
 -- a full book by the plain rule is a plain one
 pub plain-full : (κ : BookKind) (r : ByRule) (full : Bool) → r ≡ byKind κ → r ≡ Plain → full ≡ isFull κ → PlainSays κ full
 plain-full PlainBook r full e h f = rw f refl
-plain-full FoldedBook r full e h f = absurd (folded-other (sym e ∙ h))
+plain-full FoldedBook r full e h f = absurd (rules-differ (sym e ∙ h))
 
 pub not-by-plain : (κ : BookKind) (r : ByRule) → r ≡ byKind κ → r ≡ Folded → PlainSays κ false
-not-by-plain κ r e h = λ z. folded-other (sym h ∙ e ∙ ap byKind z)
+not-by-plain κ r e h = λ z. rules-differ (sym h ∙ e ∙ ap byKind z)
 
 -- the mark is not a plain book's
 pub not-plain : (s : Bytes) (t : Trailer) → Held s → t ≡ trailerIn s → (r : Bool) → PlainSays (kindBy (t .kind)) r → not r ≡ true → false ≡ mapped s

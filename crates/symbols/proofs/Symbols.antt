@@ -3,7 +3,7 @@
 --     symbol-plain, -small, -capital    a byte's symbol, way by way
 --     pair-..                   a byte and a greater one, by the folded rule
 --     alike-.., higher-.., has-..   two bytes and their symbols; a byte and a symbol
---     rule-by, folded-other, rule-sure     the code's rules are the kinds' rules, two of them, and lawful
+--     rule-by, rules-differ, rule-sure     the code's rules are the kinds' rules, two of them, and lawful
 --     symbol-in-.., symbol-past     a name's symbol; past the last byte stands the end symbol
 --     Sharing, sharing-..       the loop over what two names share
 --     parted-..                 names that part at their first bytes
@@ -136,8 +136,8 @@ rule-by PlainBook = refl
 rule-by FoldedBook = refl
 
 -- the two rules are two: byte 65 tells them apart
-pub folded-other : _≡_ {A = ByRule} Folded Plain → ⊥
-folded-other e = lt-irrefl 0 (omega (arith, ap (λ (r : ByRule). ruleBy r 65) e))
+pub rules-differ : _≡_ {A = ByRule} Folded Plain → ⊥
+rules-differ e = lt-irrefl 0 (omega (arith, ap (λ (r : ByRule). ruleBy r 65) e))
 
 pub rule-sure : (r : ByRule) → Sure (ruleBy r)
 rule-sure Plain = kind-sure PlainBook

@@ -1,6 +1,6 @@
 -- Document 02, CR 7, 'Drivers type small letters': folded books. What is said of a kind of book (Books, Lists, Letters, Neighbours, Widths, Calls) holds of
 -- them by the same text; here is what they have of their own.
---     folded-letter, folded-others     a capital has the small letter's symbol; every other byte has document 01's
+--     folded-letter, folded-other     a capital has the small letter's symbol; every other byte has document 01's
 --     folded-edges      the bytes around the letters, computed
 --     folded-typed      questions that are equal once folded get one answer
 --     names-once        no two names of a book have the same symbols: of a folded one, no two are equal once folded
@@ -52,16 +52,16 @@ use Rattle.theorems.proofs.Lists.{build-writes}
 pub folded-edges : map folded (64 ∷ 65 ∷ 90 ∷ 91 ∷ 96 ∷ 97 ∷ 122 ∷ 123 ∷ []) ≡ 65 ∷ 98 ∷ 123 ∷ 92 ∷ 97 ∷ 98 ∷ 123 ∷ 124 ∷ []
 folded-edges = edges-computed
 
-pub folded-others : (b : ℕ) → (b < 65) ⊎ (90 < b) → folded b ≡ plain b
-folded-others b (inl h) = rw (lt-leb 65 b h) refl
-folded-others b (inr h) = ap (λ (t : Bool). pick (both (leb 65 b) t) (plain (b + 32)) (plain b)) (lt-leb b 90 h) ∙ go (leb 65 b)
+pub folded-other : (b : ℕ) → (b < 65) ⊎ (90 < b) → folded b ≡ plain b
+folded-other b (inl h) = rw (lt-leb 65 b h) refl
+folded-other b (inr h) = ap (λ (t : Bool). pick (both (leb 65 b) t) (plain (b + 32)) (plain b)) (lt-leb b 90 h) ∙ go (leb 65 b)
   where
     go : (t : Bool) → pick (both t false) (plain (b + 32)) (plain b) ≡ plain b
     go true = refl
     go false = refl
 
 pub folded-letter : (b : ℕ) → 65 ≤ b → b ≤ 90 → folded b ≡ folded (b + 32)
-folded-letter b low high = rw (le-leb 65 b low, le-leb b 90 high) (sym (folded-others (b + 32) (inr (omega arith))))
+folded-letter b low high = rw (le-leb 65 b low, le-leb b 90 high) (sym (folded-other (b + 32) (inr (omega arith))))
 
 -- ---- however it is typed
 
@@ -71,9 +71,9 @@ one-class b c e = go (letters b) (letters c)
   where
     letters : (a : ℕ) → (folded a ≡ plain a) ⊎ ((a ≤ 90) × (folded a ≡ plain (a + 32)))
     letters a = elim (apart a 65) [
-      | inl h ↦ inl (folded-others a (inl h))
+      | inl h ↦ inl (folded-other a (inl h))
       | inr l ↦ elim (apart 90 a) [
-        | inl h ↦ inl (folded-others a (inr h))
+        | inl h ↦ inl (folded-other a (inr h))
         | inr h ↦ inr (h, rw (le-leb 65 a l, le-leb a 90 h) refl)
       ]
     ]

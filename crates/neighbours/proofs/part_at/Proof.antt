@@ -3,7 +3,7 @@
 use native.Mathlib.Omega.{arith}
 use mathlib.Core.Path.{sym, _∙_}
 use borrow.Author.Needs.{needs}
-use Rattle.symbols.proofs.Symbols.{folded-other}
+use Rattle.symbols.proofs.Symbols.{rules-differ}
 use Rattle.neighbours.proofs.Meeting.{meet-fewer, meet-just, meet-least, meet-less, meet-other, meet-reads, meet-stored}
 use Rattle.neighbours.proofs.part_at.Statement.{statement}
 use Rattle.neighbours.proofs.part_at.Tie as tie
@@ -28,7 +28,7 @@ part-at-spec =
     (λ c κs.
     let r = c .before .before in
     let w = r .before .before .before in
-    record { meet = w .before .before .before .pre .0; whole = λ e. absurd (folded-other (sym (c .enum-told2 .given .1) ∙ r .rule .ensures ∙ e)) })
+    record { meet = w .before .before .before .pre .0; whole = λ e. absurd (rules-differ (sym (c .enum-told2 .given .1) ∙ r .rule .ensures ∙ e)) })
     (λ c.
     let r = c .before .before .before .before in
     let w = r .before .before .before in

@@ -3,7 +3,7 @@
 use native.Mathlib.Omega.{arith}
 use mathlib.Core.Path.{refl, sym, _∙_}
 use borrow.Author.Needs.{needs}
-use Rattle.symbols.proofs.Symbols.{folded-other}
+use Rattle.symbols.proofs.Symbols.{rules-differ}
 use Rattle.neighbours.proofs.Meeting.{meet-asks, meet-before, meet-counted, meet-most, meet-packed, meet-reads, meet-starts}
 use Rattle.neighbours.proofs.shared_along.Statement.{statement}
 use Rattle.neighbours.proofs.shared_along.Tie as tie
@@ -34,7 +34,7 @@ shared-along-spec =
     (λ c κs.
     let told = c .before .before in
     let r = told .before .before in
-    meet-asks _ _ _ _ (r .before .before .before .pre .meet) _ _ (r .rule .ensures) (told .enum-told2 .given .1) _ (c .wide .ensures .0) (λ e. absurd (folded-other e)) _ (r .before .whole-before .ensures))
+    meet-asks _ _ _ _ (r .before .before .before .pre .meet) _ _ (r .rule .ensures) (told .enum-told2 .given .1) _ (c .wide .ensures .0) (λ e. absurd (rules-differ e)) _ (r .before .whole-before .ensures))
     (λ c.
     let told = c .before .before .before in
     let r = told .before .before in
