@@ -6,32 +6,21 @@ ghost use Prim.Native.Nat.{_+_, _-_, _≤_};
 ghost use lib.Dec.{eqb};
 ghost use lib.ListN.{length, getD};
 ghost use Rattle.words.specs.Words.{at, word};
-ghost use Rattle.format.specs.Book.{trailerSize};
 ghost use Rattle.format.specs.Kinds.{ruleIn};
 ghost use Rattle.format.specs.Nodes.{nodeSize};
 ghost use Rattle.streams.specs.Streams.{lengthAt, restAt};
 ghost use Rattle.standing.specs.Maps.{Roomy};
 ghost use Rattle.looks.specs.Looks.{ForkSays, LeadAsk, LeafSays, LedSays};
 
-// Whether a byte has that symbol. Only of a capital letter the rule is asked for: all others have the same symbol by both.
-fn has_symbol(book: &[u8], x: u8, s: usize) -> bool
-    requires { ⌜ trailerSize ≤ length (now book) ⌝ }
-    ensures { λ r. ⌜ r ≡ eqb s (ruleIn (now (book .entry)) x) ⌝ }
-{
-    if symbols::is_capital(x) {
-        return symbols::has_symbol(trailer::rule(book), x, s);
-    }
-    s == numbers::wide(x) + 1
-}
-
-// Whether symbol number d of the name of the entry at a, which shares no more than d bytes, is s.
+// Whether symbol number d of the name of the entry at a, which shares no more than d bytes, is s. The rule is asked for first: it is the same
+// for the whole book, and which byte stands there is not.
 fn leads(book: &[u8], a: usize, d: usize, s: usize) -> bool
     requires { ⌜ LeadAsk (now book) a d ⌝ }
     ensures { λ r. ⌜ r ≡ eqb s (at (word (ruleIn (now (book .entry))) (restAt (now (book .entry)) a)) (d - getD (now (book .entry)) a 0)) ⌝ }
 {
     let skip = d - numbers::wide(book[a]);
     if skip < numbers::wide(book[a + 1]) {
-        return has_symbol(book, book[a + 2 + skip], s);
+        return symbols::has_symbol(trailer::rule(book), book[a + 2 + skip], s);
     }
     s == 0
 }
