@@ -1,6 +1,7 @@
 -- Laws of the writers of entries.
 --     stored-same, stored-other     the count that a name stores
 --     entry-put                     the bytes of one entry: its two counts, and its rest copied behind them
+--     piece-put, piece-kept         the same by way of a piece, which stays as long as it was
 --     entry-here                    an entry, by bytes of the list
 --     Sizing: sizing-start, sizing-record .. sizing-fits, sizing-count, sizing-more, sizing-all     a block, name by name
 --     Summing: summing-start, summing-record, summing-count, summing-more, summing-size     the same by sums
@@ -18,17 +19,18 @@ use mathlib.Core.Path.{_≡_, refl, sym, ap, _∙_, ap₂, subst}
 use mathlib.Core.List.{List, [], _∷_, _++_, append-assoc, append-nil}
 use lib.Dec.{eqb}
 use lib.ListN.{length, getD, set, take, drop, length-append, length-take, length-drop}
-use lib.Seq.{slice, slice-empty, slice-cons, take-suc, drop-append-le, length-take-le, take-add, drop-at, drop-drop}
+use lib.Seq.{slice, slice-empty, slice-cons, take-suc, drop-append-le, length-take-le, take-add, take-at, drop-at, drop-drop}
 use borrow.Author.Tests.{eq-eqb, ne-eqb}
 use Rattle.words.specs.Words.{Bytes, pick, shared}
 use Rattle.words.proofs.Words.{shared-comm, shared-le}
 use Rattle.format.specs.Entries.{entry, front}
 use Rattle.format.specs.Outcomes.{over}
+use Rattle.format.specs.Records.{longest}
 use Rattle.format.specs.Spans.{lastOf}
-use Rattle.numbers.proofs.Parts.{Copied, copied-behind, lent, over-all, over-length, part-length}
+use Rattle.numbers.proofs.Parts.{Copied, copied, copied-behind, lent, over-all, over-length, part-length}
 use Rattle.records.specs.Lists.{names, startOf}
 use Rattle.records.proofs.Starts.{ready-size, start-byte, start-fits, start-name, start-next, start-within}
-use Rattle.blocks.specs.Writing.{BlockAsk, BlockPut, BlockSize, SharedSum, before, block, sharedTo, storedCount}
+use Rattle.blocks.specs.Writing.{BlockAsk, BlockPut, BlockSize, LengthsAre, SharedSum, before, block, pieceSize, sharedTo, storedCount}
 
 -- ---- the count that a name stores
 
@@ -58,6 +60,21 @@ entry-put s from c rest part room size ys y =
     ap (λ (x : Bytes). set (set x 0 c) 1 rest) (copied-behind copy part ys 2 (omega arith) y ∙ over-all (take 2 part ++ copy) part whole)
     ∙ counted part copy c rest (omega arith)
     ∙ ap (λ (n : ℕ). c ∷ rest ∷ take n (drop from s)) z
+
+-- an entry stands at the front of a piece, of which the other bytes stay
+module _ (s : Bytes) (from c rest : ℕ) (piece : Bytes) (room : from + rest ≤ length s) (ys : Bytes) (y : ys ≡ c ∷ rest ∷ take rest (drop from s)) where
+  entry-length : length ys ≡ rest + 2 - 0
+  entry-length = ap length y ∙ omega (arith, part-length s from rest room)
+
+  -- and was copied from there into a part of its size
+  pub piece-put : (part : Bytes) → length part ≡ rest + 2 → (out : Bytes) → Copied (take (rest + 2 - 0) (ys ++ drop (rest + 2 - 0) piece)) part out → out ≡ c ∷ rest ∷ take rest (drop from s)
+  piece-put part size out o =
+      let front : take (rest + 2 - 0) (ys ++ drop (rest + 2 - 0) piece) ≡ ys = take-at ys (drop (rest + 2 - 0) piece) (rest + 2 - 0) entry-length in
+      copied (take (rest + 2 - 0) (ys ++ drop (rest + 2 - 0) piece)) part out o
+      ∙ ap (λ (x : Bytes). over x part) front ∙ over-all ys part (entry-length ∙ omega arith) ∙ y
+
+  pub piece-kept : rest ≤ longest → length piece ≡ pieceSize → length (ys ++ drop (rest + 2 - 0) piece) ≡ pieceSize
+  piece-kept short long = length-append ys (drop (rest + 2 - 0) piece) ∙ omega (arith, entry-length, length-drop (rest + 2 - 0) piece)
 
 -- ---- blocks of names
 
@@ -256,7 +273,7 @@ pub record Filling (s : Bytes) (lo hi : ℕ) (room₀ room : Bytes) (i next size
   pub kept : length room ≡ length room₀
   pub written : room ≡ over (block s lo i) room₀
 
-module _ {s : Bytes} {counts : List ℕ} {lo at hi : ℕ} (a : BlockAsk s counts lo at hi) (room₀ : Bytes) (big : length (block s lo hi) ≤ length room₀) where
+module _ {s : Bytes} {lens counts : List ℕ} {lo at hi : ℕ} (a : BlockAsk s counts lo at hi) (l : LengthsAre (names s) lens) (room₀ : Bytes) (big : length (block s lo hi) ≤ length room₀) where
   pub filling-start : Filling s lo hi room₀ room₀ lo at 0
   filling-start = record { sizing = sizing-start a; kept = refl; written = ap (λ (b : Bytes). over b room₀) (sym (block-none s lo)) }
 
@@ -266,9 +283,19 @@ module _ {s : Bytes} {counts : List ℕ} {lo at hi : ℕ} (a : BlockAsk s counts
         let e : i ≡ hi = omega (arith, z .sizing .high) in
         record { sized = sizing-all a (z .sizing) h; put = z .written ∙ ap (λ (k : ℕ). over (block s lo k) room₀) e }
 
-    module _ (h : i < hi) (len : ℕ) (e : len ≡ getD s next 0) (c : ℕ) (f : c ≡ storedCount lo i counts) where
+    pub filling-place : i < hi → i < length lens
+    filling-place h = omega (arith, l .enough, in-names a (z .sizing) h)
+
+    module _ (h : i < hi) (len : ℕ) (noted : len ≡ getD lens i 0) (c : ℕ) (f : c ≡ storedCount lo i counts) where
+      -- what was noted is the record's length byte
+      byte : len ≡ getD s next 0
+      byte = noted ∙ l .sizes i (in-names a (z .sizing) h) ∙ sym (ap (λ (k : ℕ). getD s k 0) (z .sizing .here) ∙ start-byte (a .ready) i (in-list a (z .sizing) h))
+
+      pub filling-less : c ≤ len
+      filling-less = sizing-count a (z .sizing) h len byte c f
+
       next-size : size + (2 + len - c) ≡ length (block s lo (i + 1))
-      next-size = sizing-more a (z .sizing) h len e c f .is
+      next-size = sizing-more a (z .sizing) h len byte c f .is
 
       pub filling-fits : size + 2 + (len - c) ≤ length room
       filling-fits =
@@ -276,18 +303,18 @@ module _ {s : Bytes} {counts : List ℕ} {lo at hi : ℕ} (a : BlockAsk s counts
             arith,
             next-size,
             z .kept,
-            sizing-count a (z .sizing) h len e c f,
+            sizing-count a (z .sizing) h len byte c f,
             block-grows s lo (i + 1) hi (omega (arith, z .sizing .low)) (omega arith) (omega (arith, a .within, a .ready .total)),
           )
 
       pub filling-count : c < 256
-      filling-count = omega (arith, sizing-low a (z .sizing) h len e, sizing-count a (z .sizing) h len e c f)
+      filling-count = omega (arith, sizing-low a (z .sizing) h len byte, sizing-count a (z .sizing) h len byte c f)
 
-      pub filling-rest : len - c < 256
-      filling-rest = omega (arith, sizing-low a (z .sizing) h len e)
+      pub filling-rest : len - c ≤ longest
+      filling-rest = omega (arith, sizing-low a (z .sizing) h len byte)
 
       pub filling-source : next + 1 + c + (len - c) ≤ length s
-      filling-source = omega (arith, sizing-fits a (z .sizing) h len e, sizing-count a (z .sizing) h len e c f)
+      filling-source = omega (arith, sizing-fits a (z .sizing) h len byte, sizing-count a (z .sizing) h len byte c f)
 
       pub filling-part : length (take (size + 2 + (len - c) - size) (drop size room)) ≡ len - c + 2
       filling-part = simp (length-take, length-drop) (omega (arith, filling-fits))
@@ -295,15 +322,15 @@ module _ {s : Bytes} {counts : List ℕ} {lo at hi : ℕ} (a : BlockAsk s counts
       pub filling-more : (ys : Bytes) → ys ≡ c ∷ (len - c) ∷ take (len - c) (drop (next + 1 + c) s)
           → Filling s lo hi room₀ (take size room ++ (ys ++ drop (size + 2 + (len - c) - size) (drop size room))) (i + 1) (next + (1 + len)) (size + 2 + (len - c))
       filling-more ys y =
-          let end : size + (2 + len - c) ≡ size + 2 + (len - c) = omega (arith, sizing-count a (z .sizing) h len e c f) in
+          let end : size + (2 + len - c) ≡ size + 2 + (len - c) = omega (arith, sizing-count a (z .sizing) h len byte c f) in
           let long : length ys ≡ size + 2 + (len - c) - size =
-          ap length y ∙ omega (arith, part-length s (next + 1 + c) (len - c) (omega (arith, sizing-fits a (z .sizing) h len e, sizing-count a (z .sizing) h len e c f))) in
+          ap length y ∙ omega (arith, part-length s (next + 1 + c) (len - c) (omega (arith, sizing-fits a (z .sizing) h len byte, sizing-count a (z .sizing) h len byte c f))) in
           let now-is : take size room ++ (ys ++ drop (size + 2 + (len - c) - size) (drop size room)) ≡ over (block s lo (i + 1)) room₀ =
           lent (block s lo i) room₀ room ys size (size + 2 + (len - c) - size) (z .written) (sym (z .sizing .is)) (omega (arith, filling-fits, z .kept)) long
-          ∙ ap (λ (b : Bytes). over b room₀) (ap (λ (b : Bytes). block s lo i ++ b) y ∙ sym (grown a (z .sizing) h len e c f)) in
+          ∙ ap (λ (b : Bytes). over b room₀) (ap (λ (b : Bytes). block s lo i ++ b) y ∙ sym (grown a (z .sizing) h len byte c f)) in
           record {
-            sizing = subst (Sizing s lo hi (i + 1) (next + (1 + len))) end (sizing-more a (z .sizing) h len e c f);
-            kept = ap length now-is ∙ over-length (block s lo (i + 1)) room₀ (omega (arith, sym next-size, filling-fits, z .kept, sizing-count a (z .sizing) h len e c f));
+            sizing = subst (Sizing s lo hi (i + 1) (next + (1 + len))) end (sizing-more a (z .sizing) h len byte c f);
+            kept = ap length now-is ∙ over-length (block s lo (i + 1)) room₀ (omega (arith, sym next-size, filling-fits, z .kept, sizing-count a (z .sizing) h len byte c f));
             written = now-is;
           }
 

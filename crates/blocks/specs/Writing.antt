@@ -2,6 +2,8 @@
 --     before            the name before name i in a block that begins with name lo: none for the first
 --     block             the entries of names lo to hi as one block
 --     storedCount       the count that name i stores, by what was noted
+--     pieceSize         the longest entry
+--     LengthsAre        a row with the length of each name
 --     BlockAsk, BlockSize, BlockPut    one block, its size, and the block written
 --     EntriesAsk        all names, in blocks of k
 --     NumberPut         one number more of a row, where it fits
@@ -9,7 +11,7 @@
 --     SumsAre           how many blocks there are, and how large their entries
 --     Surveyed          the same, and where each begins
 -- The laws are in proofs/. Assumes nothing: these are definitions.
-use Prim.Native.Nat.{ℕ, zero, suc, pred, _+_, _*_, _≤_}
+use Prim.Native.Nat.{ℕ, zero, suc, pred, _+_, _*_, _≤_, _<_}
 use mathlib.Core.Path.{_≡_}
 use mathlib.Core.List.{List, [], _∷_, _++_}
 use lib.Dec.{eqb}
@@ -19,6 +21,7 @@ use Rattle.words.specs.Words.{Bytes, Rule, pick}
 use Rattle.format.specs.Entries.{front}
 use Rattle.format.specs.Book.{numbers, blockPart, entryPart}
 use Rattle.format.specs.Outcomes.{over}
+use Rattle.format.specs.Records.{longest}
 use Rattle.records.specs.Lists.{Ready, names, startOf}
 
 abbrev pub before : ℕ → ℕ → List Bytes → Bytes
@@ -29,6 +32,15 @@ block s lo hi = front [] (slice lo hi (names s))
 
 abbrev pub storedCount : ℕ → ℕ → List ℕ → ℕ
 storedCount lo i counts = pick (eqb i lo) 0 (getD counts i 0)
+
+-- two counts, and a rest as long as a name can be
+abbrev pub pieceSize : ℕ
+pieceSize = longest + 2
+
+-- a place for each name, with its length
+pub record LengthsAre (xs : List Bytes) (lens : List ℕ) : Type 0 where
+  pub enough : length xs ≤ length lens
+  pub sizes : (i : ℕ) → i < length xs → getD lens i 0 ≡ length (getD xs i [])
 
 -- names lo to hi of a list that was judged; record lo begins at `at`
 pub record BlockAsk (s : Bytes) (counts : List ℕ) (lo at hi : ℕ) : Type 0 where

@@ -1,11 +1,16 @@
-// The entries, block by block, and the block table. What neighbours share was noted when the list was judged, so nothing is compared.
+// The entries, block by block, and the block table. What neighbours share, and how long a name is, was noted when the list was judged, so
+// nothing is compared.
 ghost use mathlib.Core.Path.{_≡_};
 ghost use mathlib.Core.List.{_∷_};
 ghost use Prim.Native.Nat.{_+_, _≤_, _<_};
 ghost use lib.ListN.{length, take, drop};
 ghost use Rattle.records.specs.Lists.{names};
 ghost use Rattle.format.specs.Book.{entryPart};
-ghost use Rattle.blocks.specs.Writing.{block, storedCount, BlockAsk, BlockSize, BlockPut, EntriesAsk, NumberPut, SharedSum, SumsAre, Surveyed};
+ghost use Rattle.format.specs.Records.{longest};
+ghost use Rattle.blocks.specs.Writing.{block, pieceSize, storedCount, BlockAsk, BlockSize, BlockPut, EntriesAsk, LengthsAre, NumberPut, SharedSum, SumsAre, Surveyed};
+
+// The longest entry: two counts, and a name of 200 bytes.
+const PIECE: usize = 202;
 
 // The count that name i stores in a block that begins with name lo.
 fn count_of(counts: &[u8], lo: usize, i: usize) -> usize
@@ -45,7 +50,7 @@ fn block_size(list: &[u8], counts: &[u8], lo: usize, at: usize, hi: usize) -> Bl
 }
 
 // The entry of a name that shares c bytes with the one before: c, the length of the rest, and the rest, which begins at `from`.
-fn write_entry(list: &[u8], from: usize, c: usize, rest: usize, part: &mut [u8])
+fn put_entry(list: &[u8], from: usize, c: usize, rest: usize, part: &mut [u8])
     requires { ⌜ (c < 256) × (rest < 256) × (from + rest ≤ length (now list)) × (length (now part) ≡ rest + 2) ⌝ }
     ensures { λ _. ⌜ now (part .exit) ≡ c ∷ rest ∷ take rest (drop from (now (list .entry))) ⌝ }
 {
@@ -55,28 +60,46 @@ fn write_entry(list: &[u8], from: usize, c: usize, rest: usize, part: &mut [u8])
     part[1] = rest as u8;
 }
 
-// The same, with the entries at the front of the room.
+// The same by way of a piece, which is an array of our own. As far as the compiler knows, two slices that a caller lends may overlap, so it
+// copies byte by byte from one to the other; to and from an array of our own it copies all at once.
+fn write_entry(list: &[u8], from: usize, c: usize, rest: usize, part: &mut [u8], piece: &mut [u8])
+    requires { ⌜ (c < 256) × (rest ≤ longest) × (from + rest ≤ length (now list)) × (length (now part) ≡ rest + 2) × (length (now piece) ≡ pieceSize) ⌝ }
+    ensures { λ _. ⌜ now (part .exit) ≡ c ∷ rest ∷ take rest (drop from (now (list .entry))) ⌝ }
+    ensures { λ _. ⌜ length (now (piece .exit)) ≡ pieceSize ⌝ }
+{
+    let size = rest + 2;
+    put_entry(list, from, c, rest, &mut piece[0..size]);
+    bytes::copy(&piece[0..size], part);
+}
+
+// Names lo to hi as one block, of which record lo begins at `at`, with its entries at the front of the room. The piece is for one entry at a
+// time.
 fn write_block(
     list: &[u8],
+    lens: &[u8],
     counts: &[u8],
     lo: usize,
     at: usize,
     hi: usize,
     room: &mut [u8],
+    piece: &mut [u8],
 ) -> Block
     requires { ⌜ BlockAsk (now list) (now counts) lo at hi ⌝ }
+    requires { ⌜ LengthsAre (names (now list)) (now lens) ⌝ }
     requires { ⌜ length (block (now list) lo hi) ≤ length (now room) ⌝ }
+    requires { ⌜ length (now piece) ≡ pieceSize ⌝ }
     ensures { λ r. ⌜ BlockPut (now (list .entry)) lo hi (now (room .entry)) (now (room .exit)) (r .size) (r .next) ⌝ }
+    ensures { λ _. ⌜ length (now (piece .exit)) ≡ pieceSize ⌝ }
 {
     let mut size: usize = 0;
     let mut next = at;
     let mut i = lo;
     while i < hi {
-        let len = numbers::wide(list[next]);
+        let len = numbers::wide(lens[i]);
         let c = count_of(counts, lo, i);
         let rest = len - c;
         let end = size + 2 + rest;
-        write_entry(list, next + 1 + c, c, rest, &mut room[size..end]);
+        write_entry(list, next + 1 + c, c, rest, &mut room[size..end], piece);
         size = end;
         next += 1 + len;
         i += 1;
@@ -85,17 +108,28 @@ fn write_block(
 }
 
 // The entries of all names, in blocks of k.
-pub fn write_entries(list: &[u8], n: usize, counts: &[u8], k: usize, room: &mut [u8])
+pub fn write_entries(list: &[u8], n: usize, lens: &[u8], counts: &[u8], k: usize, room: &mut [u8])
     requires { ⌜ EntriesAsk (now list) n (now counts) k ⌝ }
+    requires { ⌜ LengthsAre (names (now list)) (now lens) ⌝ }
     requires { ⌜ length (now room) ≡ length (entryPart k (names (now list))) ⌝ }
     ensures { λ _. ⌜ now (room .exit) ≡ entryPart k (names (now (list .entry))) ⌝ }
 {
+    let mut piece = [0u8; PIECE];
     let mut lo: usize = 0;
     let mut at: usize = 0;
     let mut size: usize = 0;
     while lo < n {
         let hi = numbers::lesser(lo + k, n);
-        let b = write_block(list, counts, lo, at, hi, &mut room[size..]);
+        let b = write_block(
+            list,
+            lens,
+            counts,
+            lo,
+            at,
+            hi,
+            &mut room[size..],
+            &mut piece,
+        );
         size += b.size;
         at = b.next;
         lo = hi;

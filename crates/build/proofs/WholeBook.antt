@@ -1,5 +1,6 @@
 -- Laws of the whole book.
 --     rows-counted, rows-put, rows-ask     the arm for node rows: what it counts, what it writes, what it asks
+--     lengths-are                     the lengths that were noted
 --     sizes-are, table-fits, ..       the sizes, by counting
 --     trailer-is                      the trailer as eight numbers
 --     sized-..                        how the parts lie in a room that is large enough
@@ -37,7 +38,7 @@ use Rattle.symbols.specs.Rules.{ruleBy}
 use Rattle.symbols.specs.declared.Rule.{Rule as ByRule}
 use Rattle.nodes.specs.Writing.{NodesAsk, NodesPut}
 use Rattle.nodes.specs.Counting.{NodeCount}
-use Rattle.blocks.specs.Writing.{SumsAre, Surveyed}
+use Rattle.blocks.specs.Writing.{LengthsAre, SumsAre, Surveyed}
 use Rattle.build.specs.Whole.{builtOf, BuildAsk, RecordCount, Sized, TablePut}
 
 -- a room with a part of it lent and filled
@@ -73,6 +74,9 @@ pub rows-ask : (κ : BookKind) (rule : ByRule) {s : Bytes} {n : ℕ} {lens share
 rows-ask κ rule {s} {n} {lens} {shares} e a = subst (λ (ρ : Rule). NodesAsk ρ s n lens shares) (sym e) a
 
 module _ {κ : BookKind} {s : Bytes} {n : ℕ} {lens counts shares : List ℕ} {k : ℕ} (a : BuildAsk κ s n lens counts shares k) where
+  pub lengths-are : LengthsAre (names s) lens
+  lengths-are = record { enough = a .ready .noted .lens-room; sizes = a .ready .noted .sizes }
+
   -- size is that of a record
   module _ (m : ℕ) (p : RecordCount κ n shares m) {size : ℕ} (se : size ≡ recordSize (formOf κ)) (small : size ≤ nodeSize) where
     records-are : m ≡ countIn (formOf κ) (ruleOf κ) (names s)

@@ -96,7 +96,7 @@ fn write_book(
     let nodes = s.nodes;
     let total = s.total;
     let end = total - trailer::SIZE;
-    blocks::write_entries(list, n, counts, k, &mut room[0..blocks]);
+    blocks::write_entries(list, n, lens, counts, k, &mut room[0..blocks]);
     blocks::write_table(list, n, counts, k, &mut room[blocks..nodes]);
     write_records(kind, list, n, lens, shares, &mut room[nodes..end]);
     trailer::put_trailer(

@@ -1,6 +1,7 @@
 -- `build::write_book` meets its contract: one law puts the four parts together.
 -- Assumes nothing.
-use Rattle.build.proofs.WholeBook.{book-lent}
+use Rattle.build.proofs.WholeBook.{book-lent, lengths-are}
+use native.Mathlib.Omega.{arith}
 use borrow.Author.Needs.{needs}
 use Rattle.build.proofs.write_book.Statement.{statement}
 use Rattle.build.proofs.write_book.Tie as tie
@@ -21,7 +22,7 @@ write-book-spec =
     (λ c. search needs)
     (λ c. search needs)
     (λ c. search needs)
-    (λ c κs. search needs)
+    (λ c κs. (search needs, (search lengths-are, search needs)))
     (λ c. search needs)
     (λ c. search needs)
     (λ c. search needs)
@@ -33,6 +34,6 @@ write-book-spec =
     (λ c. search needs)
     (λ c. search needs)
     (λ c. search needs)
-    (λ c κs. search needs)
-    (λ c. search needs)
+    (λ c κs. search (needs, c .before .before .before .before .before .before .before .before .before .before .before .before .before .before .before .before .before .before .pre .1 .0 .whole))
+    (λ c. omega arith)
     returns)
