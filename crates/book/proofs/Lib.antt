@@ -4,4 +4,5 @@ pub mod Filling
 pub mod Batching
 pub mod Salvaging
 pub mod Walking
+pub mod Front
 pub mod Merging

@@ -200,13 +200,19 @@ pub extern "C" fn book_salvage(data: &[u8], room: &mut [u8], report: &mut [Kept]
     ensures { λ r. ⌜ salvaged r (now (room .exit)) (now (report .exit)) ≡ salvageOf (now («data» .entry)) (now (room .entry)) (map keptRow (now (report .entry))) ⌝ }
 {
     let saved = salvage::save_names(data, report.len(), room);
-    if saved.code != 0 {
-        return saved;
+    let notes = saved.notes;
+    let answer = Answer {
+        code: saved.code,
+        first: saved.size,
+        second: 0,
+    };
+    if answer.code != 0 {
+        return answer;
     }
     let mut i = 0;
     while i < report.len() {
-        report[i] = cards::judge_block(data, i);
+        report[i] = cards::row_of(data, &notes, i);
         i += 1;
     }
-    saved
+    answer
 }

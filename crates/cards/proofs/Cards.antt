@@ -6,10 +6,11 @@
 --     mapped-long, mapped-few, mapped-low, mapped-high, mapped-table     what it shows
 --     bound-inner, bound-last   a bound, where the code reads it
 --     StartsClimb: climbing-start, climbing-more, climbing-falls, climbing-done     the loop over the starts
---     span-is                   a block's span
+--     names-are, span-is        how many names a block should have; its span
 --     whole-says                whether it is whole, by what the check of a block says
---     block-found, block-kept, names-found     block number i then
---     row-kept, row-dropped     its report row
+--     kept-by, whole-by         block number i then, and back
+--     noted-says                by what was noted of it
+--     is-kept, is-dropped, row-kept, row-dropped     what is found of it, and its report row
 -- Assumes nothing.
 use Prim.Native.Nat.{ℕ, zero, suc, _+_, _-_, _*_, _<_, _≤_, min}
 use native.Mathlib.Nat.{lt-irrefl}
@@ -17,7 +18,7 @@ use native.Mathlib.Omega.{arith}
 use mathlib.Core.Path.{_≡_, refl, sym, ap, ap₂, _∙_, subst}
 use mathlib.Core.Logic.{_⊎_, inl, inr}
 use mathlib.Core.Bool.{Bool, true, false, not}
-use mathlib.Core.List.{[], _∷_}
+use mathlib.Core.List.{List, [], _∷_}
 use lib.Dec.{eqb, leb, ltb}
 use lib.ListN.{drop, getD, length, take}
 use lib.Seq.{take-length}
@@ -25,10 +26,9 @@ use borrow.Author.Tests.{eq-eqb, eqb-true, le-leb, leb-true, lt-ltb, ltb-true, n
 use Rattle.words.specs.Words.{Bytes, InBytes, both, pick, plain, same}
 use Rattle.words.proofs.Words.{apart, both-true, false≠true, same-refl, same-true}
 use Rattle.format.specs.Book.{number, numbers, told, trailerSize}
-use Rattle.format.specs.Entries.{decode}
 use Rattle.format.specs.Kinds.{BookKind, FoldedBook, PlainBook, formOf, kindOf, markOf, recordSize}
 use Rattle.format.specs.Nodes.{nodeSize}
-use Rattle.format.specs.Salvage.{Block, Broken, Whole, blockCount, bounds, climbs, fromZero, judgedAlone, mapped}
+use Rattle.format.specs.Salvage.{Block, Broken, Whole, blockCount, bounds, climbs, fromZero, judgedAlone, mapped, spans}
 use Rattle.format.proofs.Numbers.{numbers-are, numbers-told}
 use Rattle.format.proofs.Salvage.{bounds-inner, bounds-last, bounds-long, bounds-rise, climbs-end, climbs-next, count-few, count-starts, from-first, span-at, whole-alone, whole-tells}
 use Rattle.answers.specs.Salvage.{cardBlocks, reported}
@@ -45,7 +45,8 @@ use Rattle.trailer.specs.Trailer.{Trail, TrailSays, trailerIn}
 use Rattle.trailer.specs.declared.Trailer.{Trailer}
 use Rattle.streams.proofs.Alone.{alone-run, run-alone}
 use Rattle.runs.specs.Judging.{BlockSays}
-use Rattle.cards.specs.Cards.{CardBlockAsk, PlainSays, SpanIs, Table, WholeSays}
+use Rattle.cards.specs.Cards.{CardBlockAsk, IsWhole, KeptSays, PlainSays, SpanIs, Table, Verdicts, WholeSays, namesOfBlock}
+use Rattle.notes.specs.Notes.{noted}
 
 -- ---- the trailer
 
@@ -271,10 +272,11 @@ module _ {s : Bytes} {i : ℕ} (ask : CardBlockAsk s i) where
       let names : told s 0 ≡ n = sym (ne ∙ ap (λ (t : Trailer). t .names) e) in
       subst (λ (x : ℕ). i * x < n) block (subst (λ (x : ℕ). i * told s 1 < x) names (count-starts (told s 0) (told s 1) (mapped-low s (ask .map)) i here))
 
-  pub span-is : {t : Trailer} {n k start end names : ℕ} → t ≡ trailerIn s → n ≡ t .names → k ≡ t .block → start ≡ getD (bounds s) i 0 → end ≡ getD (bounds s) (i + 1) 0 → names ≡ min (n - i * k) k → SpanIs s i start end names
-  span-is {t} {n} {k} {start} {end} {names} e n-is k-is se ee names-is =
-      let ne : names ≡ min (told s 0 - i * told s 1) (told s 1) =
-      names-is ∙ ap₂ (λ (a b : ℕ). min (a - i * b) b) (n-is ∙ ap (λ (t : Trailer). t .names) e) (k-is ∙ ap (λ (t : Trailer). t .block) e) in
+  pub names-are : {t : Trailer} {n k names : ℕ} → t ≡ trailerIn s → n ≡ t .names → k ≡ t .block → names ≡ min (n - i * k) k → names ≡ namesOfBlock s i
+  names-are {t} {n} {k} {names} e n-is k-is names-is = names-is ∙ ap₂ (λ (a b : ℕ). min (a - i * b) b) (n-is ∙ ap (λ (t : Trailer). t .names) e) (k-is ∙ ap (λ (t : Trailer). t .block) e)
+
+  pub span-is : {start end names : ℕ} → start ≡ getD (bounds s) i 0 → end ≡ getD (bounds s) (i + 1) 0 → names ≡ namesOfBlock s i → SpanIs s i start end names
+  span-is {start} {end} {names} se ee ne =
       let p : Mapped s = mapped-parts s (ask .map) in
       let count = blockCount (told s 0) (told s 1) in
       let many : length (bounds s) ≡ suc count = bounds-long s (told s 2) count in
@@ -300,21 +302,43 @@ whole-says s start end names o h false name len says = broken (judgedAlone names
     broken (Whole xs) e = absurd (says _ (alone-run s start end names h o xs e))
     broken Broken e = refl
 
--- ---- a block's report row
+-- ---- whether a block is kept, and its report row
 
-module _ {s : Bytes} {i start end names : ℕ} (ask : CardBlockAsk s i) (k : SpanIs s i start end names) (r : Bool) (says : WholeSays s start end names r) where
-  -- the block, by what the code found of it
-  pub block-found : getD (cardBlocks s) i Broken ≡ pick r (Whole (decode (take (end - start) (drop start s)))) Broken
-  block-found = block-is ask k ∙ says
+module _ {s : Bytes} {i : ℕ} (ask : CardBlockAsk s i) where
+  -- by what the code found of its span
+  module _ {start end names : ℕ} (k : SpanIs s i start end names) where
+    pub kept-by : (r : Bool) → WholeSays s start end names r → KeptSays s i r
+    kept-by true says = (_, block-is ask k ∙ says)
+    kept-by false says = block-is ask k ∙ says
 
-  pub row-dropped : not r ≡ true → (0, 0) ≡ reported (getD (cardBlocks s) i Broken)
-  row-dropped h = sym (ap reported (block-found ∙ ap (λ (t : Bool). pick t (Whole (decode (take (end - start) (drop start s)))) Broken) (not-true r h)))
+    pub whole-by : IsWhole s i → WholeSays s start end names true
+    whole-by t = whole-tells names (take (end - start) (drop start s)) (t .0) (sym (block-is ask k) ∙ t .1)
 
-  pub names-found : not r ≡ false → judgedAlone names (take (end - start) (drop start s)) ≡ Whole (decode (take (end - start) (drop start s)))
-  names-found h = says ∙ ap (λ (t : Bool). pick t (Whole (decode (take (end - start) (drop start s)))) Broken) (not-false r h)
+  -- by what was noted of it
+  pub noted-says : {notes : List ℕ} → Verdicts s notes → (r : Bool) → r ≡ noted notes i → KeptSays s i r
+  noted-says v r e = subst (KeptSays s i) (sym e) (v .all i (ask .within))
 
-  pub block-kept : not r ≡ false → getD (cardBlocks s) i Broken ≡ Whole (decode (take (end - start) (drop start s)))
-  block-kept h = block-is ask k ∙ names-found h
+  module _ (r : Bool) (says : KeptSays s i r) where
+    pub is-dropped : not r ≡ true → getD (cardBlocks s) i Broken ≡ Broken
+    is-dropped h = go r says (not-true r h)
+      where
+        go : (t : Bool) → KeptSays s i t → t ≡ false → getD (cardBlocks s) i Broken ≡ Broken
+        go true k e = absurd (false≠true (sym e))
+        go false k e = k
 
-  pub row-kept : not r ≡ false → (1, names) ≡ reported (getD (cardBlocks s) i Broken)
-  row-kept h = sym (ap reported (block-kept h) ∙ ap (λ (n : ℕ). (1, n)) (whole-alone names (take (end - start) (drop start s)) _ (names-found h) .count))
+    pub row-dropped : not r ≡ true → (0, 0) ≡ reported (getD (cardBlocks s) i Broken)
+    row-dropped h = sym (ap reported (is-dropped h))
+
+    pub is-kept : not r ≡ false → IsWhole s i
+    is-kept h = go r says (not-false r h)
+      where
+        go : (t : Bool) → KeptSays s i t → t ≡ true → IsWhole s i
+        go true k e = k
+        go false k e = absurd (false≠true e)
+
+    pub row-kept : not r ≡ false → {n : ℕ} → n ≡ namesOfBlock s i → (1, n) ≡ reported (getD (cardBlocks s) i Broken)
+    row-kept h {n} ne =
+        let whole = is-kept h in
+        let span : getD (spans s) i (0, []) ≡ (namesOfBlock s i, _) = span-at s (told s 1) (told s 0) (bounds s) i (omega (arith, here ask, bounds-long s (told s 2) (blockCount (told s 0) (told s 1)))) in
+        let alone : judgedAlone (namesOfBlock s i) _ ≡ Whole (whole .0) = sym (block-at s i (ask .within) ∙ ap (λ (b : ℕ × Bytes). judgedAlone (b .0) (b .1)) span) ∙ whole .1 in
+        sym (ap reported (whole .1) ∙ ap (λ (m : ℕ). (1, m)) (whole-alone (namesOfBlock s i) _ (whole .0) alone .count ∙ sym ne))

@@ -10,7 +10,7 @@ ghost use Rattle.format.specs.Salvage.{Broken, blockCount, bounds, fromZero, ma
 ghost use Rattle.answers.specs.Salvage.{cardBlocks, reported};
 ghost use Rattle.shapes.specs.Salvage.{keptRow};
 ghost use Rattle.kinds.specs.Known.{kindBy};
-ghost use Rattle.cards.specs.Cards.{CardBlockAsk, PlainSays, SpanIs, Table, WholeAsk, WholeSays};
+ghost use Rattle.cards.specs.Cards.{CardBlockAsk, PlainSays, SpanIs, Table, Verdicts, WholeAsk, WholeSays, namesOfBlock};
 use kinds::Kind;
 use shapes::Kept;
 use symbols::Rule;
@@ -104,44 +104,48 @@ pub fn block_count(card: &[u8]) -> usize
     blocks_for(numbers::wide16(t.names), numbers::wide16(t.block))
 }
 
+// How many names block i should have.
+fn names_in(card: &[u8], i: usize) -> usize
+    requires { ⌜ CardBlockAsk (now card) i ⌝ }
+    ensures { λ r. ⌜ r ≡ namesOfBlock (now (card .entry)) i ⌝ }
+{
+    let t = trailer::read(card);
+    let k = numbers::wide16(t.block);
+    let left = numbers::wide16(t.names) - i * k;
+    numbers::lesser(left, k)
+}
+
 // The span of block i.
 pub fn span_of(card: &[u8], i: usize) -> Span
     requires { ⌜ CardBlockAsk (now card) i ⌝ }
     ensures { λ r. ⌜ SpanIs (now (card .entry)) i (r .start) (r .end) (r .names) ⌝ }
 {
-    let t = trailer::read(card);
-    let k = numbers::wide16(t.block);
-    let left = numbers::wide16(t.names) - i * k;
     let start = bound(card, i);
     let end = bound(card, i + 1);
     Span {
         start,
         end,
-        names: numbers::lesser(left, k),
+        names: names_in(card, i),
     }
 }
 
-// Whether the entries of a block stand from its start to its end, judged alone.
-pub fn is_whole(card: &[u8], span: Span) -> bool
-    requires { ⌜ WholeAsk (now card) (span .start) (span .end) ⌝ }
-    ensures { λ r. ⌜ WholeSays (now (card .entry)) (span .start) (span .end) (span .names) r ⌝ }
+// Whether the entries of a block stand from its start to its end, judged alone. Its names are rebuilt in a lent array.
+pub fn is_whole(card: &[u8], span: Span, name: &mut [u8]) -> bool
+    requires { ⌜ WholeAsk (now card) (span .start) (span .end) × (length (now name) ≡ 200) ⌝ }
+    ensures { λ r. ⌜ WholeSays (now (card .entry)) (span .start) (span .end) (span .names) r × (length (now (name .exit)) ≡ 200) ⌝ }
 {
-    let mut name = [0u8; 200];
-    let last = runs::plain_block(card, span.start, span.end, span.names, &mut name);
+    let last = runs::plain_block(card, span.start, span.end, span.names, name);
     last.ok
 }
 
-// The report row of block i.
-pub fn judge_block(card: &[u8], i: usize) -> Kept
-    requires { ⌜ CardBlockAsk (now card) i ⌝ }
+// The report row of block i, by what was noted of all blocks.
+pub fn row_of(card: &[u8], notes: &[u8], i: usize) -> Kept
+    requires { ⌜ CardBlockAsk (now card) i × Verdicts (now card) (now notes) ⌝ }
     ensures { λ r. ⌜ keptRow r ≡ reported (getD (cardBlocks (now (card .entry))) i Broken) ⌝ }
 {
-    let span = span_of(card, i);
-    if !is_whole(card, span) {
+    if !notes::is_noted(notes, i) {
         return Kept { kept: 0, names: 0 };
     }
-    Kept {
-        kept: 1,
-        names: span.names,
-    }
+    let names = names_in(card, i);
+    Kept { kept: 1, names }
 }

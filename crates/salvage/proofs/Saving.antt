@@ -3,40 +3,45 @@
 --     put-record                one record
 --     Saving: saving-start, saving-entry, saving-more, saving-done     the loop over a block's names
 --     block-put, block-left     a block that is whole, and one that is broken
---     Blocks: blocks-start, blocks-more, blocks-done     the loop over the blocks
---     save-..                   the ways out
+--     Measuring: measuring-start .. measuring-done     the loop that counts a block's bytes
+--     Counting: counting-start, counting-ask, counting-whole, counting-broken, counting-done     the loop that judges all blocks
+--     Blocks: blocks-start, blocks-ask, blocks-more, blocks-done     the loop that puts them
+--     save-.., not-zero         the ways out
 -- Assumes nothing.
 use Prim.Native.Nat.{ℕ, suc, _+_, _-_, _*_, _≤_, _<_}
+use native.Mathlib.Nat.{lt-irrefl}
 use native.Mathlib.Numerals.{add-one}
 use native.Mathlib.Omega.{arith}
 use mathlib.Core.Path.{_≡_, refl, sym, ap, ap₂, _∙_, subst}
 use mathlib.Core.Bool.{Bool, true, false, not}
+use mathlib.Core.Logic.{_⊎_, inl, inr}
 use mathlib.Core.List.{List, [], _∷_, _++_, append-assoc, append-nil, map}
 use lib.Dec.{eqb, leb}
 use lib.ListN.{drop, getD, length, length-append, length-drop, length-take, set, take}
 use lib.Seq.{drop-drop, drop-length, getD-drop, take-all, take-suc}
 use borrow.Author.Tests.{eq-eqb, le-leb, lt-leb, ne-eqb, not-true}
 use Rattle.words.specs.Words.{Bytes, pick}
+use Rattle.words.proofs.Words.{apart}
 use Rattle.format.specs.Book.{joined}
 use Rattle.format.specs.Entries.{decode}
-use Rattle.format.specs.Outcomes.{Answer as Numbers, Written, given, numbered, over, refused}
+use Rattle.format.specs.Outcomes.{Answer as Numbers, Written, given, over, refused}
 use Rattle.format.specs.Records.{encode}
 use Rattle.format.specs.Salvage.{Block, Broken, Whole, mapped}
 use Rattle.format.proofs.Records.{encode-append}
 use Rattle.format.proofs.Salvage.{whole-alone}
 use Rattle.answers.specs.Salvage.{cardBlocks, recordsIn, savedRecords}
 use Rattle.answers.proofs.Salvage.{saved-more}
-use Rattle.numbers.proofs.Parts.{none-lent}
 use Rattle.records.specs.Putting.{RecordPut}
 use Rattle.streams.proofs.Alone.{alone-stream}
-use Rattle.shapes.specs.Shapes.{answered, written}
-use Rattle.shapes.specs.declared.Answer.{Answer}
 use Rattle.streams.specs.Streams.{EntryAt, Stream, entryEnd, nameAt}
 use Rattle.entries.specs.Reading.{NameRead}
 use Rattle.entries.proofs.Reading.{stream-next}
-use Rattle.cards.specs.Cards.{CardBlockAsk, SpanIs, WholeSays}
-use Rattle.cards.proofs.Cards.{block-found, block-kept, mapped-is, names-found}
-use Rattle.salvage.specs.Saving.{BytesPut, NamesAsk, NamesPut, savedOf}
+use Rattle.notes.specs.Notes.{Noted, Noting, noted}
+use Rattle.notes.proofs.Notes.{noting-skip}
+use Rattle.cards.specs.Cards.{CardBlockAsk, IsWhole, KeptSays, SpanIs, Verdicts}
+use Rattle.cards.proofs.Cards.{block-is, mapped-is, whole-by}
+use Rattle.salvage.specs.Saving.{BytesPut, CardCount, NamesAsk, NamesPut, RecordsTake, savedAnswer, savedAs, savedOf}
+use Rattle.salvage.specs.declared.Saved.{Saved}
 
 -- ---- bytes in a room
 
@@ -91,41 +96,41 @@ module _ {s : Bytes} {start m at : ℕ} {room₀ room : Bytes} {o : ℕ} {line :
       → EntryAt s o (length (take len (drop 1 line))) × (nameAt s o (take len (drop 1 line)) ≡ getD (drop i xs) 0 []) × Stream s (entryEnd s o) (nameAt s o (take len (drop 1 line))) (drop 1 (drop i xs))
   next-of xs t e = stream-next s o (take len (drop 1 line)) (drop i xs) (omega (arith, length-drop i xs)) (w .others xs t e)
 
-  pub part-long : length (take 200 (drop 1 line)) ≡ 200
-  part-long = omega (arith, length-take 200 (drop 1 line), behind)
+  pub part-long : length (take (length line - 1) (drop 1 line)) ≡ 200
+  part-long = omega (arith, length-take (length line - 1) (drop 1 line), behind, w .long)
 
   pub saving-entry : EntryAt s o len
   saving-entry =
       let z : length (take len (drop 1 line)) ≡ len = omega (arith, length-take len (drop 1 line), behind, w .short) in
       subst (EntryAt s o) z (next-of (w .ask .names) (w .ask .stream) (w .ask .count) .0)
 
--- ---- the array that a name is rebuilt in
+-- ---- the line that a name is rebuilt in
 
 -- the part behind the length byte came back as ys, and the length byte is set
-pub line-is : (line ys : Bytes) (x : ℕ) → length line ≡ 201 → set (take 1 line ++ (ys ++ drop 200 (drop 1 line))) 0 x ≡ x ∷ ys
+pub line-is : (line ys : Bytes) (x : ℕ) → length line ≡ 201 → set (take 1 line ++ (ys ++ drop (length line - 1) (drop 1 line))) 0 x ≡ x ∷ ys
 line-is [] ys x h = absurd (omega arith)
 line-is (a ∷ l) ys x h =
-    let whole : length l ≡ 200 = omega arith in
-    ap (λ (z : Bytes). x ∷ (ys ++ z)) (ap (λ (n : ℕ). drop n l) (sym whole) ∙ drop-length l) ∙ ap (λ (z : Bytes). x ∷ z) (append-nil ys)
+    let whole : suc (length l) - 1 ≡ length l = omega arith in
+    ap (λ (z : Bytes). x ∷ (ys ++ z)) (ap (λ (k : ℕ). drop k l) whole ∙ drop-length l) ∙ ap (λ (z : Bytes). x ∷ z) (append-nil ys)
 
 module _ {s : Bytes} {start m at : ℕ} {room₀ room : Bytes} {o : ℕ} {line : Bytes} {len end i : ℕ} (w : Saving s start m at room₀ room o line len end i) (h : i < m)
-    {next len' : ℕ} {ys : Bytes} (r : NameRead s o (take len (take 200 (drop 1 line))) next len' ys) where
+    {next len' : ℕ} {ys : Bytes} (r : NameRead s o (take len (take (length line - 1) (drop 1 line))) next len' ys) where
   abbrev new : Bytes
-  new = set (take 1 line ++ (ys ++ drop 200 (drop 1 line))) 0 len'
+  new = set (take 1 line ++ (ys ++ drop (length line - 1) (drop 1 line))) 0 len'
 
   new-is : new ≡ len' ∷ ys
   new-is = line-is line ys len' (w .long)
 
   -- whatever the length byte is
-  pub new-long : (x : ℕ) → length (set (take 1 line ++ (ys ++ drop 200 (drop 1 line))) 0 x) ≡ 201
+  pub new-long : (x : ℕ) → length (set (take 1 line ++ (ys ++ drop (length line - 1) (drop 1 line))) 0 x) ≡ 201
   new-long x = ap length (line-is line ys x (w .long)) ∙ omega (arith, r .size)
 
-  pub record-fits : (x : ℕ) → 0 + (len' + 1) ≤ length (set (take 1 line ++ (ys ++ drop 200 (drop 1 line))) 0 x)
+  pub record-fits : (x : ℕ) → 0 + (len' + 1) ≤ length (set (take 1 line ++ (ys ++ drop (length line - 1) (drop 1 line))) 0 x)
   record-fits x = omega (arith, new-long x, r .room)
 
   -- the name that is read
   name-is : take len' ys ≡ nameAt s o (take len (drop 1 line))
-  name-is = r .name-is ∙ ap (λ (l : Bytes). nameAt s o (take len l)) (take-all 200 (drop 1 line) (omega (arith, behind w h)))
+  name-is = r .name-is ∙ ap (λ (l : Bytes). nameAt s o (take len l)) (take-all (length line - 1) (drop 1 line) (omega (arith, behind w h, w .long)))
 
   name-size : length (take len' ys) ≡ len'
   name-size = omega (arith, length-take len' ys, r .size, r .room)
@@ -174,26 +179,151 @@ saving-done {s} {start} {m} {at} {room₀} {room} {o} {line} {len} {end} {i} w h
 
 -- ---- the blocks
 
-module _ {s : Bytes} {i start end names : ℕ} (ask : CardBlockAsk s i) (k : SpanIs s i start end names) (r : Bool) (says : WholeSays s start end names r) where
-  -- a broken block has no records
-  pub block-left : not r ≡ true → (room : Bytes) (at : ℕ) → BytesPut (recordsIn (getD (cardBlocks s) i Broken)) room room at at
-  block-left h room at =
-      let none : recordsIn (getD (cardBlocks s) i Broken) ≡ [] = ap recordsIn (block-found ask k r says ∙ ap (λ (t : Bool). pick t (Whole (decode (take (end - start) (drop start s)))) Broken) (not-true r h)) in
-      subst (λ (l : Bytes). BytesPut l room room at at) (sym none) (put-none room at)
+-- a broken block has no records
+pub block-left : (s : Bytes) (i : ℕ) → getD (cardBlocks s) i Broken ≡ Broken → (room : Bytes) (at : ℕ) → BytesPut (recordsIn (getD (cardBlocks s) i Broken)) room room at at
+block-left s i e room at = subst (λ (l : Bytes). BytesPut l room room at at) (sym (ap recordsIn e)) (put-none room at)
 
-  module _ (h : not r ≡ false) where
-    stands : Stream s start [] (decode (take (end - start) (drop start s)))
-    stands = alone-stream s start end names (k .inside) (k .order) _ (names-found ask k r says h)
+module _ {s : Bytes} {i start end names : ℕ} (ask : CardBlockAsk s i) (k : SpanIs s i start end names) (w : IsWhole s i) where
+  abbrev held : List Bytes
+  held = decode (take (end - start) (drop start s))
 
-    count-is : length (decode (take (end - start) (drop start s))) ≡ names
-    count-is = whole-alone names (take (end - start) (drop start s)) _ (names-found ask k r says h) .count
+  stands : Stream s start [] held
+  stands = alone-stream s start end names (k .inside) (k .order) _ (whole-by ask k w)
 
-    pub names-ask : NamesAsk s start names
-    names-ask = record { names = decode (take (end - start) (drop start s)); stream = stands; count = count-is }
+  count-is : length held ≡ names
+  count-is = whole-alone names (take (end - start) (drop start s)) _ (whole-by ask k w) .count
 
-    pub block-put : {room₀ room : Bytes} {at to : ℕ} → NamesPut s start names room₀ room at to → BytesPut (recordsIn (getD (cardBlocks s) i Broken)) room₀ room at to
-    block-put {room₀} {room} {at} {to} p =
-        subst (λ (b : Block). BytesPut (recordsIn b) room₀ room at to) (sym (block-kept ask k r says h)) (p .all (decode (take (end - start) (drop start s))) stands count-is)
+  block-kept : getD (cardBlocks s) i Broken ≡ Whole held
+  block-kept = block-is ask k ∙ whole-by ask k w
+
+  pub names-ask : NamesAsk s start names
+  names-ask = record { names = held; stream = stands; count = count-is }
+
+  pub block-put : {room₀ room : Bytes} {at to : ℕ} → NamesPut s start names room₀ room at to → BytesPut (recordsIn (getD (cardBlocks s) i Broken)) room₀ room at to
+  block-put {room₀} {room} {at} {to} p = subst (λ (b : Block). BytesPut (recordsIn b) room₀ room at to) (sym block-kept) (p .all held stands count-is)
+
+-- ---- the bytes of a block's records
+
+-- i names are counted, and the entry of the next one stands at o
+pub record Measuring (s : Bytes) (start m o size i : ℕ) : Type 0 where
+  pub ask : NamesAsk s start m
+  pub upto : i ≤ m
+  pub bounded : size ≤ 201 * i
+  pub all : (xs : List Bytes) → Stream s start [] xs → length xs ≡ m → (p : Bytes) × Stream s o p (drop i xs) × (size ≡ length (encode (take i xs)))
+
+pub measuring-start : {s : Bytes} {start m : ℕ} → NamesAsk s start m → Measuring s start m start 0 0
+unfolding encode
+measuring-start ask = record { ask = ask; upto = omega arith; bounded = omega arith; all = λ xs t e. ([], t, refl) }
+
+module _ {s : Bytes} {start m o size i : ℕ} (w : Measuring s start m o size i) (h : i < m) where
+  next-in : (xs : List Bytes) (t : Stream s start [] xs) (e : length xs ≡ m) → let p = w .all xs t e .0 in
+      EntryAt s o (length p) × (nameAt s o p ≡ getD (drop i xs) 0 []) × Stream s (entryEnd s o) (nameAt s o p) (drop 1 (drop i xs))
+  next-in xs t e = stream-next s o (w .all xs t e .0) (drop i xs) (omega (arith, length-drop i xs)) (w .all xs t e .1)
+
+  first-entry : EntryAt s o (length (w .all (w .ask .names) (w .ask .stream) (w .ask .count) .0))
+  first-entry = next-in (w .ask .names) (w .ask .stream) (w .ask .count) .0
+
+  pub measuring-fits : entryEnd s o ≤ length s
+  measuring-fits = first-entry .fits
+
+  pub measuring-more : (c n : ℕ) → c ≡ getD s o 0 → n ≡ getD s (o + 1) 0 → Measuring s start m (o + (2 + n)) (size + (c + n + 1)) (i + 1)
+  unfolding encode
+  measuring-more c n ce ne = record {
+    ask = w .ask;
+    upto = omega arith;
+    bounded = omega (arith, w .bounded, first-entry .short);
+    all = λ xs t e. one-more xs t e;
+  }
+    where
+      one-more : (xs : List Bytes) → Stream s start [] xs → length xs ≡ m → (p : Bytes) × Stream s (o + (2 + n)) p (drop (i + 1) xs) × (size + (c + n + 1) ≡ length (encode (take (i + 1) xs)))
+      one-more xs t e =
+          let p = w .all xs t e .0 in
+          let next = next-in xs t e in
+          let behind : entryEnd s o ≡ o + (2 + n) = omega arith in
+          let left : drop 1 (drop i xs) ≡ drop (i + 1) xs = drop-drop 1 i xs in
+          let number : i + 0 ≡ i = omega arith in
+          let x : Bytes = getD xs i [] in
+          let named : nameAt s o p ≡ x = next .1 ∙ getD-drop i xs 0 [] ∙ ap (λ (j : ℕ). getD xs j []) number in
+          let rest : length (take (getD s (o + 1) 0) (drop (o + 2) s)) ≡ n = omega (arith, length-take (getD s (o + 1) 0) (drop (o + 2) s), length-drop (o + 2) s, next .0 .fits) in
+          let long : length x ≡ c + n = sym (ap length named) ∙ length-append (take (getD s o 0) p) (take (getD s (o + 1) 0) (drop (o + 2) s)) ∙ omega (arith, rest, length-take (getD s o 0) p, next .0 .shares) in
+          let front : take (i + 1) xs ≡ take i xs ++ (x ∷ []) = ap (λ (j : ℕ). take j xs) (add-one i) ∙ take-suc xs i [] (omega arith) in
+          let bytes : length (encode (take (i + 1) xs)) ≡ length (encode (take i xs)) + length (encode (x ∷ [])) =
+          ap (λ (l : List Bytes). length (encode l)) front ∙ ap length (encode-append (take i xs) (x ∷ [])) ∙ length-append (encode (take i xs)) (encode (x ∷ [])) in
+          let one : length (encode (x ∷ [])) ≡ suc (length x) = ap suc (length-append x [] ∙ omega arith) in (
+            nameAt s o p,
+            subst (λ (a : ℕ). Stream s a (nameAt s o p) (drop (i + 1) xs)) behind (subst (λ (l : List Bytes). Stream s (entryEnd s o) (nameAt s o p) l) left (next .2)),
+            omega (arith, w .all xs t e .2, bytes, one, long),
+          )
+
+pub measuring-done : {s : Bytes} {start m o size i : ℕ} → Measuring s start m o size i → m ≤ i → RecordsTake s start m size
+measuring-done {s} {start} {m} {o} {size} {i} w h = record {
+  bounded = omega (arith, w .bounded, w .upto);
+  all = λ xs t e. w .all xs t e .2 ∙ ap (λ (l : List Bytes). length (encode l)) (take-all i xs (omega arith));
+}
+
+-- ---- all blocks, counted
+
+-- i blocks are judged, and noted
+pub record Counting (s notes : Bytes) (count i size : ℕ) : Type 0 where
+  pub within : i ≤ count
+  pub many : count ≡ length (cardBlocks s)
+  pub few : count ≤ 2000
+  pub bounded : size ≤ 12864 * i
+  pub is : size ≡ length (savedRecords (take i (cardBlocks s)))
+  pub next : Noting notes i
+  pub found : (j : ℕ) → j < i → KeptSays s j (noted notes j)
+
+pub counting-start : {s notes : Bytes} {count : ℕ} → count ≡ length (cardBlocks s) → count ≤ 2000 → Noting notes 0 → Counting s notes count 0 0
+unfolding joined
+counting-start e f n = record { within = omega arith; many = e; few = f; bounded = omega arith; is = refl; next = n; found = λ j h. absurd (omega arith) }
+
+module _ {s notes : Bytes} {count i size : ℕ} (w : Counting s notes count i size) where
+  pub counting-ask : mapped s ≡ true → i < count → CardBlockAsk s i
+  counting-ask e h = record { map = e; within = omega (arith, w .many) }
+
+  one-block : i < count → length (savedRecords (take (i + 1) (cardBlocks s))) ≡ size + length (recordsIn (getD (cardBlocks s) i Broken))
+  one-block h =
+      sym (ap length (saved-more (cardBlocks s) i (omega (arith, w .many)) ∙ ap (λ (n : ℕ). savedRecords (take n (cardBlocks s))) (sym (add-one i))))
+      ∙ length-append (savedRecords (take i (cardBlocks s))) (recordsIn (getD (cardBlocks s) i Broken)) ∙ omega (arith, w .is)
+
+  -- all that was found before, and of block i
+  found-more : (new : Bytes) → ((j : ℕ) → j < i → noted new j ≡ noted notes j) → KeptSays s i (noted new i) → (j : ℕ) → j < i + 1 → KeptSays s j (noted new j)
+  found-more new others here j l = on (apart j i)
+    where
+      on : (j < i) ⊎ (i ≤ j) → KeptSays s j (noted new j)
+      on (inl k) = subst (KeptSays s j) (sym (others j k)) (w .found j k)
+      on (inr k) = let is : i ≡ j = omega arith in subst (λ (n : ℕ). KeptSays s n (noted new n)) is here
+
+  module _ {start end names : ℕ} (ask : CardBlockAsk s i) (k : SpanIs s i start end names) (h : i < count) where
+    pub counting-whole : IsWhole s i → {new : Bytes} → Noted notes new i → {more : ℕ} → RecordsTake s start names more → Counting s new count (i + 1) (size + more)
+    counting-whole whole {new} n {more} take-up = record {
+      within = omega arith;
+      many = w .many;
+      few = w .few;
+      bounded = omega (arith, w .bounded, take-up .bounded, k .few);
+      is = sym (one-block h ∙ omega (arith, ap (λ (b : Block). length (recordsIn b)) (block-kept ask k whole), take-up .all _ (stands ask k whole) (count-is ask k whole)));
+      next = n .next;
+      found = found-more new (n .others) (subst (KeptSays s i) (sym (n .here)) whole);
+    }
+
+    pub counting-broken : getD (cardBlocks s) i Broken ≡ Broken → Counting s notes count (i + 1) size
+    counting-broken broken = record {
+      within = omega arith;
+      many = w .many;
+      few = w .few;
+      bounded = omega (arith, w .bounded);
+      is = sym (one-block h ∙ omega (arith, ap (λ (b : Block). length (recordsIn b)) broken));
+      next = noting-skip (w .next) .0;
+      found = found-more notes (λ j l. refl) (subst (KeptSays s i) (sym (noting-skip (w .next) .1)) broken);
+    }
+
+  pub counting-done : count ≤ i → CardCount s notes size
+  counting-done h = record {
+    is = w .is ∙ ap (λ (l : List Block). length (savedRecords l)) (take-all i (cardBlocks s) (omega (arith, w .many)));
+    verdicts = record { long = w .next .long; all = λ j l. w .found j (omega (arith, w .many)) };
+  }
+
+-- ---- all blocks, written
 
 -- the records of i blocks are put
 pub record Blocks (s room₀ room : Bytes) (count i end : ℕ) : Type 0 where
@@ -226,22 +356,11 @@ module _ {s room₀ room : Bytes} {count i end : ℕ} (w : Blocks s room₀ room
 -- ---- ways out of `save_names`
 
 module _ (s : Bytes) (rows : ℕ) (room : Bytes) where
-  pub save-unmapped : {m : Bool} → m ≡ mapped s → not m ≡ true → (a : Answer) → answered a ≡ numbered 13 0 → written a room ≡ savedOf s rows room
+  pub save-unmapped : {m : Bool} → m ≡ mapped s → not m ≡ true → (a : Saved) → savedAnswer a ≡ refused 13 → savedAs a room ≡ savedOf s rows room
   unfolding savedOf
   save-unmapped {m} e h a p = rw (sym e ∙ not-true m h) (ap (λ (n : Numbers). record { answer = n; room = room }) p)
 
-  module _ {m : Bool} (e : m ≡ mapped s) (h : not m ≡ false) {count : ℕ} (c : count ≡ length (cardBlocks s)) {after : Bytes} {size : ℕ}
-      (k : BytesPut (savedRecords (cardBlocks s)) (take (0 - 0) (drop 0 room)) after 0 size) where
-    -- what was counted in an empty part of the room, which is then as it was
-    abbrev back : Bytes
-    back = take 0 room ++ (after ++ drop (0 - 0) (drop 0 room))
-
-    untouched : back ≡ room
-    untouched = none-lent room after (k .kept)
-
-    alone : (a : Answer) {n : Numbers} → answered a ≡ n → record { answer = n; room = room } ≡ savedOf s rows room → written a back ≡ savedOf s rows room
-    alone a p f = ap₂ (λ (n : Numbers) (l : Bytes). record { answer = n; room = l }) p untouched ∙ f
-
+  module _ {m : Bool} (e : m ≡ mapped s) (h : not m ≡ false) {count : ℕ} (c : count ≡ length (cardBlocks s)) where
     -- by what the two tests say
     abbrev tested : Bool → Bool → Written
     tested same fits =
@@ -251,17 +370,21 @@ module _ (s : Bytes) (rows : ℕ) (room : Bytes) where
     unfolding savedOf
     saved-is same fits p q = rw (mapped-is s e h, p, q) refl
 
-    pub save-rows : (rows ≡ count → ⊥) → (a : Answer) → answered a ≡ numbered 12 0 → written a back ≡ savedOf s rows room
-    save-rows away a p = alone a p (sym (saved-is false _ (ne-eqb rows (length (cardBlocks s)) (λ z. away (z ∙ sym c))) refl))
+    pub save-rows : (rows ≡ count → ⊥) → (a : Saved) → savedAnswer a ≡ refused 12 → savedAs a room ≡ savedOf s rows room
+    save-rows away a p = ap (λ (n : Numbers). record { answer = n; room = room }) p ∙ sym (saved-is false _ (ne-eqb rows (length (cardBlocks s)) (λ z. away (z ∙ sym c))) refl)
 
-    module _ (same : rows ≡ count) where
+    module _ (same : rows ≡ count) {notes : Bytes} {size : ℕ} (k : CardCount s notes size) where
       is-same : eqb rows (length (cardBlocks s)) ≡ true
       is-same = eq-eqb rows (length (cardBlocks s)) (same ∙ c)
 
-      pub save-short : length back < size → (a : Answer) → answered a ≡ numbered 4 0 → written a back ≡ savedOf s rows room
-      save-short f a p = alone a p (sym (saved-is true false is-same (lt-leb (length (savedRecords (cardBlocks s))) (length room) (omega (arith, k .size, ap length untouched)))))
+      pub save-short : length room < size → (a : Saved) → savedAnswer a ≡ refused 4 → savedAs a room ≡ savedOf s rows room
+      save-short f a p = ap (λ (n : Numbers). record { answer = n; room = room }) p ∙ sym (saved-is true false is-same (lt-leb (length (savedRecords (cardBlocks s))) (length room) (omega (arith, k .is))))
 
-      pub save-put : size ≤ length back → {new : Bytes} {end : ℕ} → BytesPut (savedRecords (cardBlocks s)) back new 0 end → record { answer = given end 0; room = new } ≡ savedOf s rows room
+      pub save-put : size ≤ length room → {new : Bytes} {end : ℕ} → BytesPut (savedRecords (cardBlocks s)) room new 0 end → record { answer = given end 0; room = new } ≡ savedOf s rows room
       save-put f {new} {end} w =
-          ap₂ (λ (n : ℕ) (l : Bytes). record { answer = given n 0; room = l }) (omega (arith, w .size)) (w .put (omega (arith, w .size, k .size)) [] back refl (omega arith) refl ∙ ap (over (savedRecords (cardBlocks s))) untouched)
-          ∙ sym (saved-is true true is-same (le-leb (length (savedRecords (cardBlocks s))) (length room) (omega (arith, k .size, ap length untouched))))
+          ap₂ (λ (n : ℕ) (l : Bytes). record { answer = given n 0; room = l }) (omega (arith, w .size)) (w .put (omega (arith, w .size, k .is)) [] room refl (omega arith) refl)
+          ∙ sym (saved-is true true is-same (le-leb (length (savedRecords (cardBlocks s))) (length room) (omega (arith, k .is))))
+
+-- a refusal is no 0, whatever is promised of that
+pub not-zero : {s notes : Bytes} (a : Saved) (c : ℕ) → savedAnswer a ≡ refused (suc c) → a .code ≡ 0 → Verdicts s notes
+not-zero a c p z = absurd (lt-irrefl 0 (omega (arith, ap (λ (n : Numbers). n .code) p)))

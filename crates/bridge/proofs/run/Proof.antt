@@ -66,7 +66,7 @@ use Rattle.book.proofs.book_batch.Met as batch-thm
 use Rattle.bridge.specs.declared.Ran.{Ran}
 use Rattle.bridge.proofs.Ran as N
 use Rattle.bridge.proofs.Ran.Laws as N′
-use Rattle.bridge.proofs.Front.{row-cut, row-join, array-out, array-in}
+use Rattle.book.proofs.Front.{row-cut, row-join, array-out, array-in}
 use Rattle.bridge.proofs.run.Key.{name as #run}
 use Rattle.bridge.proofs.run as f
 use Rattle.bridge.proofs.run.Statement as stated

@@ -7,9 +7,9 @@ use Rattle.cards.proofs.is_whole.Tie as tie
 
 returns : tie.Need-returns
 returns c =
-    let asked = c .before .before .before .before in
-    let said = c .before .plain-block in
-    whole-says _ _ _ _ (asked .pre .order) (asked .pre .inside) (said .result .ok) _ _ (said .ensures .2)
+    let asked = c .before .before .before .before .before .before in
+    let said = c .before .before .plain-block in
+    (whole-says _ _ _ _ (asked .pre .0 .order) (asked .pre .0 .inside) (said .result .ok) _ _ (said .ensures .2), said .ensures .1)
 
 pub is-whole-spec : {M : Type 1} → statement M
-is-whole-spec = tie.close (tie.spec (λ c. search needs) (λ c κs. search needs) returns)
+is-whole-spec = tie.close (tie.spec (λ c κs. search needs) (λ c. search needs) returns)

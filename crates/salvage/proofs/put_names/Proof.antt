@@ -2,17 +2,16 @@
 -- Assumes nothing.
 use Prim.Native.Nat.{_-_}
 use native.Mathlib.Omega.{arith}
-use mathlib.Core.Path.{refl, sym}
 use borrow.Author.Needs.{needs}
-use Rattle.salvage.proofs.Saving.{Saving, new-long, part-long, record-fits, saving-done, saving-entry, saving-more, saving-start}
+use Rattle.salvage.proofs.Saving.{Saving, part-long, record-fits, saving-done, saving-entry, saving-more, saving-start}
 use Rattle.salvage.proofs.put_names.Statement.{statement}
 use Rattle.salvage.proofs.put_names.Tie as tie
 
 abbrev Inv-loop : tie.InvT-loop
-Inv-loop card start m room₀ at cur₀ line₀ len₀ end₀ i₀ room cur line len end i = Saving card start m at room₀ room (cur .at) line len end i
+Inv-loop card start m line₀ room₀ at cur₀ len₀ end₀ i₀ line room cur len end i = Saving card start m at room₀ room (cur .at) line len end i
 
 abbrev μ-loop : tie.MeasureT-loop
-μ-loop card start m room₀ at cur₀ line₀ len₀ end₀ i₀ room cur line len end i = m - i
+μ-loop card start m line₀ room₀ at cur₀ len₀ end₀ i₀ line room cur len end i = m - i
 
 next-requires : tie.Need-next-requires Inv-loop μ-loop
 next-requires c κs =
@@ -22,15 +21,17 @@ next-requires c κs =
 
 put-record-requires : tie.Need-put-record-requires Inv-loop μ-loop
 put-record-requires c κs =
-    let read = c .before .before .before .before in
+    let read = c .before .before .before .before .before in
     let turn = read .before .before in
-    record-fits (turn .before .loop .inv) (turn .loop-test .taken) (read .next .ensures) _
+    let w = turn .before .loop .inv in
+    record-fits w (turn .loop-test .taken) (read .next .ensures) _
 
 again : tie.Need-loop-again Inv-loop μ-loop
 again c =
-    let read = c .before .before .before .before .before .before .before in
+    let read = c .before .before .before .before .before .before .before .before in
     let turn = read .before .before in
-    saving-more (turn .before .loop .inv) (turn .loop-test .taken) (read .next .ensures) (c .before .before .put-record .ensures)
+    let w = turn .before .loop .inv in
+    saving-more w (turn .loop-test .taken) (read .next .ensures) (c .before .before .put-record .ensures)
 
 pub put-names-spec : {M : Type 1} → statement M
 put-names-spec =
@@ -38,7 +39,7 @@ put-names-spec =
     (tie.spec
     Inv-loop
     μ-loop
-    (λ c. saving-start (c .before .before .pre .0) refl)
+    (λ c. saving-start (c .before .before .before .pre .0) (c .before .before .before .pre .3))
     (λ c. search needs)
     (λ c. search needs)
     (λ c. search needs)
@@ -46,17 +47,13 @@ put-names-spec =
     (λ c. search needs)
     (λ c. search needs)
     (λ c. search needs)
-    (λ c.
-    let read = c .before .before .before in
-    let turn = read .before .before in
-    sym (new-long (turn .before .loop .inv) (turn .loop-test .taken) (read .next .ensures) _))
     put-record-requires
     (λ c.
-    let read = c .before .before .before .before .before .before .before in
-    let loop = read .before .before .before in
-    omega (arith, loop .loop .inv .bounded, loop .loop .inv .upto, loop .before .before .before .pre, read .next .ensures .room))
+    let loop = c .before .before .before .before .before .before .before .before .before .before .before in
+    omega (arith, loop .loop .inv .bounded, loop .loop .inv .upto, loop .before .before .before .before .pre .1, loop .before .before .before .before .pre .2, c .before .before .before .before .before .before .before .before .next .ensures .room))
     (λ c. search needs)
     (λ c. search needs)
     again
+    (λ c. omega (arith, c .before .loop .inv .long, c .before .before .before .before .before .pre .3))
     (λ c. omega (arith, c .before .loop .inv .kept))
-    (λ c. saving-done (c .before .loop .inv) (c .loop-test .left)))
+    (λ c. (saving-done (c .before .loop .inv) (c .loop-test .left), c .before .loop .inv .long)))

@@ -1,2 +1,0 @@
--- What the walk of `run` uses.
-pub mod Front
