@@ -2,6 +2,7 @@
 
 use crate::loaded::Loaded;
 use crate::merging;
+use crate::salvaging;
 use crate::Numbers;
 use compare::mix::{positions, questions, two_lists, EACH};
 use compare::sorted::Sorted;
@@ -285,6 +286,7 @@ pub fn items(data: &'static Data, peers: &[(String, Loaded)]) -> (Vec<Subject>, 
     items.extend(checked_items(data, reference()));
     items.extend(model_items(data));
     items.extend(merging::items(data));
+    items.extend(salvaging::items(data));
 
     let starts = Box::leak(Box::new([0; MOST_NAMES]));
     let sorted = Sorted::build(&data.list, starts).expect("the list is sound");

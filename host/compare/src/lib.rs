@@ -8,6 +8,7 @@
 //! | [`mix`] | the questions and positions |
 //! | [`sorted`] | a plain sorted array, searched by halving |
 //! | [`steps`] | what is measured, and the figures |
+//! | [`turns`] | who takes turns with whom while times are taken |
 //! | [`tables`] | the figures as a page of Markdown |
 //! | [`plot`] | the figures as a drawing |
 //!
@@ -23,5 +24,6 @@ pub mod sorted;
 pub mod stations;
 pub mod steps;
 pub mod tables;
+pub mod turns;
 
 pub use stations::stations;

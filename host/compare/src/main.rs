@@ -9,6 +9,7 @@ mod counting;
 mod items;
 mod loaded;
 mod merging;
+mod salvaging;
 // As `bench` measures it.
 #[path = "../../bench/src/stack.rs"]
 mod stack;

@@ -30,6 +30,8 @@ pub enum Step {
     BuildFolded,
     /// Checking a folded book.
     CheckFolded,
+    /// Writing out what a sound book still has.
+    Salvage,
 }
 
 /// How many rows a batch has here: as many as it can have.
@@ -68,7 +70,8 @@ pub struct Figures {
     /// Instructions of each call.
     pub instructions: BTreeMap<(usize, Step), Vec<u64>>,
     /// Nanoseconds of a call, in each round; of a batch of one kind what it
-    /// takes more than the check.
+    /// takes more than the check. Under [`Step::HeldAsk`] stands what a question
+    /// takes of those who have no check, timed beside these batches.
     pub times: BTreeMap<(usize, Step), Vec<f64>>,
     /// The deepest stack in bytes.
     pub stacks: BTreeMap<(usize, Step), usize>,
@@ -126,8 +129,7 @@ impl Figures {
                 Some(more.iter().map(|more| more / ROWS as f64).collect())
             }
             (LIBRARY | REFERENCE, _) => None,
-            (MODEL, _) => self.whole_times(subject, held_step(step)),
-            _ => self.whole_times(subject, step),
+            _ => self.whole_times(subject, held_step(step)),
         }
     }
 }
@@ -141,18 +143,36 @@ fn held_step(step: Step) -> Step {
     }
 }
 
-/// The middle of these numbers; they must be there.
-pub fn median(mut numbers: Vec<f64>) -> f64 {
-    numbers.sort_by(f64::total_cmp);
-    numbers[numbers.len() / 2]
+/// The median of these numbers; they must be there.
+pub fn median(numbers: Vec<f64>) -> f64 {
+    middle(numbers).median
 }
 
-/// The median of how many times `one` is as much as `other`, round by round.
-pub fn median_ratio(one: &[f64], other: &[f64]) -> f64 {
-    median(
-        one.iter()
-            .zip(other)
-            .map(|(one, other)| one / other)
-            .collect(),
-    )
+/// The middle of some numbers, and the least and the most of their middle eight
+/// tenths.
+#[derive(Clone, Copy, Debug, PartialEq)]
+pub struct Middle {
+    /// The middle.
+    pub median: f64,
+    /// The least, once a tenth of all is left out that is less.
+    pub least: f64,
+    /// The most, once a tenth of all is left out that is more.
+    pub most: f64,
+}
+
+/// The middle of these numbers; they must be there.
+pub fn middle(mut numbers: Vec<f64>) -> Middle {
+    numbers.sort_by(f64::total_cmp);
+    let outside = numbers.len() / 10;
+    Middle {
+        median: numbers[numbers.len() / 2],
+        least: numbers[outside],
+        most: numbers[numbers.len() - 1 - outside],
+    }
+}
+
+/// How many times `one` is as much as `other`, round by round.
+pub fn middle_ratio(one: &[f64], other: &[f64]) -> Middle {
+    let rounds = one.iter().zip(other);
+    middle(rounds.map(|(one, other)| one / other).collect())
 }

@@ -1,7 +1,7 @@
 //! The figures as a page of Markdown.
 
 use crate::steps::{
-    median_ratio, Figures, Spread, Step, Subject, LIBRARY, MODEL, REFERENCE, ROWS, SORTED,
+    middle_ratio, Figures, Middle, Spread, Step, Subject, LIBRARY, MODEL, REFERENCE, ROWS, SORTED,
 };
 use format::Kind;
 
@@ -40,6 +40,7 @@ pub fn whole_lines() -> Vec<Line> {
     ];
     lines.extend(Kind::ALL.map(|kind| (kind.name().to_string(), Step::Ask(kind))));
     lines.push((format!("batch of {ROWS}"), Step::Batch));
+    lines.push(("salvage".to_string(), Step::Salvage));
     lines
 }
 
@@ -119,46 +120,67 @@ fn sizes(about: &About, subjects: &[Subject]) -> String {
 
 /// Instructions of single calls.
 fn whole_instructions(subjects: &[Subject], figures: &Figures) -> String {
-    let row = |(name, step): Line| {
-        let cells = (0..subjects.len()).map(|subject| {
-            let spread = figures.whole(subject, step);
-            spread.map_or(NONE.to_string(), |spread| grouped(spread.mean))
-        });
-        [vec![name], cells.collect()].concat()
-    };
+    let row = |(name, step): Line| counted(figures, subjects, &name, step);
     let rows: Vec<Vec<String>> = whole_lines().into_iter().map(row).collect();
     format!(
-        "## Instructions of a call of its own\n\nThe average of all inputs, with some ten instructions of the caller. A single question to Mistrogu is \
-         nearly all check; what the question itself takes is in the next table.\n\n{}",
+        "## Instructions of a call of its own\n\nThe average of all inputs, with some ten instructions of the caller; in brackets, how many times \
+         Mistrogu's they are. A single question to Mistrogu is nearly all check; what the question itself takes is in the next table.\n\n{}",
         table("Call", subjects, &rows)
     )
 }
 
+/// A row of instructions.
+fn counted(figures: &Figures, subjects: &[Subject], name: &str, step: Step) -> Vec<String> {
+    beside(subjects, name, |subject| {
+        let mean = figures.whole(subject, step)?.mean;
+        Some((mean, grouped(mean)))
+    })
+}
+
+/// A row of numbers, each with the text that shows it. Those of the others have
+/// behind them how many times the library's they are.
+fn beside(
+    subjects: &[Subject],
+    name: &str,
+    of: impl Fn(usize) -> Option<(f64, String)>,
+) -> Vec<String> {
+    let library = of(LIBRARY);
+    let cells = (0..subjects.len()).map(|subject| match (of(subject), &library) {
+        (None, _) => NONE.to_string(),
+        (Some((number, shown)), Some((own, _))) if subject != LIBRARY => {
+            format!("{shown} ({})", ratio(number / own))
+        }
+        (Some((_, shown)), _) => shown,
+    });
+    [vec![name.to_string()], cells.collect()].concat()
+}
+
 /// Instructions after the check.
 fn held_instructions(subjects: &[Subject], figures: &Figures) -> String {
-    let shown = |spread: Spread| format!("{} / {}", grouped(spread.mean), grouped(spread.most));
     let row = |(name, step): Line| {
-        let cells = (0..subjects.len()).map(|subject| {
-            let spread = figures.held(subject, step);
-            spread.map_or(NONE.to_string(), shown)
-        });
-        [vec![name], cells.collect()].concat()
+        beside(subjects, &name, |subject| {
+            let Spread { mean, most } = figures.held(subject, step)?;
+            Some((mean, format!("{} / {}", grouped(mean), grouped(most))))
+        })
     };
     let mut rows: Vec<Vec<String>> = held_lines().into_iter().map(row).collect();
-    let mut share = vec!["row of a batch, with its 64th of the check".to_string()];
-    let mut alone = vec!["row of a batch, without".to_string()];
-    for subject in 0..subjects.len() {
-        let whole = figures.whole(subject, Step::Batch);
-        let check = figures.whole(subject, Step::Check);
-        let per_row = |all: f64| grouped(all / ROWS as f64);
-        let less = check.map_or(0.0, |check| check.mean);
-        share.push(whole.map_or(NONE.to_string(), |whole| per_row(whole.mean)));
-        alone.push(whole.map_or(NONE.to_string(), |whole| per_row(whole.mean - less)));
+    for (name, with_check) in [
+        ("row of a batch, with its 64th of the check", true),
+        ("row of a batch, without", false),
+    ] {
+        rows.push(beside(subjects, name, |subject| {
+            let whole = figures.whole(subject, Step::Batch)?.mean;
+            let check = figures.whole(subject, Step::Check);
+            let check = check
+                .filter(|_| !with_check)
+                .map_or(0.0, |check| check.mean);
+            let of_row = (whole - check) / ROWS as f64;
+            Some((of_row, grouped(of_row)))
+        }));
     }
-    rows.extend([share, alone]);
     format!(
         "## Instructions after the check: average / most\n\nOf Mistrogu and the reference: a single call less the check. Of the second program: the question to \
-         the names, once the book is open. The others have no check, so it is the call itself.\n\n{}",
+         the names, once the book is open. The others have no check, so it is the call itself. In brackets, how many times Mistrogu's average theirs is.\n\n{}",
         table("Asked", subjects, &rows)
     )
 }
@@ -171,7 +193,7 @@ fn times(about: &About, subjects: &[Subject], figures: &Figures) -> String {
         let cells = (0..subjects.len()).map(|subject| {
             let base = if subject == LIBRARY { &check } else { &library };
             match (of(subject), base) {
-                (Some(times), Some(base)) => ratio(median_ratio(&times, base)),
+                (Some(times), Some(base)) => ratios(middle_ratio(&times, base)),
                 _ => NONE.to_string(),
             }
         });
@@ -188,12 +210,23 @@ fn times(about: &About, subjects: &[Subject], figures: &Figures) -> String {
     rows.retain(|row| row[1] != NONE);
     format!(
         "## Time\n\nIn Mistrogu's column its check is 1. In the others Mistrogu's time in the same row is 1: 1/2,000 is the two \
-         thousandth part of it. Processor time; medians of {} rounds in one process. After the check, the time of \
-         Mistrogu and of the reference is a 64th of what a batch of that kind takes more than the check.\n\n{}",
+         thousandth part of it. Processor time, by turns in one process: in each of {} rounds those of a row are sampled one after the other, call by call \
+         where a call is long enough to be timed, at four places of the stack, of which the least counts. Given is the median of the rounds' ratios; in \
+         brackets the least and the most of their middle eight tenths, where that is not the same. After the check, the time of Mistrogu and of the reference is a \
+         64th of what a batch of that kind takes more than the check, and the others are sampled beside it.\n\n{}\n{}",
         about.rounds,
-        table("Call", subjects, &rows)
+        table("Call", subjects, &rows),
+        CAUTION
     )
 }
+
+/// What times can't tell.
+const CAUTION: &str = "\
+What can be concluded: which of two is faster where the ratio is far from 1. What can't: anything from a ratio between some 0.6 and 1.6. On some machines \
+the same code takes up to half as much time again where it comes to lie at another place in a page of memory. The stack is tried at four places, but the \
+code lies where the linker put it, so the brackets say how a ratio moves within this run, and not how it would in another program. Ratios of other days and \
+machines can't be compared with these. Instructions can.
+";
 
 /// Stacks.
 fn stacks(subjects: &[Subject], figures: &Figures) -> String {
@@ -216,42 +249,41 @@ fn stacks(subjects: &[Subject], figures: &Figures) -> String {
 fn merging(about: &About, subjects: &[Subject], figures: &Figures) -> String {
     let shown = |cell: Option<String>| cell.unwrap_or(NONE.to_string());
     let times = |subject| figures.whole_times(subject, Step::Merge);
+    let counts = counted(figures, subjects, "", Step::Merge);
     let row = |subject: usize| {
-        let spread = figures.whole(subject, Step::Merge)?;
+        let count = counts.get(subject + 1).filter(|&count| count != NONE)?;
         let base = times(LIBRARY);
         let time = times(subject).zip(base);
         let depth = figures.stacks.get(&(subject, Step::Merge));
         Some(format!(
-            "| {} | {} | {} | {} |\n",
+            "| {} | {count} | {} | {} |\n",
             subjects[subject].name,
-            grouped(spread.mean),
-            shown(time.map(|(times, base)| ratio(median_ratio(&times, &base)))),
+            shown(time.map(|(times, base)| ratios(middle_ratio(&times, &base)))),
             shown(depth.map(|&depth| grouped(depth as f64))),
         ))
     };
     let rows: String = (0..subjects.len()).filter_map(row).collect();
+    let sort = figures.sort as f64;
+    let library = figures.whole(LIBRARY, Step::Merge);
+    let sort_ratio = library.map_or(String::new(), |own| {
+        format!(" ({})", ratio(sort / own.mean))
+    });
     let [first, second] = about.merged;
     format!(
         "## Two lists merged\n\nLists of {} and {} names, {} of them in both, are merged to the list of all. Mistrogu and the reference judge both \
          lists, then go over them to count and once more to write. `sort -mu` merges lines of the same names by their bytes (LC_ALL=C), and judges \
-         nothing; what it takes for two empty files is taken off. In the column of times Mistrogu's is 1.\n\n\
-         | | Instructions | Time | Stack in bytes |\n|---|---:|---:|---:|\n{rows}| `sort -mu` of the lines | {} | {NONE} | {NONE} |\n",
+         nothing; what it takes for two empty files is taken off. Brackets and times are those of the tables above.\n\n\
+         | | Instructions | Time | Stack in bytes |\n|---|---:|---:|---:|\n{rows}| `sort -mu` of the lines | {}{sort_ratio} | {NONE} | {NONE} |\n",
         grouped(first as f64),
         grouped(second as f64),
         grouped((first + second - about.names) as f64),
-        grouped(figures.sort as f64),
+        grouped(sort),
     )
 }
 
 /// Books of both kinds, built and checked.
 fn folding(about: &About, subjects: &[Subject], figures: &Figures) -> String {
-    let row = |(name, step): (&str, Step)| {
-        let cells = (0..subjects.len()).map(|subject| {
-            let spread = figures.whole(subject, step);
-            spread.map_or(NONE.to_string(), |spread| grouped(spread.mean))
-        });
-        [vec![name.to_string()], cells.collect()].concat()
-    };
+    let row = |(name, step): (&str, Step)| counted(figures, subjects, name, step);
     let rows = [
         ("build, plain", Step::Build),
         ("build, folded", Step::BuildFolded),
@@ -314,6 +346,16 @@ pub fn ratio(ratio: f64) -> String {
     }
 }
 
+/// A ratio with its spread, where that can be seen.
+pub fn ratios(middle: Middle) -> String {
+    let [median, least, most] = [middle.median, middle.least, middle.most].map(ratio);
+    if least == median && most == median {
+        median
+    } else {
+        format!("{median} ({least}-{most})")
+    }
+}
+
 /// The number rounded to its first two digits.
 fn two_digits(number: f64) -> f64 {
     let unit = 10f64.powf(number.log10().floor() - 1.0).max(1.0);
@@ -322,7 +364,8 @@ fn two_digits(number: f64) -> f64 {
 
 #[cfg(test)]
 mod tests {
-    use super::{grouped, ratio};
+    use super::{grouped, ratio, ratios};
+    use crate::steps::Middle;
 
     #[test]
     fn digits_stand_in_groups_of_three() {
@@ -337,5 +380,18 @@ mod tests {
             shown,
             ["1.00", "0.25", "1/10", "1/2,100", "12", "1,200", "-"]
         );
+    }
+    #[test]
+    fn a_spread_is_shown_where_it_can_be_seen() {
+        let shown = |median, least, most| {
+            ratios(Middle {
+                median,
+                least,
+                most,
+            })
+        };
+        assert_eq!(shown(1.22, 1.2, 1.25), "1.22 (1.20-1.25)");
+        assert_eq!(shown(1.0, 0.999, 1.004), "1.00");
+        assert_eq!(shown(0.001, 0.0005, 0.002), "1/1,000 (1/2,000-1/500)");
     }
 }

@@ -2,7 +2,7 @@
 
 use compare::plot::drawing;
 use compare::steps::{
-    median_ratio, Figures, Step, Subject, LIBRARY, MODEL, REFERENCE, ROWS, SORTED,
+    middle, middle_ratio, Figures, Middle, Step, Subject, LIBRARY, MODEL, REFERENCE, ROWS, SORTED,
 };
 use compare::tables::{page, About};
 use format::Kind;
@@ -31,6 +31,8 @@ fn made_up() -> (Vec<Subject>, Figures) {
     note(LIBRARY, Step::CheckFolded, &[120_010], 6600.0);
     note(LIBRARY, Step::Merge, &[300_010], 5000.0);
     note(REFERENCE, Step::Merge, &[200_010], 4000.0);
+    note(LIBRARY, Step::Salvage, &[150_010], 9600.0);
+    note(REFERENCE, Step::Salvage, &[75_010], 4800.0);
     for kind in Kind::ALL {
         note(LIBRARY, Step::Ask(kind), &[100_410, 100_810], 6401.0);
         note(LIBRARY, Step::BatchOf(kind), &[164_010], 6400.0);
@@ -38,7 +40,8 @@ fn made_up() -> (Vec<Subject>, Figures) {
         note(REFERENCE, Step::BatchOf(kind), &[102_010], 3200.0);
         note(MODEL, Step::Ask(kind), &[5_000_010], 64_010.0);
         note(MODEL, Step::HeldAsk(kind), &[7_010], 50.0);
-        note(SORTED, Step::Ask(kind), &[710], 20.0);
+        note(SORTED, Step::Ask(kind), &[710], 21.0);
+        note(SORTED, Step::HeldAsk(kind), &[1], 20.0);
     }
     figures.sort = 400_000;
     (subjects.to_vec(), figures)
@@ -61,8 +64,25 @@ fn after_the_check_the_librarys_check_is_taken_off() {
     assert_eq!(figures.held_times(REFERENCE, step), Some(vec![50.0, 100.0]));
     assert_eq!(figures.held_times(SORTED, step), Some(vec![20.0, 40.0]));
     assert_eq!(figures.held_times(LIBRARY, Step::Read), None);
-    assert_eq!(median_ratio(&[1.0, 9.0, 6.0], &[2.0, 3.0, 3.0]), 2.0);
     assert_eq!(ROWS, 64);
+}
+
+#[test]
+fn a_ratio_is_the_middle_of_the_rounds_and_its_spread_leaves_a_tenth_out_at_both_ends() {
+    let one = middle_ratio(&[1.0, 9.0, 6.0], &[2.0, 3.0, 3.0]);
+    let expected = Middle {
+        median: 2.0,
+        least: 0.5,
+        most: 3.0,
+    };
+    assert_eq!(one, expected);
+    let twenty = middle((1..=20).rev().map(f64::from).collect());
+    let expected = Middle {
+        median: 11.0,
+        least: 3.0,
+        most: 18.0,
+    };
+    assert_eq!(twenty, expected);
 }
 
 #[test]
@@ -80,17 +100,20 @@ fn the_page_has_a_row_for_each_call_and_says_what_is_left_out() {
     };
     let page = page(&about, &subjects, &figures);
     for line in [
-        "| exact | 100,600 | 90,250 | 5,000,000 | 700 |",
-        "| exact | 600 / 800 | 250 / 300 | 7,000 / 7,000 | 700 / 700 |",
+        "| exact | 100,600 | 90,250 (0.90) | 5,000,000 (50) | 700 (1/140) |",
+        "| exact | 600 / 800 | 250 / 300 (0.42) | 7,000 / 7,000 (12) | 700 / 700 (1.17) |",
         "| exact, after the check | 1/64 | 0.50 | 0.50 | 0.20 |",
         "| row of a batch, with its 64th of the check | 2,562 | - | - | - |",
         "| row of a batch, without | 1,000 | - | - | - |",
         "| build | - | - | - | - |",
         "| check | 64 | 64 | - | - |",
+        "| salvage | 150,000 | 75,000 (0.50) | - | - |",
+        "| salvage | 1.50 | 0.50 | - | - |",
+        "| salvage | 64 | 64 | - | - |",
         "| Mistrogu | 300,000 | 1.00 | 64 |",
-        "| reference | 200,000 | 0.80 | 64 |",
-        "| `sort -mu` of the lines | 400,000 | - | - |",
-        "| check, plain | 100,000 | 90,000 | - | - |",
+        "| reference | 200,000 (0.67) | 0.80 | 64 |",
+        "| `sort -mu` of the lines | 400,000 (1.33) | - | - |",
+        "| check, plain | 100,000 | 90,000 (0.90) | - | - |",
         "| check, folded | 120,000 | - | - | - |",
         "fst is left out.",
     ] {
@@ -105,8 +128,8 @@ fn the_page_has_a_row_for_each_call_and_says_what_is_left_out() {
 fn the_drawing_has_a_mark_for_each_figure() {
     let (subjects, figures) = made_up();
     let drawing = drawing(&subjects, &figures);
-    // A mark in the legend; then check, batch, its row and five kinds twice.
-    assert_eq!(drawing.matches("<circle").count(), 1 + 3 + 10);
+    // A mark in the legend; then check, batch, its row, salvage and five kinds twice.
+    assert_eq!(drawing.matches("<circle").count(), 1 + 4 + 10);
     assert!(drawing.contains("100,600") && drawing.contains("prefers-color-scheme: dark"));
     assert!(!drawing.contains("NaN") && !drawing.contains("inf"));
     assert!(drawing.ends_with("</svg>\n"));
