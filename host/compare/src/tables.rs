@@ -211,7 +211,9 @@ fn times(about: &About, subjects: &[Subject], figures: &Figures) -> String {
     format!(
         "## Time\n\nIn Mistrogu's column its check is 1. In the others Mistrogu's time in the same row is 1: 1/2,000 is the two \
          thousandth part of it. Processor time, by turns in one process: in each of {} rounds those of a row are sampled one after the other, call by call \
-         where a call is long enough to be timed, at four places of the stack, of which the least counts. Given is the median of the rounds' ratios; in \
+         where a call is long enough to be timed, at four places of the stack, of which the least counts. Before each sample branches are taken that can't be foretold, so \
+         that the processor knows none of the call's own, as when a guest did something else before; made again and again with the same bytes, some calls take less than \
+         half that time. Given is the median of the rounds' ratios; in \
          brackets the least and the most of their middle eight tenths, where that is not the same. After the check, the time of Mistrogu and of the reference is a \
          64th of what a batch of that kind takes more than the check, and the others are sampled beside it.\n\n{}\n{}",
         about.rounds,

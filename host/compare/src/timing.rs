@@ -6,9 +6,12 @@
 //! rounds. A sample is one call where that is long enough to be timed, and as many
 //! as fill it where it is not.
 //!
-//! Where in a page of memory the stack begins matters: at a few places the
-//! library's check takes up to two thirds more time. So every sample is taken at
-//! several places, and the least counts.
+//! Two things move a time by more than what is compared. Made again and again with
+//! the same bytes, a call takes down to two fifths of its first time, or does not,
+//! as the processor's memory of branches happens to hold what the others leave in
+//! it. So that memory is filled with noise before each sample, as it is for a guest
+//! that did something else before. And where in a page of memory the stack begins
+//! matters: so every sample is taken at several places, and the least counts.
 
 use crate::items::Item;
 use compare::steps::{median, Step};
@@ -18,15 +21,19 @@ use std::ffi::{c_int, c_long};
 use std::hint::black_box;
 use std::ops::Range;
 use std::time::Duration;
+use vectors::random::Random;
 
 /// How many times everything is timed.
-pub const ROUNDS: usize = 20;
-/// How many turns a race has at least.
+pub const ROUNDS: usize = 10;
+/// How many turns a call has in a race, where all its turns are alike.
 const TURNS: usize = 25;
-/// Calls whose inputs together take longer are sampled with each by itself.
-const SHORT: Duration = Duration::from_millis(1);
-/// How long a sample takes at least, where a call is short.
-const SAMPLE: Duration = Duration::from_micros(50);
+/// What takes longer than this is a sample by itself; shorter calls are made one
+/// after the other until they take that long.
+const SAMPLE: Duration = Duration::from_micros(10);
+/// What takes longer than this is sampled at fewer places.
+const LONG: Duration = Duration::from_millis(1);
+/// How many branches are taken before each sample that can't be foretold.
+const NOISE: usize = 60_000;
 /// The places of the stack where a call is sampled, each a quarter of a page
 /// further down. Where a call is very long, two have to do.
 const PLACES: [Sample; 4] = [sample::<64>, sample::<1088>, sample::<2112>, sample::<3136>];
@@ -39,11 +46,12 @@ type Sample = fn(&mut Item, Range<usize>, usize) -> Duration;
 pub fn time(items: &mut [Item]) -> BTreeMap<(usize, Step), Vec<f64>> {
     let calls: Vec<(usize, Step)> = items.iter().map(|item| (item.subject, item.step)).collect();
     let races = races(&calls);
+    let mut random = Random::from_seed(1);
     let mut times: BTreeMap<(usize, Step), Vec<f64>> = BTreeMap::new();
     for _ in 0..ROUNDS {
         for race in &races {
-            for (step, runner, time) in run(items, race) {
-                let of_call = times.entry((items[runner].subject, step)).or_default();
+            for (call, step, time) in run(items, race, &mut random) {
+                let of_call = times.entry((calls[call].0, step)).or_default();
                 of_call.push(time);
             }
         }
@@ -51,18 +59,22 @@ pub fn time(items: &mut [Item]) -> BTreeMap<(usize, Step), Vec<f64>> {
     times
 }
 
-/// Runs a race: what is noted of each call, with its step and its number.
-fn run(items: &mut [Item], race: &[Runner]) -> Vec<(Step, usize, f64)> {
+/// Runs a race: what is noted of each call, with its number and its step.
+fn run(items: &mut [Item], race: &[Runner], random: &mut Random) -> Vec<(usize, Step, f64)> {
     let pace = |runner: &Runner| Pace::of(&mut items[runner.call]);
     let paces: Vec<Pace> = race.iter().map(pace).collect();
-    let turns = paces.iter().map(Pace::turns).fold(TURNS, usize::max);
+    let turns = paces.iter().map(Pace::turns).fold(0, usize::max);
     let mut series = vec![Vec::new(); race.len()];
     for turn in 0..turns {
         let mut least = vec![f64::INFINITY; race.len()];
         for place in 0..PLACES.len() {
             for (number, runner) in race.iter().enumerate() {
-                let time = paces[number].sample(&mut items[runner.call], turn, place);
-                least[number] = time.unwrap_or(f64::INFINITY).min(least[number]);
+                if let Some((inputs, repeats)) = paces[number].sample(turn, place) {
+                    forget(random);
+                    let calls = (inputs.len() * repeats) as f64;
+                    let time = PLACES[place](&mut items[runner.call], inputs, repeats);
+                    least[number] = least[number].min(time.as_nanos() as f64 / calls);
+                }
             }
         }
         for (times, least) in series.iter_mut().zip(least) {
@@ -75,7 +87,7 @@ fn run(items: &mut [Item], race: &[Runner]) -> Vec<(Step, usize, f64)> {
             Some(other) => median(less(own, &series[other])),
             None => paces[number].time(own),
         };
-        Some((runner.noted?, runner.call, time))
+        Some((runner.call, runner.noted?, time))
     });
     noted.collect()
 }
@@ -88,10 +100,11 @@ fn less(times: &[f64], others: &[f64]) -> Vec<f64> {
 
 /// How a call is sampled in a round.
 enum Pace {
-    /// With all inputs, so many, together, and that so many times, at every turn.
+    /// With all inputs, so many, together, and that so many times.
     Together { inputs: usize, repeats: usize },
-    /// With one input at each turn, until each of so many had its turn, at so
-    /// many places.
+    /// With its only input.
+    Alone,
+    /// With another of so many inputs at each turn, at so many places.
     Each { inputs: usize, places: usize },
 }
 
@@ -100,42 +113,58 @@ impl Pace {
     fn of(item: &mut Item) -> Pace {
         let inputs = item.call.turns();
         let pass = PLACES[0](item, 0..inputs, 1);
-        if pass < SHORT {
+        let one = pass / inputs as u32;
+        if one < SAMPLE {
             let repeats = whole_parts(SAMPLE, pass);
-            return Pace::Together { inputs, repeats };
+            Pace::Together { inputs, repeats }
+        } else if inputs == 1 && one < LONG {
+            Pace::Alone
+        } else {
+            let places = if one < LONG { PLACES.len() } else { 2 };
+            Pace::Each { inputs, places }
         }
-        let is_long = pass / inputs as u32 > SHORT;
-        let places = if is_long { 2 } else { PLACES.len() };
-        Pace::Each { inputs, places }
     }
 
-    /// How many turns it needs.
+    /// How many turns it has.
     fn turns(&self) -> usize {
         match *self {
-            Pace::Together { .. } => 1,
+            Pace::Together { .. } | Pace::Alone => TURNS,
             Pace::Each { inputs, .. } => inputs,
         }
     }
 
-    /// Nanoseconds of a call at this turn and this place, unless it has had all
-    /// its turns.
-    fn sample(&self, item: &mut Item, turn: usize, place: usize) -> Option<f64> {
-        let (inputs, repeats) = match *self {
-            Pace::Together { inputs, repeats } => (0..inputs, repeats),
-            Pace::Each { inputs, places } if turn < inputs && place < places => (turn..turn + 1, 1),
-            Pace::Each { .. } => return None,
+    /// The inputs and repeats of this turn at this place, if it has one.
+    fn sample(&self, turn: usize, place: usize) -> Option<(Range<usize>, usize)> {
+        let (inputs, repeats, places) = match *self {
+            Pace::Together { inputs, repeats } => (0..inputs, repeats, PLACES.len()),
+            Pace::Alone => (0..1, 1, PLACES.len()),
+            Pace::Each { places, .. } => (turn..turn + 1, 1, places),
         };
-        let calls = inputs.len() * repeats;
-        let time = PLACES[place](item, inputs, repeats);
-        Some(time.as_nanos() as f64 / calls as f64)
+        (turn < self.turns() && place < places).then_some((inputs, repeats))
     }
 
     /// The time of a call, from that of each turn: the middle where every turn
     /// is the same, and the average of the inputs where each has its own.
     fn time(&self, times: &[f64]) -> f64 {
         match self {
-            Pace::Together { .. } => median(times.to_vec()),
+            Pace::Together { .. } | Pace::Alone => median(times.to_vec()),
             Pace::Each { .. } => times.iter().sum::<f64>() / times.len() as f64,
+        }
+    }
+}
+
+/// Takes branches that can't be foretold, at several places of the code.
+#[inline(never)]
+fn forget(random: &mut Random) {
+    let mut ones = 0;
+    for _ in 0..NOISE / 8 {
+        let bits = random.any();
+        for bit in 0..8 {
+            if bits >> bit & 1 == 1 {
+                ones = black_box(ones + 1);
+            } else {
+                black_box(ones);
+            }
         }
     }
 }
