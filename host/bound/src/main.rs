@@ -6,7 +6,8 @@
 //! the code is not understood, it says so, and the exit status is 1.
 
 use bound::function::{functions, Function};
-use bound::way::{Way, Ways};
+use bound::page::{Call, GUESTS};
+use bound::way::Ways;
 use bound::{dump, header, object, page};
 use std::path::Path;
 use std::process::ExitCode;
@@ -36,19 +37,22 @@ fn run(words: &[String]) -> Result<(), String> {
     let ways = Ways::of(&functions)?;
     let calls = calls(&functions, &ways);
     print!("{}", page::page(&calls, &ways.cycles(), &functions));
-    let bounds: Vec<header::Bound> = calls.iter().map(|(name, way)| (*name, way.bytes)).collect();
+    let bounds = calls.iter().map(|(name, way, _)| (*name, way.bytes));
+    let bounds: Vec<header::Bound> = bounds.collect();
     let text = fs::read_to_string(header).map_err(|error| format!("{header}: {error}"))?;
     header::hold(&text, &bounds)
 }
 
-/// The deepest way of each exported call, by name.
-fn calls<'a>(functions: &'a [Function], ways: &Ways) -> Vec<(&'a str, Way)> {
+/// The deepest way of each exported call, and what fits each guest, by name.
+fn calls<'a>(functions: &'a [Function], ways: &Ways) -> Vec<Call<'a>> {
     let numbered = functions.iter().enumerate();
     let is_call = |name: &str| CALLS.iter().any(|begins| name.starts_with(begins));
     let calls = numbered.filter(|(_, function)| function.is_exported && is_call(&function.name));
-    let mut calls: Vec<(&str, Way)> = calls
-        .map(|(number, function)| (&*function.name, ways.deepest(number)))
-        .collect();
+    let call = |(number, function): (usize, &'a Function)| {
+        let fits = GUESTS.map(|kib| ways.fit(number, 1024 * kib));
+        (&*function.name, ways.deepest(number), fits)
+    };
+    let mut calls: Vec<Call> = calls.map(call).collect();
     calls.sort_unstable_by_key(|call| call.0);
     calls
 }

@@ -1,28 +1,35 @@
 //! The figures as tables of Markdown.
 
 use crate::function::{Function, OUTSIDE};
-use crate::way::{Cycle, Held, Way, MOST_LEVELS};
+use crate::way::{Cycle, Fit, Held, Way, MOST_LEVELS};
+
+/// The stacks of guests that the page speaks of, in KiB.
+pub const GUESTS: [u64; 4] = [2, 4, 8, 23];
+
+/// A call: its name, its deepest way, and what fits the stack of each guest.
+pub type Call<'a> = (&'a str, Way, [Fit; GUESTS.len()]);
 
 /// The page: the bound of each call with its deepest way, what the cycle costs,
-/// and the frame of each function.
-pub fn page(ways: &[(&str, Way)], cycles: &[Cycle], functions: &[Function]) -> String {
+/// which guest can make which call, and the frame of each function.
+pub fn page(all: &[Call], cycles: &[Cycle], functions: &[Function]) -> String {
     [
-        calls(ways),
+        calls(all),
         cycles.iter().map(cycle).collect(),
+        guests(all),
         frames(functions),
     ]
     .join("\n")
 }
 
 /// The bound of each call.
-fn calls(ways: &[(&str, Way)]) -> String {
+fn calls(all: &[Call]) -> String {
     let mut text = format!(
         "The most stack that any input can cost a call, in bytes: these, its return address \
          among them,\nand what the guest's own {} take.\n\n",
         OUTSIDE.join(" and ")
     );
     text += "| Call | Stack | The deepest way, with the bytes of each frame |\n|---|---:|---|\n";
-    for (name, way) in ways {
+    for (name, way, _) in all {
         let frames: Vec<String> = way.frames.iter().map(shown).collect();
         text += &format!(
             "| `{name}` | {} | {} |\n",
@@ -54,6 +61,31 @@ fn cycle(cycle: &Cycle) -> String {
         names.join(" and "),
         grouped(cycle.level())
     )
+}
+
+/// Which guest can make which call.
+fn guests(all: &[Call]) -> String {
+    let mut text = "What a guest with a stack of so many KiB can lend a call: any bytes, or books of up to so \
+                    many levels,\nwhich are forks that stand inside each other, on the longest way down.\n\n| Call |"
+        .to_string();
+    for kib in GUESTS {
+        text += &format!(" {kib} KiB |");
+    }
+    text += &format!("\n|---|{}\n", "---|".repeat(GUESTS.len()));
+    for (name, _, fits) in all {
+        text += &format!("| `{name}` | {} |\n", fits.map(fitting).join(" | "));
+    }
+    text
+}
+
+/// What fits, as a cell.
+fn fitting(fit: Fit) -> String {
+    match fit {
+        Fit::Nothing => "nothing".to_string(),
+        Fit::Levels(1) => "1 level".to_string(),
+        Fit::Levels(levels) => format!("{levels} levels"),
+        Fit::Any => "any".to_string(),
+    }
 }
 
 /// The frame of each function, by name.
@@ -115,10 +147,13 @@ mod tests {
             function("inspect::check_node", 176),
             function("book_check", 1064),
         ];
-        let page = page(&[("book_check", way)], &[cycle], &functions);
+        let fits = [Fit::Nothing, Fit::Levels(1), Fit::Levels(44), Fit::Any];
+        let page = page(&[("book_check", way, fits)], &[cycle], &functions);
         for line in [
             "| `book_check` | 35,264 | `book_check` 64, 200 times `inspect::check_node` 176 |",
             "The cycle is `inspect::check_node`: 176 bytes a level, and at most 200 levels",
+            "| Call | 2 KiB | 4 KiB | 8 KiB | 23 KiB |\n|---|---|---|---|---|\n",
+            "| `book_check` | nothing | 1 level | 44 levels | any |",
             "| `book_check` | 1,064 |\n| `inspect::check_node` | 176 |",
         ] {
             assert!(page.contains(line), "{page}");

@@ -63,12 +63,25 @@ impl Cycle {
 }
 
 /// The functions of an archive, with the deepest way from each.
-#[derive(Debug)]
+#[derive(Clone, Debug)]
 pub struct Ways<'a> {
     /// The functions.
     functions: &'a [Function],
     /// Of each function the numbers of those that it can come to by calls.
     reached: Vec<Vec<bool>>,
+    /// How often each function of the cycle is active at a time, at most.
+    most_levels: u64,
+}
+
+/// What fits a stack.
+#[derive(Clone, Copy, Debug, PartialEq, Eq)]
+pub enum Fit {
+    /// Nothing.
+    Nothing,
+    /// Books of so many levels, and no more.
+    Levels(u64),
+    /// Any bytes.
+    Any,
 }
 
 impl<'a> Ways<'a> {
@@ -79,6 +92,7 @@ impl<'a> Ways<'a> {
         let ways = Ways {
             functions,
             reached: reached.collect(),
+            most_levels: MOST_LEVELS,
         };
         for number in (0..functions.len()).filter(|&number| ways.reached[number][number]) {
             let name = &*functions[number].name;
@@ -90,6 +104,22 @@ impl<'a> Ways<'a> {
             }
         }
         Ok(ways)
+    }
+
+    /// What fits a stack of so many bytes, where this function is called.
+    pub fn fit(&self, number: usize, bytes: u64) -> Fit {
+        let fits = |most_levels: &u64| {
+            let ways = Ways {
+                most_levels: *most_levels,
+                ..self.clone()
+            };
+            ways.deepest(number).bytes <= bytes
+        };
+        match (1..=MOST_LEVELS).rev().find(fits) {
+            None => Fit::Nothing,
+            Some(MOST_LEVELS) => Fit::Any,
+            Some(levels) => Fit::Levels(levels),
+        }
     }
 
     /// The cycles.
@@ -172,7 +202,7 @@ impl<'a> Ways<'a> {
             Held {
                 name: function.name.clone(),
                 bytes: inner.map(|call| call.held).max().unwrap_or(0),
-                times: MOST_LEVELS,
+                times: self.most_levels,
             }
         };
         Cycle {
@@ -291,6 +321,31 @@ mod tests {
         let (bytes, frames) = deepest(&[(node, &body), ("leaf", leaf)]);
         assert_eq!(bytes, 199 * 16 + 8 + 264);
         assert_eq!(frames, format!("199*16 {node}, 1*8 {node}, 1*264 leaf"));
+    }
+
+    #[test]
+    fn what_fits_is_told_by_levels() {
+        let node = "inspect::check_node";
+        let body = format!("sub    $0x28,%rsp\n>call {node}\nadd    $0x28,%rsp\nret");
+        let check = format!(">call {node}\nret");
+        let other = "sub    $0x100,%rsp\nadd    $0x100,%rsp\nret";
+        let functions = functions(&[("book_check", &check), (node, &body), ("other", other)]);
+        let ways = Ways::of(&functions).unwrap();
+        let fits = [55, 56, 103, 104, 9607, 9608].map(|bytes| ways.fit(0, bytes));
+        let levels = [
+            Fit::Levels(1),
+            Fit::Levels(1),
+            Fit::Levels(2),
+            Fit::Levels(199),
+        ];
+        assert_eq!(fits[0], Fit::Nothing);
+        assert_eq!(fits[1..5], levels);
+        assert_eq!(fits[5], Fit::Any);
+        assert_eq!(
+            [263, 264].map(|bytes| ways.fit(2, bytes)),
+            [Fit::Nothing, Fit::Any]
+        );
+        assert_eq!(ways.deepest(0).bytes, 9608);
     }
 
     #[test]
