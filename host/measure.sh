@@ -13,20 +13,22 @@
 #   host/measure.sh step FIRST SECOND COUNT COUNT of list_head behind so many records of the first and of the second
 #   host/measure.sh questions BOOKFILE            of mixed questions to that book, less those of its check
 #   host/measure.sh batch BOOKFILE                of book_batch with 64 mixed questions to that book, and of each of them alone
+#   host/measure.sh screen BOOKFILE TYPED         of a book_range with what is typed, and a book_read of the first ten names of it
 #   host/measure.sh growth                        of build, check and place, on lists of which one parameter doubles
 #   host/measure.sh worst [SEED]                  of check and place, on shapes that may cost most: the ten dearest of each
 #   host/measure.sh worst_folded [SEED]           the same of folded books, of which neighbours differ in case
 #   host/measure.sh split LISTFILE ODD EVEN       counts nothing, but parts a list into two files, to be merged again
 #   host/measure.sh wear BOOKFILE CARDFILE        counts nothing, but damages every tenth block of a book, to be salvaged
+#   host/measure.sh book LISTFILE K BOOKFILE      counts nothing, but writes a list's book, and tells its names and levels
 #   host/measure.sh fold LISTFILE K NAME          counts nothing, but writes a list's names for folded books, and those books
 #
 # A question is a text, or `hex:` and two digits for each byte. `vectors lists FOLDER` and `vectors books FOLDER K` write files to measure
 # with, and `split` two more: the records of that list that have odd numbers, counted from 0, and those that have even ones. Of what `wear`
 # writes, a damaged block is broken in its last entry, so all of it is gone through before it is dropped. `fold` writes NAME-folded.list and
 # NAME-folded.book, with the names as they are spelt, and NAME-turns.list and NAME-turns.book, in small letters and capitals by turns, so that
-# neighbours share no byte. Every call that takes a book takes either kind. The words go to the program `bench`.
-# The archive is the one that MISTROGU_ARCHIVE names, or archive.sh's; reference.sh and small.sh make
-# others, to measure in the same way.
+# neighbours share no byte. Levels, of which `book` tells, are forks that stand inside each other, on the longest way down. Every call that
+# takes a book takes either kind. The words go to the program `bench`. The archive is the one that MISTROGU_ARCHIVE names, or archive.sh's;
+# reference.sh and small.sh make others, to measure in the same way.
 #
 # `questions` makes 100 questions from the book's names, the same ones each time: 20 names, 20 beginnings, 20 extensions, 20 that miss a
 # name by one byte, and 20 strangers. Each is asked in all five kinds, and every call is counted by itself. Since a call checks the book
@@ -133,6 +135,14 @@ one_batch() {
         }' "$work/counts"
 }
 
+# Of a screen: all its calls together.
+screen() {
+    each_call "$@"
+    awk "$counted"'
+        { sum += $1 }
+        END { if (failed) exit 1; printf "screen: %d instructions, of a range and %d reads\n", sum, NR - 1 }' "$work/counts"
+}
+
 # A line of three calls for each list: label, bytes of the book, build, check, place less the check. What is too large is left out.
 three_calls() {
     each_call "$@"
@@ -168,8 +178,9 @@ worst() {
 case $1 in
 questions) mixed_questions "$@" ;;
 batch) shift && one_batch "$@" ;;
+screen) screen "$@" ;;
 growth) growth ;;
 worst | worst_folded) worst "$@" ;;
-split | wear | fold) "$bench" "$@" ;;
+split | wear | book | fold) "$bench" "$@" ;;
 *) one_call "$@" ;;
 esac

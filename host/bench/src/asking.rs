@@ -69,7 +69,7 @@ fn ready(
 const HEX: &str = "hex:";
 
 /// The bytes of a question: those of the word, or of the hex digits in it.
-fn read_question(word: &str) -> Result<Vec<u8>, String> {
+pub fn read_question(word: &str) -> Result<Vec<u8>, String> {
     let Some(digits) = word.strip_prefix(HEX) else {
         return Ok(word.as_bytes().to_vec());
     };

@@ -5,11 +5,13 @@
 //! took: see measure.sh. `bench stack CALL ..` tells how deep the stack grew.
 //! `bench questions BOOKFILE` checks the book and then asks mixed questions;
 //! `bench together BOOKFILE` asks some of them as one batch, and then each of
-//! them alone. In each case the answer is printed, and it has to be the second
+//! them alone; `bench screen BOOKFILE TYPED` asks for a range and reads its first
+//! names. In each case the answer is printed, and it has to be the second
 //! program's: a wrong answer is not worth measuring. `bench growth` and `bench
 //! worst` build, check and ask lists of many shapes, `bench worst_folded` those of
 //! folded books. `bench split` parts a list into two, to merge them again, `bench wear`
-//! damages a book, to salvage it, and `bench fold` makes lists and books to be folded.
+//! damages a book, to salvage it, `bench book` writes the book of a list, and `bench
+//! fold` makes lists and books to be folded.
 //!
 //! Another call is a module with one function, and one more line in [`CALLS`].
 
@@ -21,6 +23,7 @@ mod merging;
 mod mixed;
 mod reading;
 mod salvaging;
+mod screen;
 mod shaped;
 mod stack;
 
@@ -145,12 +148,14 @@ fn run(words: &[String]) -> Result<String, String> {
         }
         "questions" => mixed::run(rest),
         "together" => batching::together(rest),
+        "screen" => screen::run(rest),
         "growth" => shaped::growth(),
         "worst" => shaped::worst(BookKind::Plain, rest),
         "worst_folded" => shaped::worst(BookKind::Folded, rest),
         "split" => merging::split(rest),
         "wear" => salvaging::wear(rest),
         "fold" => building::fold(rest),
+        "book" => building::book(rest),
         _ => {
             let Ready {
                 mut measured,
@@ -196,11 +201,13 @@ fn usage() -> String {
         .collect();
     lines.push("bench questions BOOKFILE".to_string());
     lines.push("bench together BOOKFILE".to_string());
+    lines.push("bench screen BOOKFILE TYPED".to_string());
     lines.push("bench growth".to_string());
     lines.push("bench worst [SEED]".to_string());
     lines.push("bench worst_folded [SEED]".to_string());
     lines.push("bench split LISTFILE ODD EVEN".to_string());
     lines.push("bench wear BOOKFILE CARDFILE".to_string());
     lines.push("bench fold LISTFILE K NAME".to_string());
+    lines.push("bench book LISTFILE K BOOKFILE".to_string());
     lines.join("\n")
 }
