@@ -123,7 +123,7 @@ fn whole_instructions(subjects: &[Subject], figures: &Figures) -> String {
     let row = |(name, step): Line| counted(figures, subjects, &name, step);
     let rows: Vec<Vec<String>> = whole_lines().into_iter().map(row).collect();
     format!(
-        "## Instructions of a call of its own\n\nThe average of all inputs, with some ten instructions of the caller; in brackets, how many times \
+        "## Instructions of a call of its own\n\nThe average of all inputs, with 20 to 30 instructions of the caller; in brackets, how many times \
          Mistrogu's they are. A single question to Mistrogu is nearly all check; what the question itself takes is in the next table.\n\n{}",
         table("Call", subjects, &rows)
     )
@@ -294,7 +294,7 @@ fn folding(about: &About, subjects: &[Subject], figures: &Figures) -> String {
     ];
     let [names, bytes] = about.folded;
     format!(
-        "## Folded books\n\nInstructions of building and checking the same names as a plain and as a folded book, which takes capitals as small \
+        "## Books of both kinds\n\nInstructions of building and checking the same names as a plain and as a folded book, which takes capitals as small \
          letters: {} names, {} bytes.\n\n{}",
         grouped(names as f64),
         grouped(bytes as f64),
