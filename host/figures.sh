@@ -104,6 +104,9 @@ done
 folder=$(cd "$folder" && pwd -P)
 product=$(realpath "${MISTROGU_ARCHIVE:-$("$host/archive.sh")}")
 
+# How many random cases are held to the second program.
+cases=100000
+
 work=$(mktemp -d)
 trap 'rm -rf "$work"' EXIT
 say() {
@@ -130,7 +133,7 @@ count() {
     of[$who $key]=$(sed -n 's/^[a-z_]*: \([0-9]*\) instructions.*/\1/p' "$work/said")
     [ -n "${of[$who $key]}" ] || fail "measure.sh $* counted nothing"
     read -r code first second < <(sed -n 's/^answer //p' "$work/said") || true
-    [ "$1" = step ] || [ "$code" = 0 ] || fail "measure.sh $* counted a refusal"
+    [ "$1" = step ] || [ "${code:-0}" = 0 ] || fail "measure.sh $* counted a refusal"
     of[$key first]=$first of[$key second]=$second
 }
 
@@ -277,6 +280,11 @@ count screen screen "$work/stations.book" San
 "$host/measure.sh" growth >"$work/growth"
 of_stacks
 run bound -- "$product" "$host/../include/mistrogu.h" >"$work/bound"
+say "vectors and random cases"
+for set in $(run vectors 2>&1 | sed -n 's/^The sets are: //p' | tr -d ,); do
+    run vectors -- "$set" "$work/cases"
+done >"$work/sets"
+run difftest -- --cases "$cases" --seed 1 2>/dev/null >"$work/cases.md" || fail "the proved library and the second program differ: difftest --cases $cases --seed 1"
 use reference "$("$host/reference.sh")"
 of_every_list
 of_large_lists
@@ -528,7 +536,32 @@ screen() {
     close_part
 }
 
-for part in state building checking asking batching two_lists cards folded growing dearest by_bytes stacks others screen; do
+vector_sets() {
+    echo "## Vectors"
+    echo
+    open_part vectors
+    echo "| Set | Cases |"
+    echo "|---|---:|"
+    local set count rest sum=0
+    while read -r set count rest; do
+        echo "| \`${set%:}\` | $(g "$count") |"
+        sum=$((sum + count))
+    done <"$work/sets"
+    echo "| all | $(g "$sum") |"
+    close_part
+}
+
+random_cases() {
+    echo "## Differential test"
+    echo
+    open_part fuzz
+    echo "\`difftest --cases $cases --seed 1\`, no difference:"
+    echo
+    sed -n '/^|/p' "$work/cases.md"
+    close_part
+}
+
+for part in state building checking asking batching two_lists cards folded growing dearest by_bytes stacks others screen vector_sets random_cases; do
     "$part"
 done >"$folder/figures.md"
 cat "$folder/figures.md"

@@ -91,9 +91,11 @@ each_call() {
 # What is done first with such a line.
 counted='$1 !~ /^[1-9][0-9]*$/ { print "a call is not in the profile: " $0 > "/dev/stderr"; failed = 1; exit 1 }'
 
-# Of mixed questions: the check, then each question.
+# Of mixed questions: the check, then each question. Their answers are held to the second program outside of the profiler, where that is soon done.
 mixed_questions() {
-    each_call "$@"
+    "$bench" questions "$@" >"$work/right"
+    each_call asked "$@"
+    cmp -s "$work/right" "$work/calls" || { echo "questions $*: other answers under the profiler" >&2 && exit 1; }
     awk "$counted"'
         # instructions, kind, the word answer, its three numbers and a colon, the question
         function count(kind, cost, question) {
@@ -176,7 +178,7 @@ worst() {
 }
 
 case $1 in
-questions) mixed_questions "$@" ;;
+questions) shift && mixed_questions "$@" ;;
 batch) shift && one_batch "$@" ;;
 screen) screen "$@" ;;
 growth) growth ;;

@@ -59,7 +59,7 @@ wants_objcopy() {
 # Whether a command is only looked at.
 takes_long() {
     case $1 in
-    ./demo* | ./test* | ./fuzz* | examples/run.sh* | host/benchmark.sh* | 'cargo test'*) return 0 ;;
+    ./demo* | ./test* | ./fuzz* | examples/run.sh* | host/benchmark.sh* | host/figures.sh* | 'cargo test'*) return 0 ;;
     *target/bin/*) return 0 ;;
     *) return 1 ;;
     esac

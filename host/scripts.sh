@@ -131,10 +131,63 @@ try "$with" examples/run.sh no-such.a && said 1 "no-such.a" "examples/run.sh wit
 try "$with" examples/run.sh --fast && said 1 "--fast" "examples/run.sh with an option"
 try "$with" host/benchmark.sh README.md && said 1 "README.md" "benchmark.sh with a file for a folder"
 try "$with" host/benchmark.sh --fast && said 2 "--fast" "benchmark.sh with an option"
+try "$with" host/figures.sh --fast && said 2 "--fast" "figures.sh with an option"
+try "$with" host/figures.sh "$work/figures" no-such.list && said 1 "no-such.list" "figures.sh without its list"
+for word in README.md:0 README.md:65 README.md:many README.md:; do
+    try "$with" host/figures.sh "$work/figures" "$word" && said 2 "$word" "figures.sh with a block that is none"
+done
+try "$with" host/figures.sh "$work/figures" README.md ./README.md:1 && said 2 "two lists" "figures.sh with a list twice"
+try "$with" host/figures.sh README.md sample/stops.txt && said 1 "README.md" "figures.sh with a file for a folder"
+if [ "$(uname -m)" != x86_64 ]; then
+    try "$with" host/figures.sh "$work/figures" && said 1 "x86-64" "figures.sh on another processor"
+elif command -v valgrind >/dev/null; then
+    try "$without" host/figures.sh "$work/figures" && said 1 "rt, " "figures.sh without the prover"
+fi
 try "$without" host/sizes.sh && said 1 "rt, " "sizes.sh without the prover"
 try "$with" host/sizes.sh no-such.a && said 1 "no-such.a" "sizes.sh without its archive"
 try "$without" ./package && said 1 "rt is missing" "package without the prover"
 try "$with" ./package now && said 2 "no words" "package with a word"
+
+# Figures put into a page: the parts go where their names stand, and where one is missing on either side, the page stays.
+taken=$work/taken
+mkdir "$taken" "$work/pages"
+part() {
+    printf '<!-- figures %s -->\n' "$1"
+    printf '| %s |\n' "${@:2}"
+    echo '<!-- end of figures -->'
+}
+page=$work/pages/page.md
+old_page() {
+    echo before && part two old older && echo between && part one && echo behind
+}
+{ echo '# Head' && part one 1 && echo '## Another' && part two 2 3; } >"$taken/figures.md"
+old_page >"$page"
+try "$with" host/figures.sh --into "$page" && said 2 "a folder" "figures.sh --into without its folder"
+try "$with" host/figures.sh --into no-such.md "$taken" && said 1 "no-such.md" "figures.sh --into without its page"
+try "$with" host/figures.sh --into "$page" "$work/pages" && said 1 "figures.md" "figures.sh --into without figures"
+try "$with" host/figures.sh --into "$page" "$taken" && said 1 "benchmark.svg" "figures.sh --into without its drawing"
+echo drawn >"$taken/benchmark.svg"
+{ echo before && part two 2 3 && echo between && part one 1 && echo behind; } >"$work/new.md"
+for time in once twice; do
+    try "$with" host/figures.sh --into "$page" "$taken"
+    [ "$status" = 0 ] || fail "figures.sh --into ended with $status, $time"
+    cmp -s "$page" "$work/new.md" || fail "figures.sh --into did not put the figures where they belong, $time"
+done
+cmp -s "$taken/benchmark.svg" "$work/pages/benchmark.svg" || fail "figures.sh --into did not put the drawing beside the page"
+
+# That figures are refused with a sentence that has the word $1, and change nothing.
+refused_page() {
+    cp "$page" "$work/old.md"
+    try "$with" host/figures.sh --into "$page" "$taken" && said 1 "$1" "figures.sh --into, $2"
+    cmp -s "$page" "$work/old.md" || fail "figures.sh --into changed a page that it refused, $2"
+}
+{ old_page && part three; } >"$page" && refused_page "no figures three" "with a part too many"
+part two >"$page" && refused_page "no figures one" "with a part too few"
+{ old_page && part one; } >"$page" && refused_page "twice" "with a part twice"
+old_page | sed '$d' | sed '$d' >"$page" && refused_page "does not end" "with a part that does not end"
+page_parts=$(sed -n 's/^<!-- figures \([a-z]*\) -->$/\1/p' docs/BENCHMARKS.md)
+own_parts=$(sed -n 's/^ *open_part \([a-z]*\)$/\1/p' host/figures.sh)
+[ "$page_parts" = "$own_parts" ] || fail "docs/BENCHMARKS.md has other parts, or in another order, than figures.sh prints"
 
 # The package, with a stub for cargo, too.
 mkdir "$work/cargo"

@@ -3,7 +3,8 @@
 //! `bench CALL ..` makes the call once. It is made in a function of its own
 //! (for `build` that is `measured_build`), so that a profiler shows what it
 //! took: see measure.sh. `bench stack CALL ..` tells how deep the stack grew.
-//! `bench questions BOOKFILE` checks the book and then asks mixed questions;
+//! `bench questions BOOKFILE` checks the book and then asks mixed questions, and
+//! `bench asked BOOKFILE` does so without the second program, for a profiler;
 //! `bench together BOOKFILE` asks some of them as one batch, and then each of
 //! them alone; `bench screen BOOKFILE TYPED` asks for a range and reads its first
 //! names. In each case the answer is printed, and it has to be the second
@@ -147,6 +148,7 @@ fn run(words: &[String]) -> Result<String, String> {
             Ok(format!("{}, stack {depth}", shown(answer, expected)?))
         }
         "questions" => mixed::run(rest),
+        "asked" => mixed::asked(rest),
         "together" => batching::together(rest),
         "screen" => screen::run(rest),
         "growth" => shaped::growth(),
@@ -187,10 +189,15 @@ pub fn read_number(word: &str) -> Result<usize, String> {
 fn shown(answer: proved::Answer, expected: model::Answer) -> Result<String, String> {
     let numbers = (answer.code, answer.first, answer.second);
     if numbers == (expected.code, expected.first, expected.second) {
-        Ok(format!("answer {} {} {}", numbers.0, numbers.1, numbers.2))
+        Ok(told(answer))
     } else {
         Err(format!("WRONG: {answer:?}, expected {expected:?}"))
     }
+}
+
+/// The answer as it is printed.
+fn told(answer: proved::Answer) -> String {
+    format!("answer {} {} {}", answer.code, answer.first, answer.second)
 }
 
 /// What can be asked of this program.
@@ -200,6 +207,7 @@ fn usage() -> String {
         .map(|call| format!("bench [stack] {} {}", call.name, call.words))
         .collect();
     lines.push("bench questions BOOKFILE".to_string());
+    lines.push("bench asked BOOKFILE".to_string());
     lines.push("bench together BOOKFILE".to_string());
     lines.push("bench screen BOOKFILE TYPED".to_string());
     lines.push("bench growth".to_string());

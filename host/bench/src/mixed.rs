@@ -5,7 +5,7 @@
 //! one byte, and a fifth are strangers. Each is asked in all five kinds.
 
 use crate::asking::{call_of, shown_question};
-use crate::{checking, read_file, shown};
+use crate::{checking, read_file, shown, told};
 use format::Kind;
 use model::questions::{exact, nearest_from, place, range, width};
 use model::tree::tree;
@@ -18,36 +18,63 @@ use vectors::random::Random;
 const EACH: usize = 20;
 
 /// Checks the book, then asks every question in every kind: a line for each
-/// call, in the order in which they are made.
+/// call, in the order in which they are made. Every answer has to be the second
+/// program's.
 pub fn run(words: &[String]) -> Result<String, String> {
+    let (file, book) = read_book(words)?;
+    let (kind, _, names) = open(&book).ok_or_else(|| format!("{file} is no book"))?;
+    // The second program's calls open the book each time, which takes long; so its
+    // questions are asked of the names, and the tree for nearest is made once.
+    let rule = kind.rule();
+    let root = tree(rule, &names).ok_or_else(|| format!("{file} has no names"))?;
+    let expected = |kind: Kind, question: &[u8]| {
+        let (first, second) = match kind {
+            Kind::Exact => exact(rule, &names, question),
+            Kind::Place => place(rule, &names, question),
+            Kind::Range => range(rule, &names, question),
+            Kind::Nearest => nearest_from(rule, &root, &names, question),
+            Kind::Width => width(rule, &names, question),
+        };
+        Answer {
+            code: 0,
+            first,
+            second,
+        }
+    };
+    ask_all(&book, &names, |kind, question, answer| match kind {
+        None => shown(answer, book_check(&book)),
+        Some(kind) => shown(answer, expected(kind, question)),
+    })
+}
+
+/// The same calls and lines, whatever the answers are: under a profiler the second
+/// program would take most of the time.
+pub fn asked(words: &[String]) -> Result<String, String> {
+    let (file, book) = read_book(words)?;
+    let (_, _, names) = open(&book).ok_or_else(|| format!("{file} is no book"))?;
+    ask_all(&book, &names, |_, _, answer| Ok(told(answer)))
+}
+
+/// The name of the book's file, and its bytes.
+fn read_book(words: &[String]) -> Result<(&str, Vec<u8>), String> {
     let [file] = words else {
         return Err("questions needs the name of a book file".to_string());
     };
-    let book = read_file(file)?;
-    let (kind, _, names) = open(&book).ok_or_else(|| format!("{file} is no book"))?;
-    // The second program's calls open the book each time, which takes long
-    // under a profiler; so its questions are asked of the names, and the tree
-    // for nearest is made once.
-    let rule = kind.rule();
-    let root = tree(rule, &names).ok_or_else(|| format!("{file} has no names"))?;
+    Ok((file, read_file(file)?))
+}
 
-    let checked = shown(checking::measured_check(&book), book_check(&book))?;
+/// Checks, then asks: a line for each call, with what `tell` makes of the answer
+/// to the check, which has no kind, or to a question.
+fn ask_all(
+    book: &[u8],
+    names: &Names,
+    tell: impl Fn(Option<Kind>, &[u8], proved::Answer) -> Result<String, String>,
+) -> Result<String, String> {
+    let checked = tell(None, &[], checking::measured_check(book))?;
     let mut lines = vec![format!("check {checked}")];
-    for question in questions(&names) {
-        let pairs = [
-            exact(rule, &names, &question),
-            place(rule, &names, &question),
-            range(rule, &names, &question),
-            nearest_from(rule, &root, &names, &question),
-            width(rule, &names, &question),
-        ];
-        for (kind, (first, second)) in Kind::ALL.into_iter().zip(pairs) {
-            let expected = Answer {
-                code: 0,
-                first,
-                second,
-            };
-            let answer = shown(call_of(kind)(&book, &question), expected)?;
+    for question in questions(names) {
+        for kind in Kind::ALL {
+            let answer = tell(Some(kind), &question, call_of(kind)(book, &question))?;
             let (kind, question) = (kind.name(), shown_question(&question));
             lines.push(format!("{kind} {answer}: {question}"));
         }
