@@ -12,9 +12,10 @@
 # PAGE has each part between a line <!-- figures NAME --> and a line <!-- end of figures -->. What is between is replaced. Where a part is
 # missing on either side, PAGE stays as it is.
 #
-# It takes some two minutes, and two more for each LIST of a full book. Instructions do not depend on the machine's load, and the proved library's are the same on every run;
-# times do, so nothing else should run then. All figures are of code for x86-64, and of the archive that MISTROGU_ARCHIVE names, or archive.sh's. Other
-# archives are made from the same code (small.sh) and from the reference (reference.sh). What is measured by which command stands on the page.
+# It takes some three minutes, and one more for each LIST of a full book. Instructions do not depend on the machine's load, and those of the
+# proved library are the same on every run. Times do depend on it, so nothing else should run in the first minute, in which they are taken.
+# All figures are of code for x86-64, and of the archive that MISTROGU_ARCHIVE names, or archive.sh's; reference.sh and small.sh make two
+# more to measure beside it. Which command takes a single figure stands on the page.
 set -eu
 usage() {
     sed -n '2,/^set /{/^set /d;s/^# \{0,1\}//p;}' "$0"
