@@ -66,17 +66,7 @@ fn run(items: &mut [Item], race: &[Runner], random: &mut Random) -> Vec<(usize, 
     let turns = paces.iter().map(Pace::turns).fold(0, usize::max);
     let mut series = vec![Vec::new(); race.len()];
     for turn in 0..turns {
-        let mut least = vec![f64::INFINITY; race.len()];
-        for place in 0..PLACES.len() {
-            for (number, runner) in race.iter().enumerate() {
-                if let Some((inputs, repeats)) = paces[number].sample(turn, place) {
-                    forget(random);
-                    let calls = (inputs.len() * repeats) as f64;
-                    let time = PLACES[place](&mut items[runner.call], inputs, repeats);
-                    least[number] = least[number].min(time.as_nanos() as f64 / calls);
-                }
-            }
-        }
+        let least = take_turn(items, race, &paces, turn, random);
         for (times, least) in series.iter_mut().zip(least) {
             times.extend(least.is_finite().then_some(least));
         }
@@ -90,6 +80,29 @@ fn run(items: &mut [Item], race: &[Runner], random: &mut Random) -> Vec<(usize, 
         Some((runner.call, runner.noted?, time))
     });
     noted.collect()
+}
+
+/// Samples each call of a race at each place, one after the other: the least
+/// nanoseconds of each, infinite where it has no such turn.
+fn take_turn(
+    items: &mut [Item],
+    race: &[Runner],
+    paces: &[Pace],
+    turn: usize,
+    random: &mut Random,
+) -> Vec<f64> {
+    let mut least = vec![f64::INFINITY; race.len()];
+    for (place, sample) in PLACES.iter().enumerate() {
+        for (number, runner) in race.iter().enumerate() {
+            if let Some((inputs, repeats)) = paces[number].inputs(turn, place) {
+                forget(random);
+                let calls = (inputs.len() * repeats) as f64;
+                let time = sample(&mut items[runner.call], inputs, repeats);
+                least[number] = least[number].min(time.as_nanos() as f64 / calls);
+            }
+        }
+    }
+    least
 }
 
 /// How much more each of these times is than the other of the same turn.
@@ -134,7 +147,7 @@ impl Pace {
     }
 
     /// The inputs and repeats of this turn at this place, if it has one.
-    fn sample(&self, turn: usize, place: usize) -> Option<(Range<usize>, usize)> {
+    fn inputs(&self, turn: usize, place: usize) -> Option<(Range<usize>, usize)> {
         let (inputs, repeats, places) = match *self {
             Pace::Together { inputs, repeats } => (0..inputs, repeats, PLACES.len()),
             Pace::Alone => (0..1, 1, PLACES.len()),
