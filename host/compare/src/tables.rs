@@ -82,7 +82,7 @@ marisa's as far as they go.
 - **The second program** is the plain model that tests are made from. It opens the book anew for each call, too, and is not meant to be
   fast. It was asked one question of each shape.
 - **The sorted array** is the list with an offset for each name, searched by halving. It needs no check because it trusts whoever made
-  it: an array that is out of order gives wrong answers, and a wrong offset stops the program.
+  it: an array that is out of order gives wrong answers, and a wrong offset stops the program. For a width it looks at each name of the range.
 - **marisa** and **fst**, where they are here, trust their bytes as well, and need a heap. marisa numbers names in its own way: its exact
   question tells whether there is such a name, its range only how many there are, found one by one. fst maps names to positions.
   Neither has something like nearest or width.
@@ -222,12 +222,12 @@ fn times(about: &About, subjects: &[Subject], figures: &Figures) -> String {
     )
 }
 
-/// What times can't tell.
+/// What times can tell, and what they can't.
 const CAUTION: &str = "\
-What can be concluded: which of two is faster where the ratio is far from 1. What can't: anything from a ratio between some 0.6 and 1.6. On some machines \
-the same code takes up to half as much time again where it comes to lie at another place in a page of memory. The stack is tried at four places, but the \
-code lies where the linker put it, so the brackets say how a ratio moves within this run, and not how it would in another program. Ratios of other days and \
-machines can't be compared with these. Instructions can.
+What can be concluded: which of two is faster, where they differ by a tenth at least, and by more than the brackets do. What can't: anything from less, or \
+about another processor; ratios of other days and machines can't be compared with these. Where the processor knows a call's branches, or the stack begins at \
+a bad place in a page of memory, a time moves by up to half on some machines: both are kept out here, as far as that can be, but the code lies where the \
+linker put it. Instructions depend on none of this.
 ";
 
 /// Stacks.

@@ -11,7 +11,10 @@
 //! as the processor's memory of branches happens to hold what the others leave in
 //! it. So that memory is filled with noise before each sample, as it is for a guest
 //! that did something else before. And where in a page of memory the stack begins
-//! matters: so every sample is taken at several places, and the least counts.
+//! matters: so every sample is taken at several places, and the least counts. Where
+//! the code lies then matters little: with the archive's functions aligned to 64 and
+//! to 1,024 bytes instead, whole calls kept their ratio to the reference within two
+//! in a hundred, and questions after the check within a tenth.
 
 use crate::items::Item;
 use compare::steps::{median, Step};
