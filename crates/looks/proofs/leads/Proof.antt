@@ -20,5 +20,8 @@ leads-spec =
     (λ c. search needs)
     (λ c. search needs)
     (λ c κs. search needs)
-    (λ c. search lead-in)
+    (λ c.
+    let rule = c .before .before .rule in
+    let a = c .before .before .before .before .before .before .before .before .before .args in
+    lead-in (a .book .now) (a .a) (a .d) (a .s) _ _ (c .before .before .before .before .before .before .before .before .before .pre) (c .before .before .before .before .before .before .wide .ensures .0) (c .before .before .before .before .wide2 .ensures .0) (c .before .before .before .if1 .taken) (rule .result) (rule .ensures) (c .has-symbol .result) (c .has-symbol .ensures))
     (λ c. search lead-past))

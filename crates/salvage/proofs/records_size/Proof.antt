@@ -32,5 +32,7 @@ records-size-spec =
     (λ c. omega (arith, measuring-fits (c .before .before .before .before .before .loop .inv) (c .before .before .before .before .loop-test .taken), c .before .before .wide .ensures .0))
     (λ c. search needs)
     (λ c. search needs)
-    (λ c. search measuring-more)
+    (λ c.
+    let turn = c .before .before .before .before in
+    measuring-more (turn .before .loop .inv) (turn .loop-test .taken) _ _ (c .wide2 .ensures .0) (c .before .before .wide .ensures .0))
     (λ c. search measuring-done))
