@@ -4,6 +4,7 @@ pub mod AllRefusals
 pub mod Beside
 pub mod Places
 pub mod Nearest
+pub mod Counts
 pub mod Widths
 pub mod Lit
 pub mod Neighbours

@@ -20,6 +20,7 @@ use Rattle.words.proofs.Rising.{rises-left, rises-right}
 use Rattle.words.proofs.Words.{blind, leaves, shared-le}
 use Rattle.format.specs.Nodes.{depth, groups}
 use Rattle.format.proofs.Groups.{PartedGroups, Short, children, depth-share, joinedGroups, part, shorter, whole}
+use Rattle.answers.specs.Stops.{Stop, stopAt}
 use Rattle.answers.specs.Questions.{childOf, nearest, reachWithin, reached}
 
 -- the word at j, counted from the first of ws, shares with q as much as any word of ws does
@@ -82,29 +83,33 @@ node-best q w v vs i r o = go (ltb (length q) d) refl o
     go false h (missed f a) = (0, omega arith, best 0 w here (all-map (λ y n k. absurd (n k)) a))
     go false h (hit j z f m a) = (j, f, best j z m a)
 
-abbrev Reaches : ℕ → List ℕ → Type 0
-Reaches f q = (i : ℕ) (w : List ℕ) (g : Words) → Rises (w ∷ g) → length (w ∷ g) ≤ f → (j : ℕ) × (reachWithin f q i (w ∷ g) ≡ i + j) × Best q (w ∷ g) j
+picked : (t : Bool) (a b : Stop) → pick t a b .position ≡ pick t (a .position) (b .position)
+picked true a b = refl
+picked false a b = refl
 
-child-out : (f : ℕ) (q : List ℕ) → Reaches f q → (d s stay i : ℕ) (gs : List Words) → PartedGroups d gs → Rises (joinedGroups gs) → Short f gs
-    → Out q d s i stay (childOf (λ j g. reachWithin f q j g) d s stay i gs) (joinedGroups gs)
+abbrev Reaches : ℕ → List ℕ → Type 0
+Reaches f q = (i : ℕ) (w : List ℕ) (g : Words) → Rises (w ∷ g) → length (w ∷ g) ≤ f → (j : ℕ) × (reachWithin f q i (w ∷ g) .position ≡ i + j) × Best q (w ∷ g) j
+
+child-out : (f : ℕ) (q : List ℕ) → Reaches f q → (d s : ℕ) (stay : Stop) (i : ℕ) (gs : List Words) → PartedGroups d gs → Rises (joinedGroups gs) → Short f gs
+    → Out q d s i (stay .position) (childOf (λ j g. reachWithin f q j g) d s stay i gs .position) (joinedGroups gs)
 unfolding childOf
 child-out f q ih d s stay i gs whole r a = missed refl nil
 child-out f q ih d s stay i gs (part {w = w} {g = h} {gs = hs} same u p) r (cons l a) =
     go (eqb s (at w d)) refl (child-out f q ih d s stay (i + length (w ∷ h)) hs p (rises-right (w ∷ h) (joinedGroups hs) r) a)
   where
-    more : ℕ
+    more : Stop
     more = childOf (λ j k. reachWithin f q j k) d s stay (i + length (w ∷ h)) hs
 
-    go : (t : Bool) → eqb s (at w d) ≡ t → Out q d s (i + length (w ∷ h)) stay more (joinedGroups hs)
-        → Out q d s i stay (pick t (reachWithin f q i (w ∷ h)) more) (w ∷ h ++ joinedGroups hs)
+    go : (t : Bool) → eqb s (at w d) ≡ t → Out q d s (i + length (w ∷ h)) (stay .position) (more .position) (joinedGroups hs)
+        → Out q d s i (stay .position) (pick t (reachWithin f q i (w ∷ h)) more .position) (w ∷ h ++ joinedGroups hs)
     go true e o =
         let k : s ≡ at w d = eqb-true s (at w d) e in
         let b = ih i w h (rises-left (w ∷ h) (joinedGroups hs) r) l in
-        subst (λ (n : ℕ). Out q d s i stay n (w ∷ h ++ joinedGroups hs)) (sym (b .1))
-        (stop q d s i stay (b .0) (w ∷ h) (joinedGroups hs) (cons (sym k) (all-map (λ y m. m ∙ sym k) same)) (all-map (λ y m. omega arith) u) (b .2))
+        subst (λ (n : ℕ). Out q d s i (stay .position) n (w ∷ h ++ joinedGroups hs)) (sym (b .1))
+        (stop q d s i (stay .position) (b .0) (w ∷ h) (joinedGroups hs) (cons (sym k) (all-map (λ y m. m ∙ sym k) same)) (all-map (λ y m. omega arith) u) (b .2))
     go false e o =
         let n : at w d ≡ s → ⊥ = λ m. eqb-false s (at w d) e (sym m) in
-        pass q d s i stay more (w ∷ h) (joinedGroups hs) (cons n (all-map (λ y m k. n (sym m ∙ k)) same)) o
+        pass q d s i (stay .position) (more .position) (w ∷ h) (joinedGroups hs) (cons n (all-map (λ y m k. n (sym m ∙ k)) same)) o
 
 reaches : (f : ℕ) (q : List ℕ) → Reaches f q
 unfolding reachWithin
@@ -114,10 +119,11 @@ reaches (suc f) q i w [] r l =
 reaches (suc f) q i w (v ∷ vs) r l =
     let d : ℕ = depth w (v ∷ vs) in
     let c = children w v vs r in
-    let down : ℕ = childOf (λ j g. reachWithin f q j g) d (at q d) i i (groups d (w ∷ v ∷ vs)) in
-    node-best q w v vs i down
-    (subst (λ (ws : Words). Out q d (at q d) i i down ws) (c .all)
-    (child-out f q (reaches f q) d (at q d) i i (groups d (w ∷ v ∷ vs)) (c .parted) (c .rises) (shorter _ (le-of-suc-le-suc l) (c .small))))
+    let down : Stop = childOf (λ j g. reachWithin f q j g) d (at q d) (stopAt i) i (groups d (w ∷ v ∷ vs)) in
+    let n = node-best q w v vs i (down .position)
+    (subst (λ (ws : Words). Out q d (at q d) i i (down .position) ws) (c .all)
+    (child-out f q (reaches f q) d (at q d) (stopAt i) i (groups d (w ∷ v ∷ vs)) (c .parted) (c .rises) (shorter _ (le-of-suc-le-suc l) (c .small)))) in
+    (n .0, picked (ltb (length q) d) (stopAt i) down ∙ n .1, n .2)
 
 pub reached-best : (q w : List ℕ) (ws : Words) → Rises (w ∷ ws) → Best q (w ∷ ws) (reached q (w ∷ ws))
 unfolding reached

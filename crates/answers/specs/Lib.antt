@@ -1,7 +1,9 @@
+pub mod Stops
 pub mod Widths
 pub mod Lit
 pub mod Neighbours
 pub mod Questions
+pub mod Counts
 pub mod Calls
 pub mod Heads
 pub mod Merging

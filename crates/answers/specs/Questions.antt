@@ -9,6 +9,7 @@ use lib.Dec.{ltb, eqb}
 use lib.ListN.{getD, length}
 use Rattle.words.specs.Words.{Bytes, Words, Rule, pick, word, at, shared, less, begins, same}
 use Rattle.format.specs.Nodes.{first, depth, groups}
+use Rattle.answers.specs.Stops.{Stop, stopAt, visited}
 use Rattle.answers.specs.Lit.{lit}
 use Rattle.answers.specs.Widths.{width}
 
@@ -35,25 +36,25 @@ unfoldable pub range : List ℕ → Words → Pair
 range q ws = (place q ws, count (begins q) ws)
 
 -- along a row of groups, the first word number i, down into the one with symbol s at d; `stay` where none fits
-unfoldable pub childOf : (ℕ → Words → ℕ) → ℕ → ℕ → ℕ → ℕ → List Words → ℕ
+unfoldable pub childOf : (ℕ → Words → Stop) → ℕ → ℕ → Stop → ℕ → List Words → Stop
 childOf down d s stay i [] = stay
 childOf down d s stay i (g ∷ gs) =
     let here = down i g in
     let more = childOf down d s stay (i + length g) gs in
     pick (eqb s (at (first g) d)) here more
 
--- From a group whose first word is number i: stop at a leaf, where the depth exceeds q's length, or where no child fits.
-unfoldable pub reachWithin : ℕ → List ℕ → ℕ → Words → ℕ
-reachWithin zero q i ws = i
-reachWithin (suc n) q i [] = i
-reachWithin (suc n) q i (w ∷ []) = i
+-- From a group whose first word is number i: stop at a leaf, where the depth exceeds q's length, or where no child fits. Its node is visited.
+unfoldable pub reachWithin : ℕ → List ℕ → ℕ → Words → Stop
+reachWithin zero q i ws = stopAt i
+reachWithin (suc n) q i [] = stopAt i
+reachWithin (suc n) q i (w ∷ []) = visited (stopAt i)
 reachWithin (suc n) q i (w ∷ v ∷ vs) =
     let d = depth w (v ∷ vs) in
-    let down = childOf (λ j g. reachWithin n q j g) d (at q d) i i (groups d (w ∷ v ∷ vs)) in
-    pick (ltb (length q) d) i down
+    let down = childOf (λ j g. reachWithin n q j g) d (at q d) (stopAt i) i (groups d (w ∷ v ∷ vs)) in
+    visited (pick (ltb (length q) d) (stopAt i) down)
 
 unfoldable pub reached : List ℕ → Words → ℕ
-reached q ws = reachWithin (length ws) q 0 ws
+reached q ws = reachWithin (length ws) q 0 ws .position
 
 unfoldable pub nearest : List ℕ → Words → Pair
 nearest q ws = (reached q ws, shared q (getD ws (reached q ws) []))

@@ -19,12 +19,14 @@ use Rattle.words.proofs.Rising.{nth-less, nth-positive}
 use Rattle.words.proofs.Words.{apart, further, leaves, shared-at, shared-comm, shared-le, shared-trans}
 use Rattle.format.specs.Spans.{deep}
 use Rattle.format.proofs.Spans.{first-proper, span-share}
+use Rattle.answers.specs.Stops.{Stop, visited}
 use Rattle.answers.specs.Questions.{place, reached}
+use Rattle.answers.specs.Counts.{visits}
 use Rattle.answers.proofs.Nearest.{reached-most}
 use Rattle.descent.proofs.Cuts.{group-place}
 use Rattle.descent.proofs.Reach.{reach-child, reach-leaf, reach-none, reach-root, reach-short}
 use Rattle.descent.proofs.Rows.{Kid, root-sits, row-end, row-kid, several, sits-told}
-use Rattle.descent.specs.Vocabulary.{Cut, Descended, Found, Halts, Highest, In, Passed, Sits, Sought, ChildStep, Taken, from, node, reachIn, upto}
+use Rattle.descent.specs.Vocabulary.{Cut, Descended, Found, Halts, Highest, In, Passed, Sits, Sought, ChildStep, Taken, from, node, onward, reachIn, reachNode, upto}
 
 module _ (ws : Words) where
   in-or-out : (v i : ℕ) → In ws v i ⊎ ((i < from ws v) ⊎ (upto ws v ≤ i))
@@ -175,7 +177,7 @@ module _ (ws : Words) where
                     deeper = deeper;
                     parts = λ i m n f. out i m f n (in-or-out c i);
                   };
-                  on = subst (λ (t : ℕ). reachIn q ws (from ws v) (upto ws v) ≡ reachIn q ws t (upto ws c)) (sym (kid .low)) on;
+                  on = subst (λ (t : ℕ). reachIn q ws (from ws v) (upto ws v) ≡ visited (reachIn q ws t (upto ws c))) (sym (kid .low)) on;
                 }
                   where
                     out : (i : ℕ) → In ws v i → at (nth ws i) d ≡ at q d → (In ws c i → ⊥) → In ws c i ⊎ ((i < from ws c) ⊎ (upto ws c ≤ i)) → ⊥
@@ -192,7 +194,7 @@ module _ (ws : Words) where
                         (subst (λ (e : ℕ). at (nth ws (pred (upto ws v))) e ≡ at (nth ws (from ws v)) e) deep-is
                         (kid .run (pred (upto ws v)) (omega (arith, z .some)) (omega (arith, z .some)) ∙ ap (λ (j : ℕ). at (nth ws j) d) a)))
 
-                    on : reachIn q ws (from ws v) (upto ws v) ≡ reachIn q ws (k .mid) (upto ws c)
+                    on : reachIn q ws (from ws v) (upto ws v) ≡ visited (reachIn q ws (k .mid) (upto ws c))
                     on = reach-child q ws (from ws v) (upto ws v) d r wide (z .within) deep-is (k .mid) (upto ws c) (k .cut .low) (omega (arith, kid .low, kid .sits .some))
                         (kid .high) h (λ i x y f. lt-irrefl (at q d) (omega (arith, k .cut .below i x y))) (λ i x y. kid .run i x y ∙ hits)
                         (λ i x y. omega (arith, hits, kid .beyond i x y)) (proper (apart (upto ws c - k .mid) (upto ws v - from ws v)))
@@ -211,7 +213,7 @@ module _ (ws : Words) where
           sits = λ j k. subst (Sits ws) (sym (at-root j k)) (s .sits);
           around = λ j k. subst (λ (u : ℕ). (from ws u ≤ from ws 0) × (upto ws 0 ≤ upto ws u)) (sym (at-root j k)) (omega arith, omega arith);
           step = λ j k. absurd (lt-irrefl j (omega arith));
-          left = reach-root q ws ∙ rw (s .high, s .low);
+          left = reach-root q ws ∙ rw (s .high, s .low) (ap (λ (m : ℕ). record { position = reachIn q ws 0 (length ws) .position; visits = m }) (omega arith));
           kept = λ i k f. record { low = omega (arith, s .low); high = omega (arith, s .high) };
         }
       where
@@ -252,7 +254,7 @@ module _ (ws : Words) where
           around = λ j h. go j (λ u. (from ws u ≤ from ws c) × (upto ws c ≤ upto ws u))
               (λ m. (omega (arith, t .around j m .0, k .step .low), omega (arith, t .around j m .1, k .step .high))) (omega arith, omega arith) (apart j n) h;
           step = λ j h. steps j h (apart (suc j) n);
-          left = t .left ∙ k .on;
+          left = t .left ∙ ap (onward (pred n)) (k .on) ∙ ap (λ (m : ℕ). record { position = reachIn q ws (from ws c) (upto ws c) .position; visits = m }) (omega (arith, t .some));
           kept = λ i h e. keep i h e (t .kept i h e) (in-or-out c i);
         }
           where
@@ -284,7 +286,13 @@ module _ (ws : Words) where
     module _ {q p : List ℕ} {n v : ℕ} (t : Descended ws q p n v) where
       -- the reached name is the first of the last node
       pub reached-is : reached q ws ≡ from ws v
-      reached-is = t .path .left ∙ t .halts .here
+      unfolding reached reachNode
+      reached-is = ap (λ (s : Stop). s .position) (t .path .left ∙ ap (onward (pred n)) (t .halts .here))
+
+      -- every node of the path was visited, and no other
+      pub visits-are : visits q ws ≡ n
+      unfolding visits reachNode
+      visits-are = ap (λ (s : Stop). s .visits) (t .path .left ∙ ap (onward (pred n)) (t .halts .here)) ∙ omega (arith, t .path .some)
 
       -- a name that is q is the reached one
       pub only-reached : (i : ℕ) → i < length ws → nth ws i ≡ q → i ≡ reached q ws

@@ -1,4 +1,5 @@
--- The descent over spans of names: `reachIn q ws lo hi` is where q ends that has come down to the names from lo up to hi.
+-- The descent over spans of names: `reachIn q ws lo hi` is where q ends that has come down to the names from lo up to hi, and how many nodes
+-- it visits from there on.
 --     reach-root      the whole list
 --     reach-leaf      one name
 --     reach-short     q ends above the span's depth
@@ -22,7 +23,8 @@ use Rattle.format.specs.Spans.{deep}
 use Rattle.format.specs.Nodes.{depth, first, glue, groups}
 use Rattle.format.proofs.Groups.{Same, Short, children, groups-run, joinedGroups, shorter}
 use Rattle.format.proofs.Spans.{deep-is}
-use Rattle.answers.specs.Questions.{childOf, reachWithin, reached}
+use Rattle.answers.specs.Stops.{Stop, stopAt, visited}
+use Rattle.answers.specs.Questions.{childOf, reachWithin}
 use Rattle.descent.specs.Vocabulary.{reachIn, reachNode}
 
 -- ---- any count that is large enough will do
@@ -30,12 +32,12 @@ use Rattle.descent.specs.Vocabulary.{reachIn, reachNode}
 abbrev SameReach : List ℕ → ℕ → ℕ → Type 0
 SameReach q f e = (i : ℕ) (g : Words) → Rises g → length g ≤ f → length g ≤ e → reachWithin f q i g ≡ reachWithin e q i g
 
-child-same : (q : List ℕ) (f e : ℕ) → SameReach q f e → (d s stay i : ℕ) (gs : List Words) → Rises (joinedGroups gs) → Short f gs → Short e gs
+child-same : (q : List ℕ) (f e : ℕ) → SameReach q f e → (d s : ℕ) (stay : Stop) (i : ℕ) (gs : List Words) → Rises (joinedGroups gs) → Short f gs → Short e gs
     → childOf (λ j g. reachWithin f q j g) d s stay i gs ≡ childOf (λ j g. reachWithin e q j g) d s stay i gs
 unfolding childOf
 child-same q f e ih d s stay i [] r a b = refl
 child-same q f e ih d s stay i (h ∷ gs) r (cons l a) (cons m b) =
-    ap₂ (λ (x y : ℕ). pick (eqb s (at (first h) d)) x y) (ih i h (rises-left h (joinedGroups gs) r) l m)
+    ap₂ (λ (x y : Stop). pick (eqb s (at (first h) d)) x y) (ih i h (rises-left h (joinedGroups gs) r) l m)
     (child-same q f e ih d s stay (i + length h) gs (rises-right h (joinedGroups gs) r) a b)
 
 reach-same : (q : List ℕ) (f e : ℕ) → SameReach q f e
@@ -50,14 +52,14 @@ reach-same q (suc f) (suc e) i (w ∷ []) r a b = refl
 reach-same q (suc f) (suc e) i (w ∷ v ∷ vs) r a b =
     let d : ℕ = depth w (v ∷ vs) in
     let c = children w v vs r in
-    ap (λ (x : ℕ). pick (ltb (length q) d) i x)
-    (child-same q f e (reach-same q f e) d (at q d) i i (groups d (w ∷ v ∷ vs)) (c .rises)
+    ap (λ (x : Stop). visited (pick (ltb (length q) d) (stopAt i) x))
+    (child-same q f e (reach-same q f e) d (at q d) (stopAt i) i (groups d (w ∷ v ∷ vs)) (c .rises)
     (shorter _ (le-of-suc-le-suc a) (c .small)) (shorter _ (le-of-suc-le-suc b) (c .small)))
 
 -- ---- along the children
 
 -- words without the symbol s at d are passed
-child-skip : (down : ℕ → Words → ℕ) (d s stay i : ℕ) (xs ys : Words) → All (λ y. at y d ≡ s → ⊥) xs
+child-skip : (down : ℕ → Words → Stop) (d s : ℕ) (stay : Stop) (i : ℕ) (xs ys : Words) → All (λ y. at y d ≡ s → ⊥) xs
     → childOf down d s stay i (groups d (xs ++ ys)) ≡ childOf down d s stay (i + length xs) (groups d ys)
 unfolding groups glue childOf
 child-skip down d s stay i [] ys a = ap (λ (j : ℕ). childOf down d s stay j (groups d ys)) (omega arith)
@@ -81,7 +83,7 @@ child-skip down d s stay i (x ∷ xs) ys (cons n a) =
     one (g ∷ gs) = put (eqb (at x d) (at (first g) d)) g gs refl
 
 -- the words with it are gone down into
-child-hit : (down : ℕ → Words → ℕ) (d s stay i : ℕ) (w : List ℕ) (g rest : Words) → at w d ≡ s → Same d w g → All (λ y. at w d < at y d) rest
+child-hit : (down : ℕ → Words → Stop) (d s : ℕ) (stay : Stop) (i : ℕ) (w : List ℕ) (g rest : Words) → at w d ≡ s → Same d w g → All (λ y. at w d < at y d) rest
     → childOf down d s stay i (groups d (w ∷ g ++ rest)) ≡ down i (w ∷ g)
 unfolding childOf
 child-hit down d s stay i w g rest e m u =
@@ -90,11 +92,11 @@ child-hit down d s stay i w g rest e m u =
 -- ---- spans
 
 module _ (q : List ℕ) (ws : Words) where
-  pub reach-root : reached q ws ≡ reachIn q ws 0 (length ws)
-  unfolding reached reachIn reachNode
+  pub reach-root : reachNode q 0 ws ≡ reachIn q ws 0 (length ws)
+  unfolding reachIn reachNode
   reach-root = ap (reachNode q 0) (sym (take-length ws))
 
-  pub reach-leaf : (lo : ℕ) → lo < length ws → reachIn q ws lo (suc lo) ≡ lo
+  pub reach-leaf : (lo : ℕ) → lo < length ws → reachIn q ws lo (suc lo) ≡ visited (stopAt lo)
   unfolding reachIn reachNode reachWithin
   reach-leaf lo h = ap (reachNode q lo) (span-one ws lo h)
 
@@ -103,30 +105,30 @@ module _ (q : List ℕ) (ws : Words) where
     fuel = length (nth ws (suc lo) ∷ span ws (suc (suc lo)) hi)
 
     -- one step
-    step : reachIn q ws lo hi ≡ pick (ltb (length q) d) lo (childOf (λ j g. reachWithin fuel q j g) d (at q d) lo lo (groups d (span ws lo hi)))
+    step : reachIn q ws lo hi ≡ visited (pick (ltb (length q) d) (stopAt lo) (childOf (λ j g. reachWithin fuel q j g) d (at q d) (stopAt lo) lo (groups d (span ws lo hi))))
     unfolding reachIn reachNode reachWithin
     step =
         let vs : Words = span ws (suc (suc lo)) hi in
         let t : span ws lo hi ≡ nth ws lo ∷ nth ws (suc lo) ∷ vs = span-two ws lo hi a b in
         ap (reachNode q lo) t
-        ∙ ap₂ (λ (e : ℕ) (g : Words). pick (ltb (length q) e) lo (childOf (λ j g. reachWithin fuel q j g) e (at q e) lo lo (groups e g))) (deep-is ws lo hi r a b ∙ sym is) (sym t)
+        ∙ ap₂ (λ (e : ℕ) (g : Words). visited (pick (ltb (length q) e) (stopAt lo) (childOf (λ j g. reachWithin fuel q j g) e (at q e) (stopAt lo) lo (groups e g)))) (deep-is ws lo hi r a b ∙ sym is) (sym t)
 
-    pub reach-short : length q < d → reachIn q ws lo hi ≡ lo
+    pub reach-short : length q < d → reachIn q ws lo hi ≡ visited (stopAt lo)
     reach-short h = step ∙ rw (lt-ltb (length q) d h)
 
-    pub reach-none : d ≤ length q → ((i : ℕ) → lo ≤ i → i < hi → at (nth ws i) d ≡ at q d → ⊥) → reachIn q ws lo hi ≡ lo
+    pub reach-none : d ≤ length q → ((i : ℕ) → lo ≤ i → i < hi → at (nth ws i) d ≡ at q d → ⊥) → reachIn q ws lo hi ≡ visited (stopAt lo)
     unfolding childOf groups
     reach-none h n =
         step ∙ rw (le-ltb (length q) d h)
-        (ap (λ (g : Words). childOf (λ j g. reachWithin fuel q j g) d (at q d) lo lo (groups d g)) (sym (append-nil (span ws lo hi)))
-        ∙ child-skip (λ j g. reachWithin fuel q j g) d (at q d) lo lo (span ws lo hi) [] (span-all ws lo hi (omega arith) b n))
+        (ap visited (ap (λ (g : Words). childOf (λ j g. reachWithin fuel q j g) d (at q d) (stopAt lo) lo (groups d g)) (sym (append-nil (span ws lo hi)))
+        ∙ child-skip (λ j g. reachWithin fuel q j g) d (at q d) (stopAt lo) lo (span ws lo hi) [] (span-all ws lo hi (omega arith) b n)))
 
     pub reach-child : (mid next : ℕ) → lo ≤ mid → mid < next → next ≤ hi → d ≤ length q
         → ((i : ℕ) → lo ≤ i → i < mid → at (nth ws i) d ≡ at q d → ⊥)
         → ((i : ℕ) → mid ≤ i → i < next → at (nth ws i) d ≡ at q d)
         → ((i : ℕ) → next ≤ i → i < hi → at q d < at (nth ws i) d)
         → (next - mid < hi - lo)
-        → reachIn q ws lo hi ≡ reachIn q ws mid next
+        → reachIn q ws lo hi ≡ visited (reachIn q ws mid next)
     unfolding reachIn reachNode
     reach-child mid next l m k h low here high few =
         let s : ℕ = at q d in
@@ -141,11 +143,11 @@ module _ (q : List ℕ) (ws : Words) where
         let size : length (w ∷ g) ≡ next - mid = ap length (sym t) ∙ span-length ws mid next (omega arith) in
         let big : suc fuel ≡ hi - lo = ap length (sym (span-two ws lo hi a b)) ∙ span-length ws lo hi b in
         step ∙ rw (le-ltb (length q) d h)
-        (ap (λ (x : Words). childOf (λ j g. reachWithin fuel q j g) d s lo lo (groups d x)) e
-        ∙ child-skip (λ j g. reachWithin fuel q j g) d s lo lo (span ws lo mid) (w ∷ g ++ span ws next hi) (span-all ws lo mid l (omega arith) low)
-        ∙ ap (λ (j : ℕ). childOf (λ j g. reachWithin fuel q j g) d s lo j (groups d (w ∷ g ++ span ws next hi))) f
-        ∙ child-hit (λ j g. reachWithin fuel q j g) d s lo mid w g (span ws next hi) z
+        (ap visited (ap (λ (x : Words). childOf (λ j g. reachWithin fuel q j g) d s (stopAt lo) lo (groups d x)) e
+        ∙ child-skip (λ j g. reachWithin fuel q j g) d s (stopAt lo) lo (span ws lo mid) (w ∷ g ++ span ws next hi) (span-all ws lo mid l (omega arith) low)
+        ∙ ap (λ (j : ℕ). childOf (λ j g. reachWithin fuel q j g) d s (stopAt lo) j (groups d (w ∷ g ++ span ws next hi))) f
+        ∙ child-hit (λ j g. reachWithin fuel q j g) d s (stopAt lo) mid w g (span ws next hi) z
         (span-all ws (suc mid) next m (omega arith) (λ i x y. here i (omega arith) y ∙ sym z))
         (span-all ws next hi k b (λ i x y. subst (λ (n : ℕ). n < at (nth ws i) d) (sym z) (high i x y)))
         ∙ reach-same q fuel (length (w ∷ g)) mid (w ∷ g) (subst Rises t (span-rises ws mid next r)) (omega arith) (omega arith)
-        ∙ ap (reachNode q mid) (sym t))
+        ∙ ap (reachNode q mid) (sym t)))

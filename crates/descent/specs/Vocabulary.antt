@@ -1,7 +1,7 @@
 -- The words of a blind search over the flat node table. A node is a number; its record alone says its span of names.
 --     node, from, upto     record number v of the table; its names stand from `from` up to, not including, `upto`
 --     In, Sits             a name of node v; v is the number of a node
---     reachIn              where q ends that has come down to the names from lo up to hi
+--     reachIn, onward      where q ends that has come down to the names from lo up to hi, and the nodes it visits from there on; with n nodes before them
 --     RowFrom, Seeking, Sought    a place in a node's row of children; the first child whose symbol is not below s
 --     Cut                  names parted at r by their symbols at d
 --     ChildStep, Taken, Halts   from a node to the child with q's symbol; q goes no further
@@ -24,6 +24,7 @@ use Rattle.format.specs.Spans.{rowTable, wordsOf, Ranked, nodeTable}
 use Rattle.format.specs.Nodes.{Node, table}
 use Rattle.format.specs.Records.{longest, mostNames}
 use Rattle.standing.specs.Maps.{Map, Paced, Roomy, nodeIn, recordAt}
+use Rattle.answers.specs.Stops.{Stop, stopAt, visited}
 use Rattle.answers.specs.Questions.{reachWithin, reached}
 
 -- past the table's end
@@ -53,11 +54,14 @@ pub record Sits (ws : Words) (v : ℕ) : Type 0 where
   pub behind : List Node
   pub stands : drop v (table ws) ≡ nodeTable (from ws v) (node ws v .symbol) (span ws (from ws v) (upto ws v)) ++ behind
 
-unfoldable pub reachNode : List ℕ → ℕ → Words → ℕ
+unfoldable pub reachNode : List ℕ → ℕ → Words → Stop
 reachNode q i ws = reachWithin (length ws) q i ws
 
-unfoldable pub reachIn : List ℕ → Words → ℕ → ℕ → ℕ
+unfoldable pub reachIn : List ℕ → Words → ℕ → ℕ → Stop
 reachIn q ws lo hi = reachNode q lo (span ws lo hi)
+
+abbrev pub onward : ℕ → Stop → Stop
+onward n t = record { position = t .position; visits = n + t .visits }
 
 -- ---- rows
 
@@ -104,11 +108,11 @@ pub record ChildStep (ws : Words) (q : List ℕ) (u v : ℕ) : Type 0 where
 pub record Taken (ws : Words) (q : List ℕ) (v c : ℕ) : Type 0 where
   pub sits : Sits ws c
   pub step : ChildStep ws q v c
-  pub on : reachIn q ws (from ws v) (upto ws v) ≡ reachIn q ws (from ws c) (upto ws c)
+  pub on : reachIn q ws (from ws v) (upto ws v) ≡ visited (reachIn q ws (from ws c) (upto ws c))
 
 -- q goes no further than v: its first name is the one reached, and if a name is q itself, it is that one
 pub record Halts (ws : Words) (q : List ℕ) (v : ℕ) : Type 0 where
-  pub here : reachIn q ws (from ws v) (upto ws v) ≡ from ws v
+  pub here : reachIn q ws (from ws v) (upto ws v) ≡ visited (stopAt (from ws v))
   pub shallow : shared q (nth ws (from ws v)) ≤ node ws v .depth
   pub alone : (i : ℕ) → In ws v i → nth ws i ≡ q → i ≡ from ws v
 
@@ -122,7 +126,7 @@ pub record Passed (ws : Words) (q : List ℕ) (p : List ℕ) (n v : ℕ) : Type 
   pub sits : (j : ℕ) → j < n → Sits ws (getD p j 0)
   pub around : (j : ℕ) → j < n → (from ws (getD p j 0) ≤ from ws v) × (upto ws v ≤ upto ws (getD p j 0))
   pub step : (j : ℕ) → suc j < n → ChildStep ws q (getD p j 0) (getD p (suc j) 0)
-  pub left : reached q ws ≡ reachIn q ws (from ws v) (upto ws v)
+  pub left : reachNode q 0 ws ≡ onward (pred n) (reachIn q ws (from ws v) (upto ws v))
   pub kept : (i : ℕ) → i < length ws → nth ws i ≡ q → In ws v i
 
 -- the whole descent, which ends at v
