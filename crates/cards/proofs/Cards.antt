@@ -6,7 +6,7 @@
 --     mapped-long, mapped-few, mapped-low, mapped-high, mapped-table     what it shows
 --     bound-inner, bound-last   a bound, where the code reads it
 --     StartsClimb: climbing-start, climbing-more, climbing-falls, climbing-done     the loop over the starts
---     names-are, span-is        how many names a block should have; its span
+--     block-names, span-is        how many names a block should have; its span
 --     whole-says                whether it is whole, by what the check of a block says
 --     kept-by, whole-by         block number i then, and back
 --     noted-says                by what was noted of it
@@ -23,7 +23,7 @@ use lib.Dec.{eqb, leb, ltb}
 use lib.ListN.{drop, getD, length, take}
 use lib.Seq.{take-length}
 use borrow.Author.Tests.{eq-eqb, eqb-true, le-leb, leb-true, lt-ltb, ltb-true, not-false, not-true}
-use Rattle.words.specs.Words.{Bytes, InBytes, both, pick, plain, same}
+use Rattle.words.specs.Words.{Bytes, InBytes, both, plain, same}
 use Rattle.words.proofs.Words.{apart, both-true, false≠true, same-refl, same-true}
 use Rattle.format.specs.Book.{number, numbers, told, trailerSize}
 use Rattle.format.specs.Kinds.{BookKind, FoldedBook, PlainBook, formOf, kindOf, markOf, recordSize}
@@ -272,8 +272,8 @@ module _ {s : Bytes} {i : ℕ} (ask : CardBlockAsk s i) where
       let names : told s 0 ≡ n = sym (ne ∙ ap (λ (t : Trailer). t .names) e) in
       subst (λ (x : ℕ). i * x < n) block (subst (λ (x : ℕ). i * told s 1 < x) names (count-starts (told s 0) (told s 1) (mapped-low s (ask .map)) i here))
 
-  pub names-are : {t : Trailer} {n k names : ℕ} → t ≡ trailerIn s → n ≡ t .names → k ≡ t .block → names ≡ min (n - i * k) k → names ≡ namesOfBlock s i
-  names-are {t} {n} {k} {names} e n-is k-is names-is = names-is ∙ ap₂ (λ (a b : ℕ). min (a - i * b) b) (n-is ∙ ap (λ (t : Trailer). t .names) e) (k-is ∙ ap (λ (t : Trailer). t .block) e)
+  pub block-names : {t : Trailer} {n k names : ℕ} → t ≡ trailerIn s → n ≡ t .names → k ≡ t .block → names ≡ min (n - i * k) k → names ≡ namesOfBlock s i
+  block-names {t} {n} {k} {names} e n-is k-is names-is = names-is ∙ ap₂ (λ (a b : ℕ). min (a - i * b) b) (n-is ∙ ap (λ (t : Trailer). t .names) e) (k-is ∙ ap (λ (t : Trailer). t .block) e)
 
   pub span-is : {start end names : ℕ} → start ≡ getD (bounds s) i 0 → end ≡ getD (bounds s) (i + 1) 0 → names ≡ namesOfBlock s i → SpanIs s i start end names
   span-is {start} {end} {names} se ee ne =

@@ -17,7 +17,7 @@ use lib.ListN.{getD, length, length-set, replicate, set}
 use lib.Pow.{field, high, low, mod-mod-pow, mod-pow-add, pow-add, pow-mono, pow-pos, shl-exact, shl-shr}
 use lib.Seq.{getD-set-other, getD-set-same}
 use borrow.Author.Tests.{ltb-true, ltb-false}
-use Rattle.notes.specs.Notes.{Noted, Noting, noted, noteSize}
+use Rattle.notes.specs.Notes.{NoteMade, Noting, noted, noteSize}
 
 -- ---- one byte: its k low bits are used, and the bit above them is 0
 
@@ -124,7 +124,7 @@ module _ {notes : List ℕ} {i : ℕ} (n : Noting notes i) where
             rw (same, byte-here, bit-others byte (i % 8) (n .low) (j % 8) (omega arith)) refl
 
     -- as `notes[g] + (1 << (i % 8))` is denoted
-    pub noting-noted : Noted notes (set notes (i / 8) (byte + 1 * 2 ^ (i % 8) % 2 ^ 8)) i
+    pub noting-noted : NoteMade notes (set notes (i / 8) (byte + 1 * 2 ^ (i % 8) % 2 ^ 8)) i
     noting-noted =
         let bit : 1 * 2 ^ (i % 8) % 2 ^ 8 ≡ 2 ^ (i % 8) = shl-exact 1 (i % 8) 8 (omega arith) (omega arith) ∙ omega arith in
         rw bit (record { next = new-next; here = new-here; others = new-others })

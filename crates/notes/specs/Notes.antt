@@ -2,7 +2,7 @@
 --     noteSize          how many bytes the row has
 --     noted             whether yes is noted for number i
 --     Noting            nothing is noted from number i on
---     Noted             what noting number i leaves
+--     NoteMade          what noting number i leaves
 -- The laws are in proofs/Notes.antt. Assumes nothing: these are definitions.
 use Prim.Native.Nat.{ℕ, _+_, _/_, _%_, _^_, _<_}
 use mathlib.Core.Path.{_≡_}
@@ -25,7 +25,7 @@ pub record Noting (notes : List ℕ) (i : ℕ) : Type 0 where
   pub behind : (g : ℕ) → i / 8 < g → getD notes g 0 ≡ 0
 
 -- number i is yes, those above it are no, and those below it are what they were
-pub record Noted (notes new : List ℕ) (i : ℕ) : Type 0 where
+pub record NoteMade (notes new : List ℕ) (i : ℕ) : Type 0 where
   pub next : Noting new (i + 1)
   pub here : noted new i ≡ true
   pub others : (j : ℕ) → j < i → noted new j ≡ noted notes j

@@ -3,12 +3,12 @@
 ghost use mathlib.Core.Path.{_≡_};
 ghost use Prim.Native.Nat.{_<_};
 ghost use lib.ListN.{length};
-ghost use Rattle.notes.specs.Notes.{Noted, Noting, noteSize, noted};
+ghost use Rattle.notes.specs.Notes.{NoteMade, Noting, noteSize, noted};
 
 // Notes yes for number i, which is above all that are noted.
 pub fn note(notes: &mut [u8], i: usize)
     requires { ⌜ Noting (now notes) i × (i < 2000) ⌝ }
-    ensures { λ _. ⌜ Noted (now (notes .entry)) (now (notes .exit)) i ⌝ }
+    ensures { λ _. ⌜ NoteMade (now (notes .entry)) (now (notes .exit)) i ⌝ }
 {
     let g = i / 8;
     notes[g] = notes[g] + (1 << (i % 8));

@@ -4,7 +4,7 @@
 --     Saving: saving-start, saving-entry, saving-more, saving-done     the loop over a block's names
 --     block-put, block-left     a block that is whole, and one that is broken
 --     Measuring: measuring-start .. measuring-done     the loop that counts a block's bytes
---     Counting: counting-start, counting-ask, counting-whole, counting-broken, counting-done     the loop that judges all blocks
+--     CountingBlocks: counting-start, counting-ask, counting-whole, counting-broken, counting-done     the loop that judges all blocks
 --     Blocks: blocks-start, blocks-ask, blocks-more, blocks-done     the loop that puts them
 --     save-.., not-zero         the ways out
 -- Assumes nothing.
@@ -36,11 +36,11 @@ use Rattle.streams.proofs.Alone.{alone-stream}
 use Rattle.streams.specs.Streams.{EntryAt, Stream, entryEnd, nameAt}
 use Rattle.entries.specs.Reading.{NameRead}
 use Rattle.entries.proofs.Reading.{stream-next}
-use Rattle.notes.specs.Notes.{Noted, Noting, noted}
+use Rattle.notes.specs.Notes.{NoteMade, Noting, noted}
 use Rattle.notes.proofs.Notes.{noting-skip}
 use Rattle.cards.specs.Cards.{CardBlockAsk, IsWhole, KeptSays, SpanIs, Verdicts}
 use Rattle.cards.proofs.Cards.{block-is, mapped-is, whole-by}
-use Rattle.salvage.specs.Saving.{BytesPut, CardCount, NamesAsk, NamesPut, RecordsTake, savedAnswer, savedAs, savedOf}
+use Rattle.salvage.specs.Saving.{BytesPut, CardCount, NamesAsk, NamesPut, RecordsTake, savedAnswer, shownSaved, savedOf}
 use Rattle.salvage.specs.declared.Saved.{Saved}
 
 -- ---- bytes in a room
@@ -264,7 +264,7 @@ measuring-done {s} {start} {m} {o} {size} {i} w h = record {
 -- ---- all blocks, counted
 
 -- i blocks are judged, and noted
-pub record Counting (s notes : Bytes) (count i size : ℕ) : Type 0 where
+pub record CountingBlocks (s notes : Bytes) (count i size : ℕ) : Type 0 where
   pub within : i ≤ count
   pub many : count ≡ length (cardBlocks s)
   pub few : count ≤ 2000
@@ -273,11 +273,11 @@ pub record Counting (s notes : Bytes) (count i size : ℕ) : Type 0 where
   pub next : Noting notes i
   pub found : (j : ℕ) → j < i → KeptSays s j (noted notes j)
 
-pub counting-start : {s notes : Bytes} {count : ℕ} → count ≡ length (cardBlocks s) → count ≤ 2000 → Noting notes 0 → Counting s notes count 0 0
+pub counting-start : {s notes : Bytes} {count : ℕ} → count ≡ length (cardBlocks s) → count ≤ 2000 → Noting notes 0 → CountingBlocks s notes count 0 0
 unfolding joined
 counting-start e f n = record { within = omega arith; many = e; few = f; bounded = omega arith; is = refl; next = n; found = λ j h. absurd (omega arith) }
 
-module _ {s notes : Bytes} {count i size : ℕ} (w : Counting s notes count i size) where
+module _ {s notes : Bytes} {count i size : ℕ} (w : CountingBlocks s notes count i size) where
   pub counting-ask : mapped s ≡ true → i < count → CardBlockAsk s i
   counting-ask e h = record { map = e; within = omega (arith, w .many) }
 
@@ -295,7 +295,7 @@ module _ {s notes : Bytes} {count i size : ℕ} (w : Counting s notes count i si
       on (inr k) = let is : i ≡ j = omega arith in subst (λ (n : ℕ). KeptSays s n (noted new n)) is here
 
   module _ {start end names : ℕ} (ask : CardBlockAsk s i) (k : SpanIs s i start end names) (h : i < count) where
-    pub counting-whole : IsWhole s i → {new : Bytes} → Noted notes new i → {more : ℕ} → RecordsTake s start names more → Counting s new count (i + 1) (size + more)
+    pub counting-whole : IsWhole s i → {new : Bytes} → NoteMade notes new i → {more : ℕ} → RecordsTake s start names more → CountingBlocks s new count (i + 1) (size + more)
     counting-whole whole {new} n {more} take-up = record {
       within = omega arith;
       many = w .many;
@@ -306,7 +306,7 @@ module _ {s notes : Bytes} {count i size : ℕ} (w : Counting s notes count i si
       found = found-more new (n .others) (subst (KeptSays s i) (sym (n .here)) whole);
     }
 
-    pub counting-broken : getD (cardBlocks s) i Broken ≡ Broken → Counting s notes count (i + 1) size
+    pub counting-broken : getD (cardBlocks s) i Broken ≡ Broken → CountingBlocks s notes count (i + 1) size
     counting-broken broken = record {
       within = omega arith;
       many = w .many;
@@ -356,7 +356,7 @@ module _ {s room₀ room : Bytes} {count i end : ℕ} (w : Blocks s room₀ room
 -- ---- ways out of `save_names`
 
 module _ (s : Bytes) (rows : ℕ) (room : Bytes) where
-  pub save-unmapped : {m : Bool} → m ≡ mapped s → not m ≡ true → (a : Saved) → savedAnswer a ≡ refused 13 → savedAs a room ≡ savedOf s rows room
+  pub save-unmapped : {m : Bool} → m ≡ mapped s → not m ≡ true → (a : Saved) → savedAnswer a ≡ refused 13 → shownSaved a room ≡ savedOf s rows room
   unfolding savedOf
   save-unmapped {m} e h a p = rw (sym e ∙ not-true m h) (ap (λ (n : Numbers). record { answer = n; room = room }) p)
 
@@ -370,14 +370,14 @@ module _ (s : Bytes) (rows : ℕ) (room : Bytes) where
     unfolding savedOf
     saved-is same fits p q = rw (mapped-is s e h, p, q) refl
 
-    pub save-rows : (rows ≡ count → ⊥) → (a : Saved) → savedAnswer a ≡ refused 12 → savedAs a room ≡ savedOf s rows room
+    pub save-rows : (rows ≡ count → ⊥) → (a : Saved) → savedAnswer a ≡ refused 12 → shownSaved a room ≡ savedOf s rows room
     save-rows away a p = ap (λ (n : Numbers). record { answer = n; room = room }) p ∙ sym (saved-is false _ (ne-eqb rows (length (cardBlocks s)) (λ z. away (z ∙ sym c))) refl)
 
     module _ (same : rows ≡ count) {notes : Bytes} {size : ℕ} (k : CardCount s notes size) where
       is-same : eqb rows (length (cardBlocks s)) ≡ true
       is-same = eq-eqb rows (length (cardBlocks s)) (same ∙ c)
 
-      pub save-short : length room < size → (a : Saved) → savedAnswer a ≡ refused 4 → savedAs a room ≡ savedOf s rows room
+      pub save-short : length room < size → (a : Saved) → savedAnswer a ≡ refused 4 → shownSaved a room ≡ savedOf s rows room
       save-short f a p = ap (λ (n : Numbers). record { answer = n; room = room }) p ∙ sym (saved-is true false is-same (lt-leb (length (savedRecords (cardBlocks s))) (length room) (omega (arith, k .is))))
 
       pub save-put : size ≤ length room → {new : Bytes} {end : ℕ} → BytesPut (savedRecords (cardBlocks s)) room new 0 end → record { answer = given end 0; room = new } ≡ savedOf s rows room

@@ -2,7 +2,7 @@
 --     BytesPut          bytes stand behind what is written, where they fit
 --     NamesAsk, NamesPut     entries of so many names stand; their records are put, for any names that the entries are
 --     RecordsTake, CardCount     how many bytes their records take; those of all whole blocks, and what is found of each block is noted
---     savedOf, savedAnswer, savedAs     what saving the names gives, for a report of so many rows; what the code gave, as document 01's numbers
+--     savedOf, savedAnswer, shownSaved     what saving the names gives, for a report of so many rows; what the code gave, as document 01's numbers
 -- The laws are in proofs/Saving.antt. Assumes nothing: these are definitions.
 use Prim.Native.Nat.{ℕ, _+_, _*_, _≤_}
 use mathlib.Core.Path.{_≡_}
@@ -52,5 +52,5 @@ savedOf s rows room =
 abbrev pub savedAnswer : Saved → Answer
 savedAnswer r = record { code = r .code; first = r .size; second = 0 }
 
-abbrev pub savedAs : Saved → Bytes → Written
-savedAs r room = record { answer = savedAnswer r; room = room }
+abbrev pub shownSaved : Saved → Bytes → Written
+shownSaved r room = record { answer = savedAnswer r; room = room }

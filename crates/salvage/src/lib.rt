@@ -9,7 +9,7 @@ ghost use Rattle.format.specs.Salvage.{Broken, mapped};
 ghost use Rattle.answers.specs.Salvage.{cardBlocks, recordsIn, savedRecords};
 ghost use Rattle.notes.specs.Notes.{Noting};
 ghost use Rattle.cards.specs.Cards.{CardBlockAsk, Verdicts};
-ghost use Rattle.salvage.specs.Saving.{BytesPut, CardCount, NamesAsk, NamesPut, RecordsTake, savedAnswer, savedAs, savedOf};
+ghost use Rattle.salvage.specs.Saving.{BytesPut, CardCount, NamesAsk, NamesPut, RecordsTake, savedAnswer, shownSaved, savedOf};
 use entries::Cursor;
 
 // The records of the m names whose entries stand at `start`, behind the first `at` bytes of the room, as far as there is room for them;
@@ -136,7 +136,7 @@ fn refuse(code: usize) -> Saved
 // The records of all blocks that are whole, at the front of the room, for a report of so many rows. They are counted before the first one is
 // written. Refusals: 13, 12, 4.
 pub fn save_names(card: &[u8], rows: usize, room: &mut [u8]) -> Saved
-    ensures { λ r. ⌜ (savedAs r (now (room .exit)) ≡ savedOf (now (card .entry)) rows (now (room .entry))) × (r .code ≡ 0 → Verdicts (now (card .entry)) (r .notes)) ⌝ }
+    ensures { λ r. ⌜ (shownSaved r (now (room .exit)) ≡ savedOf (now (card .entry)) rows (now (room .entry))) × (r .code ≡ 0 → Verdicts (now (card .entry)) (r .notes)) ⌝ }
 {
     if !cards::is_mapped(card) {
         return refuse(13);

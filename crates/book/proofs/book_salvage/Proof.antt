@@ -1,10 +1,12 @@
 -- `book::book_salvage` meets its contract: a walk of its MIR, by hand, with one loop. What it calls, `save_names` of the crate
--- salvage and `judge_block` of cards, it knows by their contracts; what it says of lists is in proofs/Salvaging.antt.
---     the invariant     after i turns the report rows are `filled .. i`; the card is lent as it was; of the room only its last list is known
+-- salvage and `row_of` of cards, it knows by their contracts; what it says of lists is in proofs/Salvaging.antt.
+--     the invariant     after i turns the report rows are `filled .. i`; the card is lent as it was; of the room only its last list is known;
+--                       the notes are the function's own
 --     the measure       how many rows are left
 -- The room is handed to `save_names` for good: what is had of it from then on says its last bytes. The report rows are opened once, before
--- the loop, and closed once, after it: between the two they are the function's own. A turn asks `judge_block` and stores what it gives at
--- i. Of the card, which is `Copy`, each call is handed a copy. Assumes nothing.
+-- the loop, and closed once, after it: between the two they are the function's own. The notes come back from `save_names` by value, in a local
+-- array. A turn lends them for a lifetime of its own, asks `row_of` and stores what it gives at i; the lifetime ends before the turn's last
+-- statement. Of the card, which is `Copy`, each call is handed a copy. Assumes nothing.
 use mathlib.Core.Path.{_≡_, refl, sym, _∙_, ap, subst}
 use mathlib.Core.List.{List, [], _∷_, map, map-id}
 use mathlib.Core.WellFounded.{WellFounded, InvImage·wf}
@@ -67,7 +69,7 @@ use Rattle.shapes.proofs.Salvage.{keptOf}
 use Rattle.shapes.proofs.Kept as K
 use Rattle.shapes.proofs.Kept.Laws as K′
 use Rattle.cards.specs.Cards.{CardBlockAsk, Verdicts}
-use Rattle.salvage.specs.Saving.{savedAs, savedOf}
+use Rattle.salvage.specs.Saving.{shownSaved, savedOf}
 use Rattle.salvage.specs.declared.Saved.{Saved}
 use Rattle.salvage.proofs.Saved as S
 use Rattle.salvage.proofs.Saved.Laws as S′
@@ -297,7 +299,7 @@ module _ {M : Type 1} (𝓤 : URA M) (H : Heap 𝓤) (A : Atoms 𝓤) (W : Given
   wf = InvImage·wf (λ (t : X). length old - t .0) (Nat·lt-wfRel .wf)
 
   module _ (𝓣 : Tables 𝓤 H) (known-save : Triple 𝓤 (𝓣 .C #save-names) (Saves 𝓤 H A mem run)) (known-row : Triple 𝓤 (𝓣 .C #row-of) (Tells 𝓤 H A mem run)) where
-    module _ (r : Saved) (is-s : Is S.the-row r (S′.lowered r ∷ [])) (after : List ℕ) (size : length after ≡ length bytes) (said : (savedAs r after ≡ savedOf (now card) (length old) bytes) × (r .code ≡ 0 → Verdicts (now card) (r .notes)))
+    module _ (r : Saved) (is-s : Is S.the-row r (S′.lowered r ∷ [])) (after : List ℕ) (size : length after ≡ length bytes) (said : (shownSaved r after ≡ savedOf (now card) (length old) bytes) × (r .code ≡ 0 → Verdicts (now card) (r .notes)))
         (l₀ l₁ l₂ l₃ l₄ l₅ l₆ l₇ l₈ l₉ l₁₀ l₁₁ l₁₂ l₁₃ l₁₄ l₁₅ l₁₆ l₁₇ : ℕ) where
       abbrev En : Env 𝓤 H
       En = (P′.mir, l₀) ∷ (card-ty, l₁) ∷ (room-ty, l₂) ∷ (rows-ty, l₃) ∷ (S′.mir, l₄) ∷ (notes-ty, l₅) ∷ (P′.mir, l₆) ∷ (word, l₇) ∷ (word, l₈) ∷ (first-ty, l₉) ∷ (passed-ty, l₁₀) ∷ (tyBool, l₁₁) ∷ (word, l₁₂) ∷ (tyBool, l₁₃) ∷ (K′.mir, l₁₄) ∷ (whole-ty, l₁₅) ∷ (lent-ty, l₁₆) ∷ (tyPtr, l₁₇) ∷ []
@@ -429,7 +431,7 @@ module _ {M : Type 1} (𝓤 : URA M) (H : Heap 𝓤) (A : Atoms 𝓤) (W : Given
         looped r (is-s r v is-v) (ws .1 .1 .0) size said l₀ l₁ l₂ l₃ l₄ l₅ l₆ l₇ l₈ l₉ l₁₀ l₁₁ l₁₂ l₁₃ l₁₄ l₁₅ l₁₆ l₁₇ (eqb→eq (r .code) 0 (not-not (eqb (r .code) 0) ok)))))))))))))))))))))))))))
       where
         Fact : Saved → List ℕ → Type 0
-        Fact r after = (savedAs r after ≡ savedOf (now card) (length old) bytes) × (r .code ≡ 0 → Verdicts (now card) (r .notes))
+        Fact r after = (shownSaved r after ≡ savedOf (now card) (length old) bytes) × (r .code ≡ 0 → Verdicts (now card) (r .notes))
 
         tells-s : (r : Saved) (v : Val) → Is S.the-row r (v ∷ []) → v ∷ [] ≡ S′.lowered r ∷ []
         tells-s r v is-v = LL.tells S.the-type S′.the-laws r (v ∷ []) is-v ∙ ap (λ (l : List ℕ). vstruct (vcons (vint w64 (r .code)) (vcons (vint w64 (r .size)) (vcons (arr l) vnil))) ∷ []) (map-id (r .notes))

@@ -2,14 +2,14 @@
 -- Assumes nothing.
 use native.Mathlib.Omega.{arith}
 use borrow.Author.Needs.{needs}
-use Rattle.cards.proofs.Cards.{mapped-long, names-are, span-names}
+use Rattle.cards.proofs.Cards.{mapped-long, block-names, span-names}
 use Rattle.cards.proofs.names_in.Statement.{statement}
 use Rattle.cards.proofs.names_in.Tie as tie
 
 returns : tie.Need-returns
 returns c =
     let read = c .before .before .before in
-    names-are (read .before .before .pre) (read .read .ensures) (c .before .wide162 .ensures .0) (c .before .before .wide16 .ensures .0) (c .lesser .ensures)
+    block-names (read .before .before .pre) (read .read .ensures) (c .before .wide162 .ensures .0) (c .before .before .wide16 .ensures .0) (c .lesser .ensures)
 
 pub names-in-spec : {M : Type 1} → statement M
 names-in-spec =

@@ -1,4 +1,4 @@
--- `salvage::count_blocks` meets its contract: `Counting` carries the loop; the blocks that are left are its measure.
+-- `salvage::count_blocks` meets its contract: `CountingBlocks` carries the loop; the blocks that are left are its measure.
 -- Assumes nothing.
 use Prim.Native.Nat.{_-_}
 use lib.ListN.{length}
@@ -8,12 +8,12 @@ use mathlib.Core.Logic.{⊎-elim}
 use mathlib.Core.Path.{_≡_, ap, refl, sym}
 use borrow.Author.Needs.{needs}
 use Rattle.cards.proofs.Cards.{is-dropped, is-kept, kept-by}
-use Rattle.salvage.proofs.Saving.{Counting, counting-ask, counting-broken, counting-done, counting-start, counting-whole, names-ask}
+use Rattle.salvage.proofs.Saving.{CountingBlocks, counting-ask, counting-broken, counting-done, counting-start, counting-whole, names-ask}
 use Rattle.salvage.proofs.count_blocks.Statement.{statement}
 use Rattle.salvage.proofs.count_blocks.Tie as tie
 
 abbrev Inv-loop : tie.InvT-loop
-Inv-loop card notes₀ count name₀ size₀ i₀ notes name size i = Counting card notes count i size × (length name ≡ 200)
+Inv-loop card notes₀ count name₀ size₀ i₀ notes name size i = CountingBlocks card notes count i size × (length name ≡ 200)
 
 abbrev μ-loop : tie.MeasureT-loop
 μ-loop card notes₀ count name₀ size₀ i₀ notes name size i = count - i
