@@ -1,18 +1,16 @@
--- Laws of the walk over blocks, which the writer of the entries, that of the block table and the survey share.
+-- Laws of the walk over blocks, which the writer of entries and block table and the survey share.
 --     BlocksDone: blocked-start, blocked-ask, blocked-more, blocked-end, blocked-sums     the blocks before lo are done
---     EntriesDone: entered-start, entered-part, entered-more, entered-all    their entries are written
---     Tabled: tabled-start, tabled-more, tabled-all                      where they begin is noted
---     number-not, number-more                                            one number more
+--     lent-behind, lent-before                                           a room of two parts, of which one was lent in part
+--     BlocksPut: put-start, put-size, put-row, put-two, put-table, put-part, put-more, put-all     they are written, and where they begin
 --     Surveying: surveying-start, surveying-enough, surveying-more, surveying-fits .. surveying-all     they are counted, by sums
 -- Assumes nothing.
 use Prim.Native.Nat.{ℕ, suc, _+_, _-_, _*_, _≤_, _<_, zero-le, min}
-use native.Mathlib.Nat.{lt-irrefl}
 use native.Mathlib.Decide.{decLe}
 use native.Mathlib.Omega.{arith}
 use mathlib.Core.Path.{_≡_, refl, sym, ap, ap₂, _∙_, subst}
 use mathlib.Core.List.{List, [], _∷_, _++_, map, append-assoc, append-nil}
-use lib.ListN.{length, getD, take, drop, length-append, length-take, length-drop, drop-of-length-le}
-use lib.Seq.{slice, take-add, take-all, drop-at, drop-drop, drop-cons, length-take-le}
+use lib.ListN.{length, getD, take, drop, length-append, length-drop, length-take, drop-of-length-le, take-append-drop}
+use lib.Seq.{slice, take-add, take-all, take-append-add, take-append-le, drop-append-add, drop-append-le, drop-at, drop-drop, drop-cons, length-take-le}
 use mir.Val.{Fits}
 use mir.Syntax.{w64}
 use Rattle.words.specs.Words.{Bytes}
@@ -21,10 +19,10 @@ use Rattle.format.specs.Entries.{blocks, blocksFrom, front, offsets}
 use Rattle.format.proofs.Entries.{blocks-first}
 use Rattle.format.proofs.Numbers.{numbers-append, numbers-length}
 use Rattle.format.specs.Outcomes.{over}
-use Rattle.numbers.proofs.Parts.{lent, lent-front, over-all, over-length}
+use Rattle.numbers.proofs.Parts.{lent, lent-front, over-all, over-length, part-length}
 use Rattle.records.specs.Lists.{names, startOf}
 use Rattle.records.proofs.Starts.{start-all, start-none}
-use Rattle.blocks.specs.Writing.{BlockAsk, BlockPut, BlockSize, EntriesAsk, NumberPut, SharedSum, SumsAre, Surveyed, block, sharedTo}
+use Rattle.blocks.specs.Writing.{BlockAsk, BlockPut, BlockSize, EntriesAsk, SharedSum, SumsAre, block, sharedTo}
 use Rattle.blocks.proofs.Writing.{BlockSums, block-sums, shared-grows, shared-next, sizing-all}
 
 -- ---- a block is a span of names
@@ -171,107 +169,169 @@ module _ {s : Bytes} {n : ℕ} {counts : List ℕ} {k : ℕ} (a : EntriesAsk s n
         few = omega (arith, b .few, a .low, length-append (b .done) (block s lo hi ∷ []));
       }
 
--- ---- entries
+-- ---- entries and block table
 
-pub record EntriesDone (s : Bytes) (n k : ℕ) (room₀ room : Bytes) (lo at size : ℕ) : Type 0 where
+-- a room of which a part was lent is as long as it was
+lent-length : (room out : Bytes) (a k : ℕ) → a + k ≤ length room → length out ≡ k → length (take a room ++ (out ++ drop k (drop a room))) ≡ length room
+lent-length room out a k h e = simp (length-append, length-take, length-drop, e) (omega arith)
+
+-- a room of two parts, of which a part was lent: out of the one behind, out of the one in front
+module _ (xs ys out : Bytes) where
+  lent-behind : (i k a : ℕ) → length xs + i ≡ a → take a (xs ++ ys) ++ (out ++ drop k (drop a (xs ++ ys))) ≡ xs ++ (take i ys ++ (out ++ drop k (drop i ys)))
+  lent-behind i k a e =
+      ap (λ (m : ℕ). take m (xs ++ ys) ++ (out ++ drop k (drop m (xs ++ ys)))) (sym e)
+      ∙ ap₂ (λ (f g : Bytes). f ++ (out ++ drop k g)) (take-append-add xs ys i) (drop-append-add xs ys i)
+      ∙ append-assoc xs (take i ys) (out ++ drop k (drop i ys))
+
+  lent-before : (a k : ℕ) → a + k ≤ length xs → take a (xs ++ ys) ++ (out ++ drop k (drop a (xs ++ ys))) ≡ (take a xs ++ (out ++ drop k (drop a xs))) ++ ys
+  lent-before a k h =
+      let behind : drop k (drop a (xs ++ ys)) ≡ drop k (drop a xs) ++ ys =
+      ap (drop k) (drop-append-le a xs ys (omega arith)) ∙ drop-append-le k (drop a xs) ys (omega (arith, length-drop a xs)) in
+      let grouped : take a xs ++ (out ++ (drop k (drop a xs) ++ ys)) ≡ (take a xs ++ (out ++ drop k (drop a xs))) ++ ys = simp append-assoc in
+      ap₂ (λ (f g : Bytes). f ++ (out ++ g)) (take-append-le a xs ys (omega arith)) behind ∙ grouped
+
+-- the blocks before lo are written, and where they begin; `row` is where the next one's beginning goes
+pub record BlocksPut (s : Bytes) (n k table : ℕ) (room₀ room : Bytes) (lo at size row : ℕ) : Type 0 where
   pub walk : BlocksDone s n k lo at size
+  pub here : row ≡ table + 2 * length (walk .done)
   pub kept : length room ≡ length room₀
-  pub within : size ≤ length room₀
-  pub written : room ≡ over (joined (walk .done)) room₀
+  pub entries : Bytes
+  pub starts : Bytes
+  pub parts : room ≡ entries ++ starts
+  pub entered : entries ≡ over (joined (walk .done)) (take table room₀)
+  pub noted : starts ≡ over (numbers (offsets 0 (walk .done))) (drop table room₀)
 
-module _ {s : Bytes} {n : ℕ} {counts : List ℕ} {k : ℕ} (a : EntriesAsk s n counts k) (room₀ : Bytes) (whole : length room₀ ≡ length (entryPart k (names s))) where
-  pub entered-start : EntriesDone s n k room₀ room₀ 0 0 0
-  unfolding joined blocked-start
-  entered-start = record { walk = blocked-start a; kept = refl; within = omega arith; written = refl }
+module _ {s : Bytes} {n : ℕ} {counts : List ℕ} {k : ℕ} (a : EntriesAsk s n counts k) (room₀ : Bytes) {table : ℕ}
+    (front-size : table ≡ length (entryPart k (names s))) (whole : length room₀ ≡ table + length (blockPart k (names s))) where
+  front-long : length (take table room₀) ≡ table
+  front-long = length-take-le table room₀ (omega (arith, whole))
 
-  module _ {room : Bytes} {lo at size : ℕ} (b : EntriesDone s n k room₀ room lo at size) where
-    pub entered-all : n ≤ lo → room ≡ entryPart k (names s)
-    unfolding entryPart
-    entered-all h =
-        let e : joined (b .walk .done) ≡ joined (blocks k (names s)) = ap joined (sym (blocked-end a (b .walk) h)) in
-        b .written ∙ ap (λ (x : Bytes). over x room₀) e ∙ over-all (joined (blocks k (names s))) room₀ (sym whole)
+  pub put-start : BlocksPut s n k table room₀ room₀ 0 0 0 table
+  unfolding blocked-start joined offsets numbers
+  put-start = record {
+    walk = blocked-start a;
+    here = omega arith;
+    kept = refl;
+    entries = take table room₀;
+    starts = drop table room₀;
+    parts = sym (take-append-drop table room₀);
+    entered = refl;
+    noted = refl;
+  }
 
-    module _ (h : lo < n) (hi : ℕ) (e : hi ≡ min (lo + k) n) where
-      entered-fits : size + length (block s lo hi) ≤ length room
-      entered-fits = omega (arith, blocked-within a (b .walk) h hi e, b .walk .counted, b .kept, whole)
-
-      pub entered-part : length (block s lo hi) ≤ length (take (length room - size) (drop size room))
-      entered-part = simp (length-take, length-drop) (omega (arith, entered-fits))
-
-      pub entered-more : (r next : ℕ) (ys : Bytes) → BlockPut s lo hi (take (length room - size) (drop size room)) ys r next
-          → EntriesDone s n k room₀ (take size room ++ (ys ++ drop (length room - size) (drop size room))) hi next (size + r)
-      unfolding blocked-more
-      entered-more r next ys p =
-          let part : Bytes = take (length room - size) (drop size room) in
-          let long : length part ≡ length room - size = simp (length-take, length-drop) (omega (arith, entered-fits)) in
-          let ys-long : length ys ≡ length room - size = ap length (p .put) ∙ over-length (block s lo hi) part (omega (arith, entered-fits)) ∙ long in
-          let now-is : take size room ++ (ys ++ drop (length room - size) (drop size room)) ≡ over (joined (b .walk .done) ++ block s lo hi) room₀ =
-          lent-front (joined (b .walk .done)) (block s lo hi) room₀ room ys size (length room - size)
-          (b .written) (sym (b .walk .counted)) (omega (arith, entered-fits, b .kept)) (p .put) (omega (arith, entered-fits)) in
-          record {
-            walk = blocked-more a (b .walk) h hi e r next (p .sized);
-            kept = ap length now-is ∙ over-length (joined (b .walk .done) ++ block s lo hi) room₀ (simp length-append (omega (arith, entered-fits, b .walk .counted, b .kept)));
-            within = omega (arith, entered-fits, p .sized .is, b .kept);
-            written = now-is ∙ ap (λ (x : Bytes). over x room₀) (sym (more a (b .walk) h hi e));
-          }
-
--- ---- the block table
-
-pub number-not : (room : Bytes) (i v : ℕ) → length room < 2 * i + 2 → NumberPut room room i v
-number-not room i v h = record { kept = refl; put = λ ns start l r f. absurd (lt-irrefl (length room) (omega arith)) }
-
-pub number-more : (room ys : Bytes) (i v : ℕ) → 2 * i + 2 ≤ length room → ys ≡ numbers (v ∷ [])
-    → NumberPut room (take (2 * i) room ++ (ys ++ drop (2 * i + 2 - 2 * i) (drop (2 * i) room))) i v
-number-more room ys i v h y =
-    let two : length ys ≡ 2 = ap length y ∙ numbers-length (v ∷ []) in
-    record {
-      kept = simp (length-append, length-take, length-drop, two) (omega arith);
-      put = λ ns start l r f.
-          let size : length (numbers ns) ≡ 2 * i = numbers-length ns ∙ omega arith in
-          let big : length start ≡ length room = over-kept ns start room r h size in
-          lent (numbers ns) start room ys (2 * i) (2 * i + 2 - 2 * i) r size (omega arith) (omega arith)
-          ∙ ap (λ (x : Bytes). over x start) (ap (λ (x : Bytes). numbers ns ++ x) y ∙ sym (numbers-append ns (v ∷ [])));
-    }
-  where
-    over-kept : (ns : List ℕ) (start r : Bytes) → r ≡ over (numbers ns) start → 2 * i + 2 ≤ length r → length (numbers ns) ≡ 2 * i → length start ≡ length r
-    over-kept ns start r e l z = omega (arith, ap length e, length-append (numbers ns) (drop (length (numbers ns)) start), length-drop (length (numbers ns)) start)
-
-pub record Tabled (s : Bytes) (n k : ℕ) (room₀ room : Bytes) (lo at size count : ℕ) : Type 0 where
-  pub walk : BlocksDone s n k lo at size
-  pub number : count ≡ length (walk .done)
-  pub kept : length room ≡ length room₀
-  pub noted : 2 * count ≤ length room₀ → room ≡ over (numbers (offsets 0 (walk .done))) room₀
-
-module _ {s : Bytes} {n : ℕ} {counts : List ℕ} {k : ℕ} (a : EntriesAsk s n counts k) (room₀ : Bytes) where
-  pub tabled-start : Tabled s n k room₀ room₀ 0 0 0 0
-  unfolding offsets blocked-start numbers
-  tabled-start = record { walk = blocked-start a; number = refl; kept = refl; noted = λ h. refl }
-
-  module _ {room : Bytes} {lo at size count : ℕ} (b : Tabled s n k room₀ room lo at size count) where
-    pub tabled-all : n ≤ lo → Surveyed s k room₀ room count size
-    unfolding blockPart
-    tabled-all h =
+  module _ {room : Bytes} {lo at size row : ℕ} (b : BlocksPut s n k table room₀ room lo at size row) where
+    pub put-all : n ≤ lo → room ≡ entryPart k (names s) ++ blockPart k (names s)
+    unfolding entryPart blockPart
+    put-all h =
         let e : b .walk .done ≡ blocks k (names s) = sym (blocked-end a (b .walk) h) in
-        let sums : SumsAre s k count size = blocked-sums a (b .walk) h (b .number) in
-        record {
-          sums = sums;
-          put = λ f.
-              b .noted (omega arith) ∙ ap (λ (x : List Bytes). over (numbers (offsets 0 x)) room₀) e
-              ∙ over-all (numbers (offsets 0 (blocks k (names s)))) room₀ (omega (arith, sums .count-is));
-        }
+        b .parts
+        ∙ ap₂ (λ (f g : Bytes). f ++ g)
+        (b .entered ∙ ap (λ (x : List Bytes). over (joined x) (take table room₀)) e ∙ over-all (joined (blocks k (names s))) (take table room₀) (omega (arith, front-long, front-size)))
+        (b .noted ∙ ap (λ (x : List Bytes). over (numbers (offsets 0 x)) (drop table room₀)) e
+        ∙ over-all (numbers (offsets 0 (blocks k (names s)))) (drop table room₀) (omega (arith, length-drop table room₀, whole)))
 
     module _ (h : lo < n) (hi : ℕ) (e : hi ≡ min (lo + k) n) where
-      pub tabled-more : (r next : ℕ) (new : Bytes) → NumberPut room new count size → BlockSize s lo hi r next → Tabled s n k room₀ new hi next (size + r) (count + 1)
-      unfolding blocked-more
-      tabled-more r next new p z = record {
-        walk = blocked-more a (b .walk) h hi e r next z;
-        number = omega (arith, b .number, length-append (b .walk .done) (block s lo hi ∷ []));
-        kept = p .kept ∙ b .kept;
-        noted = λ l.
-            let o : 0 + length (joined (b .walk .done)) ≡ size = omega (arith, b .walk .counted) in
-            p .put (offsets 0 (b .walk .done)) room₀ (offsets-length 0 (b .walk .done) ∙ sym (b .number)) (b .noted (omega arith)) (omega (arith, b .kept))
-            ∙ ap (λ (x : List ℕ). over (numbers x) room₀) (ap (λ (m : ℕ). offsets 0 (b .walk .done) ++ (m ∷ [])) (sym o) ∙ sym (offsets-more 0 (b .walk .done) (block s lo hi)));
-      }
+      abbrev d : ℕ
+      d = length (b .walk .done)
+
+      put-within : size + length (block s lo hi) ≤ table
+      put-within = omega (arith, blocked-within a (b .walk) h hi e, b .walk .counted, front-size)
+
+      pub put-size : size ≤ table
+      put-size = omega (arith, put-within)
+
+      entries-long : length (b .entries) ≡ table
+      entries-long = ap length (b .entered) ∙ over-length (joined (b .walk .done)) (take table room₀) (omega (arith, put-within, b .walk .counted, front-long)) ∙ front-long
+
+      -- this block has a number in the table, too
+      starts-more : 2 * d + 2 ≤ length (blockPart k (names s))
+      unfolding blockPart
+      starts-more =
+          omega (
+            arith,
+            ap length (step a (b .walk) h hi e),
+            length-append (b .walk .done ++ (block s lo hi ∷ [])) (blocks k (drop hi (names s))),
+            length-append (b .walk .done) (block s lo hi ∷ []),
+            numbers-length (offsets 0 (blocks k (names s))),
+            offsets-length 0 (blocks k (names s)),
+          )
+
+      numbers-long : length (numbers (offsets 0 (b .walk .done))) ≡ 2 * d
+      numbers-long = numbers-length (offsets 0 (b .walk .done)) ∙ omega (arith, offsets-length 0 (b .walk .done))
+
+      back-long : length (drop table room₀) ≡ length (blockPart k (names s))
+      back-long = length-drop table room₀ ∙ omega (arith, whole)
+
+      pub put-row : row + 2 ≤ length room
+      put-row = omega (arith, b .kept, whole, starts-more, b .here)
+
+      pub put-two : length (take (row + 2 - row) (drop row room)) ≡ 2
+      put-two = part-length room row (row + 2 - row) (omega (arith, put-row)) ∙ omega arith
+
+      abbrev room₁ : Bytes → Bytes
+      room₁ out = take row room ++ (out ++ drop (row + 2 - row) (drop row room))
+
+      -- a number goes there, whichever it is
+      module _ (out : Bytes) (v : ℕ) (o : out ≡ numbers (v ∷ [])) where
+        two : length out ≡ row + 2 - row
+        two = ap length o ∙ numbers-length (v ∷ []) ∙ omega arith
+
+        kept₁ : length (room₁ out) ≡ length room₀
+        kept₁ = lent-length room out row (row + 2 - row) (omega (arith, put-row)) two ∙ b .kept
+
+        pub put-table : table ≤ length (room₁ out)
+        put-table = omega (arith, kept₁, whole)
+
+        pub put-part : length (block s lo hi) ≤ length (take (table - size) (drop size (room₁ out)))
+        put-part = omega (arith, part-length (room₁ out) size (table - size) (omega (arith, put-table, put-within)), put-within)
+
+      -- where it begins is noted
+      module _ (out : Bytes) (o : out ≡ numbers (size ∷ [])) where
+        abbrev starts₁ : Bytes
+        starts₁ = take (2 * d) (b .starts) ++ (out ++ drop (row + 2 - row) (drop (2 * d) (b .starts)))
+
+        parts₁ : room₁ out ≡ b .entries ++ starts₁
+        parts₁ =
+            ap (λ (r : Bytes). take row r ++ (out ++ drop (row + 2 - row) (drop row r))) (b .parts)
+            ∙ lent-behind (b .entries) (b .starts) out (2 * d) (row + 2 - row) row (omega (arith, entries-long, b .here))
+
+        noted₁ : starts₁ ≡ over (numbers (offsets 0 (b .walk .done ++ (block s lo hi ∷ [])))) (drop table room₀)
+        noted₁ =
+            let begins : size ≡ 0 + length (joined (b .walk .done)) = omega (arith, b .walk .counted) in
+            lent (numbers (offsets 0 (b .walk .done))) (drop table room₀) (b .starts) out (2 * d) (row + 2 - row) (b .noted) numbers-long (omega (arith, back-long, starts-more)) (two out size o)
+            ∙ ap (λ (x : Bytes). over x (drop table room₀))
+            (ap (λ (x : Bytes). numbers (offsets 0 (b .walk .done)) ++ x) o
+            ∙ sym (numbers-append (offsets 0 (b .walk .done)) (size ∷ []))
+            ∙ ap numbers (ap (λ (m : ℕ). offsets 0 (b .walk .done) ++ (m ∷ [])) begins ∙ sym (offsets-more 0 (b .walk .done) (block s lo hi))))
+
+        -- and the block is written
+        pub put-more : (r next : ℕ) (ys : Bytes) → BlockPut s lo hi (take (table - size) (drop size (room₁ out))) ys r next
+            → BlocksPut s n k table room₀ (take size (room₁ out) ++ (ys ++ drop (table - size) (drop size (room₁ out)))) hi next (size + r) (row + 2)
+        unfolding blocked-more
+        put-more r next ys p =
+            let long : length (drop size (b .entries)) ≡ table - size = length-drop size (b .entries) ∙ omega (arith, entries-long) in
+            let lent-is : take (table - size) (drop size (room₁ out)) ≡ take (table - size) (drop size (b .entries)) =
+            ap (λ (x : Bytes). take (table - size) (drop size x)) parts₁
+            ∙ ap (take (table - size)) (drop-append-le size (b .entries) starts₁ (omega (arith, entries-long, put-within)))
+            ∙ take-append-le (table - size) (drop size (b .entries)) starts₁ (omega (arith, long)) in
+            record {
+              walk = blocked-more a (b .walk) h hi e r next (p .sized);
+              here = omega (arith, b .here, length-append (b .walk .done) (block s lo hi ∷ []));
+              kept =
+                  lent-length (room₁ out) ys size (table - size) (omega (arith, put-table out size o, put-within))
+                  (ap length (p .put) ∙ over-length (block s lo hi) (take (table - size) (drop size (room₁ out))) (put-part out size o) ∙ part-length (room₁ out) size (table - size) (omega (arith, put-table out size o, put-within)))
+                  ∙ kept₁ out size o;
+              entries = take size (b .entries) ++ (ys ++ drop (table - size) (drop size (b .entries)));
+              starts = starts₁;
+              parts =
+                  ap (λ (x : Bytes). take size x ++ (ys ++ drop (table - size) (drop size x))) parts₁
+                  ∙ lent-before (b .entries) starts₁ ys size (table - size) (omega (arith, entries-long, put-within));
+              entered =
+                  lent-front (joined (b .walk .done)) (block s lo hi) (take table room₀) (b .entries) ys size (table - size)
+                  (b .entered) (sym (b .walk .counted)) (omega (arith, put-within, front-long)) (p .put ∙ ap (over (block s lo hi)) lent-is) (omega (arith, put-within))
+                  ∙ ap (λ (x : Bytes). over x (take table room₀)) (sym (more a (b .walk) h hi e));
+              noted = noted₁;
+            }
 
 -- ---- by sums
 

@@ -1,10 +1,8 @@
 -- Laws of the writers of entries.
 --     stored-same, stored-other     the count that a name stores
 --     entry-put                     the bytes of one entry: its two counts, and its rest copied behind them
---     piece-put, piece-kept         the same by way of a piece, which stays as long as it was
 --     entry-here                    an entry, by bytes of the list
 --     Sizing: sizing-start, sizing-record .. sizing-fits, sizing-count, sizing-more, sizing-all     a block, name by name
---     Summing: summing-start, summing-record, summing-count, summing-more, summing-size     the same by sums
 --     Filling: filling-start, filling-fits, filling-count .. filling-part (what an entry asks), filling-more, filling-all     the same, written
 --     shared-next, shared-grows     what names share, in all
 --     Adding: adding-start, adding-more, adding-all     the same, name by name
@@ -25,12 +23,11 @@ use Rattle.words.specs.Words.{Bytes, pick, shared}
 use Rattle.words.proofs.Words.{shared-comm, shared-le}
 use Rattle.format.specs.Entries.{entry, front}
 use Rattle.format.specs.Outcomes.{over}
-use Rattle.format.specs.Records.{longest}
 use Rattle.format.specs.Spans.{lastOf}
-use Rattle.numbers.proofs.Parts.{Copied, copied, copied-behind, lent, over-all, over-length, part-length}
+use Rattle.numbers.proofs.Parts.{Copied, copied-behind, lent, over-all, over-length, part-length}
 use Rattle.records.specs.Lists.{names, startOf}
 use Rattle.records.proofs.Starts.{ready-size, start-byte, start-fits, start-name, start-next, start-within}
-use Rattle.blocks.specs.Writing.{BlockAsk, BlockPut, BlockSize, LengthsAre, SharedSum, before, block, pieceSize, sharedTo, storedCount}
+use Rattle.blocks.specs.Writing.{BlockAsk, BlockPut, BlockSize, LengthsAre, SharedSum, before, block, sharedTo, storedCount}
 
 -- ---- the count that a name stores
 
@@ -60,21 +57,6 @@ entry-put s from c rest part room size ys y =
     ap (λ (x : Bytes). set (set x 0 c) 1 rest) (copied-behind copy part ys 2 (omega arith) y ∙ over-all (take 2 part ++ copy) part whole)
     ∙ counted part copy c rest (omega arith)
     ∙ ap (λ (n : ℕ). c ∷ rest ∷ take n (drop from s)) z
-
--- an entry stands at the front of a piece, of which the other bytes stay
-module _ (s : Bytes) (from c rest : ℕ) (piece : Bytes) (room : from + rest ≤ length s) (ys : Bytes) (y : ys ≡ c ∷ rest ∷ take rest (drop from s)) where
-  entry-length : length ys ≡ rest + 2 - 0
-  entry-length = ap length y ∙ omega (arith, part-length s from rest room)
-
-  -- and was copied from there into a part of its size
-  pub piece-put : (part : Bytes) → length part ≡ rest + 2 → (out : Bytes) → Copied (take (rest + 2 - 0) (ys ++ drop (rest + 2 - 0) piece)) part out → out ≡ c ∷ rest ∷ take rest (drop from s)
-  piece-put part size out o =
-      let front : take (rest + 2 - 0) (ys ++ drop (rest + 2 - 0) piece) ≡ ys = take-at ys (drop (rest + 2 - 0) piece) (rest + 2 - 0) entry-length in
-      copied (take (rest + 2 - 0) (ys ++ drop (rest + 2 - 0) piece)) part out o
-      ∙ ap (λ (x : Bytes). over x part) front ∙ over-all ys part (entry-length ∙ omega arith) ∙ y
-
-  pub piece-kept : rest ≤ longest → length piece ≡ pieceSize → length (ys ++ drop (rest + 2 - 0) piece) ≡ pieceSize
-  piece-kept short long = length-append ys (drop (rest + 2 - 0) piece) ∙ omega (arith, entry-length, length-drop (rest + 2 - 0) piece)
 
 -- ---- blocks of names
 
@@ -221,52 +203,6 @@ module _ {s : Bytes} {counts : List ℕ} {lo at hi : ℕ} (a : BlockAsk s counts
             small = omega (arith, z .small, sizing-low);
           }
 
--- the same by sums: `sum` is what the names before i store as shared
-pub record Summing (s : Bytes) (lo at hi i next sum : ℕ) : Type 0 where
-  pub low : lo ≤ i
-  pub high : i ≤ hi
-  pub from : at ≤ next
-  pub within : next ≤ length s
-  pub size : ℕ
-  pub sizing : Sizing s lo hi i next size
-  pub sums : size + sum + at + lo ≡ next + i
-
-module _ {s : Bytes} {counts : List ℕ} {lo at hi : ℕ} (a : BlockAsk s counts lo at hi) where
-  pub summing-start : Summing s lo at hi lo at 0
-  summing-start = let z = sizing-start a in record {
-    low = z .low;
-    high = z .high;
-    from = omega arith;
-    within = z .within;
-    size = 0;
-    sizing = z;
-    sums = omega arith;
-  }
-
-  module _ {i next sum : ℕ} (z : Summing s lo at hi i next sum) where
-    pub summing-size : hi ≤ i → BlockSize s lo hi (next - at + (hi - lo) - sum) next
-    summing-size h =
-        let e : z .size ≡ next - at + (hi - lo) - sum = omega (arith, z .sums, z .high, z .low, z .from) in
-        subst (λ (r : ℕ). BlockSize s lo hi r next) e (sizing-all a (z .sizing) h)
-
-    module _ (h : i < hi) where
-      pub summing-record : next < length s
-      summing-record = sizing-record a (z .sizing) h
-
-      pub summing-count : (len : ℕ) → len ≡ getD s next 0 → (c : ℕ) → c ≡ storedCount lo i counts → c ≤ len
-      summing-count len e c f = sizing-count a (z .sizing) h len e c f
-
-      pub summing-more : (len : ℕ) → len ≡ getD s next 0 → (c : ℕ) → c ≡ storedCount lo i counts → Summing s lo at hi (i + 1) (next + (1 + len)) (sum + c)
-      summing-more len e c f = let y = sizing-more a (z .sizing) h len e c f in record {
-        low = y .low;
-        high = y .high;
-        from = omega (arith, z .from);
-        within = y .within;
-        size = _;
-        sizing = y;
-        sums = omega (arith, z .sums, sizing-count a (z .sizing) h len e c f);
-      }
-
 -- the names before i are written at the front of the room
 pub record Filling (s : Bytes) (lo hi : ℕ) (room₀ room : Bytes) (i next size : ℕ) : Type 0 where
   pub sizing : Sizing s lo hi i next size
@@ -310,7 +246,7 @@ module _ {s : Bytes} {lens counts : List ℕ} {lo at hi : ℕ} (a : BlockAsk s c
       pub filling-count : c < 256
       filling-count = omega (arith, sizing-low a (z .sizing) h len byte, sizing-count a (z .sizing) h len byte c f)
 
-      pub filling-rest : len - c ≤ longest
+      pub filling-rest : len - c < 256
       filling-rest = omega (arith, sizing-low a (z .sizing) h len byte)
 
       pub filling-source : next + 1 + c + (len - c) ≤ length s

@@ -2,26 +2,22 @@
 --     before            the name before name i in a block that begins with name lo: none for the first
 --     block             the entries of names lo to hi as one block
 --     storedCount       the count that name i stores, by what was noted
---     pieceSize         the longest entry
 --     LengthsAre        a row with the length of each name
 --     BlockAsk, BlockSize, BlockPut    one block, its size, and the block written
 --     EntriesAsk        all names, in blocks of k
---     NumberPut         one number more of a row, where it fits
 --     sharedTo, SharedSum    what the first i names share, in all; a number that is that
 --     SumsAre           how many blocks there are, and how large their entries
---     Surveyed          the same, and where each begins
 -- The laws are in proofs/. Assumes nothing: these are definitions.
 use Prim.Native.Nat.{ℕ, zero, suc, pred, _+_, _*_, _≤_, _<_}
 use mathlib.Core.Path.{_≡_}
-use mathlib.Core.List.{List, [], _∷_, _++_}
+use mathlib.Core.List.{List, []}
 use lib.Dec.{eqb}
 use lib.ListN.{length, getD}
 use lib.Seq.{slice}
 use Rattle.words.specs.Words.{Bytes, Rule, pick}
 use Rattle.format.specs.Entries.{front}
-use Rattle.format.specs.Book.{numbers, blockPart, entryPart}
+use Rattle.format.specs.Book.{blockPart, entryPart}
 use Rattle.format.specs.Outcomes.{over}
-use Rattle.format.specs.Records.{longest}
 use Rattle.records.specs.Lists.{Ready, names, startOf}
 
 abbrev pub before : ℕ → ℕ → List Bytes → Bytes
@@ -32,10 +28,6 @@ block s lo hi = front [] (slice lo hi (names s))
 
 abbrev pub storedCount : ℕ → ℕ → List ℕ → ℕ
 storedCount lo i counts = pick (eqb i lo) 0 (getD counts i 0)
-
--- two counts, and a rest as long as a name can be
-abbrev pub pieceSize : ℕ
-pieceSize = longest + 2
 
 -- a place for each name, with its length
 pub record LengthsAre (xs : List Bytes) (lens : List ℕ) : Type 0 where
@@ -73,11 +65,6 @@ pub record EntriesAsk (s : Bytes) (n : ℕ) (counts : List ℕ) (k : ℕ) : Type
   pub low : 1 ≤ k
   pub high : k ≤ 64
 
--- number i of a row stands in the room behind those before it, where it fits
-pub record NumberPut (room₀ room : Bytes) (i v : ℕ) : Type 0 where
-  pub kept : length room ≡ length room₀
-  pub put : (ns : List ℕ) (start : Bytes) → length ns ≡ i → room₀ ≡ over (numbers ns) start → 2 * suc i ≤ length room₀ → room ≡ over (numbers (ns ++ (v ∷ []))) start
-
 -- what the first i names share with the ones before them, in all
 unfoldable pub sharedTo : List ℕ → ℕ → ℕ
 sharedTo counts zero = 0
@@ -93,8 +80,3 @@ pub record SumsAre (s : Bytes) (k count size : ℕ) : Type 0 where
   pub small : size ≤ 404000
   pub few : count ≤ 2000
   pub count-is : 2 * count ≡ length (blockPart k (names s))
-
--- the same, with the block table in a room that it fills
-pub record Surveyed (s : Bytes) (k : ℕ) (room₀ room : Bytes) (count size : ℕ) : Type 0 where
-  pub sums : SumsAre s k count size
-  pub put : length room₀ ≡ 2 * count → room ≡ blockPart k (names s)

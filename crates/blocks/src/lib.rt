@@ -1,16 +1,12 @@
-// The entries, block by block, and the block table. What neighbours share, and how long a name is, was noted when the list was judged, so
-// nothing is compared.
+// The entries, block by block, and the block table: where each block begins. What neighbours share, and how long a name is, was noted when
+// the list was judged, so nothing is compared.
 ghost use mathlib.Core.Path.{_≡_};
-ghost use mathlib.Core.List.{_∷_};
+ghost use mathlib.Core.List.{_∷_, _++_};
 ghost use Prim.Native.Nat.{_+_, _≤_, _<_};
 ghost use lib.ListN.{length, take, drop};
 ghost use Rattle.records.specs.Lists.{names};
-ghost use Rattle.format.specs.Book.{entryPart};
-ghost use Rattle.format.specs.Records.{longest};
-ghost use Rattle.blocks.specs.Writing.{block, pieceSize, storedCount, BlockAsk, BlockSize, BlockPut, EntriesAsk, LengthsAre, NumberPut, SharedSum, SumsAre, Surveyed};
-
-// The longest entry: two counts, and a name of 200 bytes.
-const PIECE: usize = 202;
+ghost use Rattle.format.specs.Book.{blockPart, entryPart};
+ghost use Rattle.blocks.specs.Writing.{block, storedCount, BlockAsk, BlockPut, EntriesAsk, LengthsAre, SharedSum, SumsAre};
 
 // The count that name i stores in a block that begins with name lo.
 fn count_of(counts: &[u8], lo: usize, i: usize) -> usize
@@ -29,26 +25,6 @@ pub struct Block {
     pub next: usize,
 }
 
-// Names lo to hi as one block, of which record lo begins at `at`: what their records take, and a byte more for each, but for what they
-// share.
-fn block_size(list: &[u8], counts: &[u8], lo: usize, at: usize, hi: usize) -> Block
-    requires { ⌜ BlockAsk (now list) (now counts) lo at hi ⌝ }
-    ensures { λ r. ⌜ BlockSize (now (list .entry)) lo hi (r .size) (r .next) ⌝ }
-{
-    let mut shared: usize = 0;
-    let mut next = at;
-    let mut i = lo;
-    while i < hi {
-        next += 1 + numbers::wide(list[next]);
-        shared += count_of(counts, lo, i);
-        i += 1;
-    }
-    Block {
-        size: next - at + (hi - lo) - shared,
-        next,
-    }
-}
-
 // The entry of a name that shares c bytes with the one before: c, the length of the rest, and the rest, which begins at `from`.
 fn put_entry(list: &[u8], from: usize, c: usize, rest: usize, part: &mut [u8])
     requires { ⌜ (c < 256) × (rest < 256) × (from + rest ≤ length (now list)) × (length (now part) ≡ rest + 2) ⌝ }
@@ -60,20 +36,7 @@ fn put_entry(list: &[u8], from: usize, c: usize, rest: usize, part: &mut [u8])
     part[1] = rest as u8;
 }
 
-// The same by way of a piece, which is an array of our own. As far as the compiler knows, two slices that a caller lends may overlap, so it
-// copies byte by byte from one to the other; to and from an array of our own it copies all at once.
-fn write_entry(list: &[u8], from: usize, c: usize, rest: usize, part: &mut [u8], piece: &mut [u8])
-    requires { ⌜ (c < 256) × (rest ≤ longest) × (from + rest ≤ length (now list)) × (length (now part) ≡ rest + 2) × (length (now piece) ≡ pieceSize) ⌝ }
-    ensures { λ _. ⌜ now (part .exit) ≡ c ∷ rest ∷ take rest (drop from (now (list .entry))) ⌝ }
-    ensures { λ _. ⌜ length (now (piece .exit)) ≡ pieceSize ⌝ }
-{
-    let size = rest + 2;
-    put_entry(list, from, c, rest, &mut piece[0..size]);
-    bytes::copy(&piece[0..size], part);
-}
-
-// Names lo to hi as one block, of which record lo begins at `at`, with its entries at the front of the room. The piece is for one entry at a
-// time.
+// Names lo to hi as one block, of which record lo begins at `at`, with its entries at the front of the room.
 fn write_block(
     list: &[u8],
     lens: &[u8],
@@ -82,14 +45,11 @@ fn write_block(
     at: usize,
     hi: usize,
     room: &mut [u8],
-    piece: &mut [u8],
 ) -> Block
     requires { ⌜ BlockAsk (now list) (now counts) lo at hi ⌝ }
     requires { ⌜ LengthsAre (names (now list)) (now lens) ⌝ }
     requires { ⌜ length (block (now list) lo hi) ≤ length (now room) ⌝ }
-    requires { ⌜ length (now piece) ≡ pieceSize ⌝ }
     ensures { λ r. ⌜ BlockPut (now (list .entry)) lo hi (now (room .entry)) (now (room .exit)) (r .size) (r .next) ⌝ }
-    ensures { λ _. ⌜ length (now (piece .exit)) ≡ pieceSize ⌝ }
 {
     let mut size: usize = 0;
     let mut next = at;
@@ -99,7 +59,7 @@ fn write_block(
         let c = count_of(counts, lo, i);
         let rest = len - c;
         let end = size + 2 + rest;
-        write_entry(list, next + 1 + c, c, rest, &mut room[size..end], piece);
+        put_entry(list, next + 1 + c, c, rest, &mut room[size..end]);
         size = end;
         next += 1 + len;
         i += 1;
@@ -107,46 +67,35 @@ fn write_block(
     Block { size, next }
 }
 
-// The entries of all names, in blocks of k.
-pub fn write_entries(list: &[u8], n: usize, lens: &[u8], counts: &[u8], k: usize, room: &mut [u8])
+// The entries of all names, in blocks of k, and the block table behind them, which begins at `table`.
+pub fn write_blocks(
+    list: &[u8],
+    n: usize,
+    lens: &[u8],
+    counts: &[u8],
+    k: usize,
+    table: usize,
+    room: &mut [u8],
+)
     requires { ⌜ EntriesAsk (now list) n (now counts) k ⌝ }
     requires { ⌜ LengthsAre (names (now list)) (now lens) ⌝ }
-    requires { ⌜ length (now room) ≡ length (entryPart k (names (now list))) ⌝ }
-    ensures { λ _. ⌜ now (room .exit) ≡ entryPart k (names (now (list .entry))) ⌝ }
+    requires { ⌜ (table ≡ length (entryPart k (names (now list)))) × (length (now room) ≡ table + length (blockPart k (names (now list)))) ⌝ }
+    ensures { λ _. ⌜ now (room .exit) ≡ entryPart k (names (now (list .entry))) ++ blockPart k (names (now (list .entry))) ⌝ }
 {
-    let mut piece = [0u8; PIECE];
     let mut lo: usize = 0;
     let mut at: usize = 0;
     let mut size: usize = 0;
+    let mut row = table;
     while lo < n {
         let hi = numbers::lesser(lo + k, n);
-        let b = write_block(
-            list,
-            lens,
-            counts,
-            lo,
-            at,
-            hi,
-            &mut room[size..],
-            &mut piece,
-        );
+        let next = row + 2;
+        numbers::put16(&mut room[row..next], size);
+        let b = write_block(list, lens, counts, lo, at, hi, &mut room[size..table]);
         size += b.size;
         at = b.next;
         lo = hi;
+        row = next;
     }
-}
-
-// Number i of a row of numbers, where the row so far fits.
-fn put_number(room: &mut [u8], i: usize, v: usize)
-    requires { ⌜ i < 2000 ⌝ }
-    ensures { λ _. ⌜ NumberPut (now (room .entry)) (now (room .exit)) i v ⌝ }
-{
-    let a = 2 * i;
-    let b = a + 2;
-    if room.len() < b {
-        return;
-    }
-    numbers::put16(&mut room[a..b], v);
 }
 
 // How many blocks there are, and the size of all entries.
@@ -187,25 +136,4 @@ pub fn survey_blocks(list: &[u8], n: usize, counts: &[u8], k: usize) -> Survey
         count,
         size: list.len() + n - shared,
     }
-}
-
-// The block table, where it fits: where each block's entries begin.
-pub fn write_table(list: &[u8], n: usize, counts: &[u8], k: usize, room: &mut [u8]) -> Survey
-    requires { ⌜ EntriesAsk (now list) n (now counts) k ⌝ }
-    ensures { λ r. ⌜ Surveyed (now (list .entry)) k (now (room .entry)) (now (room .exit)) (r .count) (r .size) ⌝ }
-{
-    let mut lo: usize = 0;
-    let mut at: usize = 0;
-    let mut size: usize = 0;
-    let mut count: usize = 0;
-    while lo < n {
-        put_number(room, count, size);
-        let hi = numbers::lesser(lo + k, n);
-        let b = block_size(list, counts, lo, at, hi);
-        size += b.size;
-        at = b.next;
-        lo = hi;
-        count += 1;
-    }
-    Survey { count, size }
 }

@@ -4,7 +4,7 @@
 --     sizes-are, table-fits, ..       the sizes, by counting
 --     trailer-is                      the trailer as eight numbers
 --     sized-..                        how the parts lie in a room that is large enough
---     put, table-part, book-lent      four parts, each from where the one before ended, are the book
+--     put, blocks-part, table-part, book-lent      three parts, each from where the one before ended, are the book
 --     ends-nine, ends-four, ends-done how a build ends
 -- Assumes nothing.
 use Prim.Native.Nat.{ℕ, zero, suc, _+_, _-_, _*_, _≤_, _<_}
@@ -38,7 +38,7 @@ use Rattle.symbols.specs.Rules.{ruleBy}
 use Rattle.symbols.specs.declared.Rule.{Rule as ByRule}
 use Rattle.nodes.specs.Writing.{NodesAsk, NodesPut}
 use Rattle.nodes.specs.Counting.{NodeCount}
-use Rattle.blocks.specs.Writing.{LengthsAre, SumsAre, Surveyed}
+use Rattle.blocks.specs.Writing.{LengthsAre, SumsAre}
 use Rattle.build.specs.Whole.{builtOf, BuildAsk, RecordCount, Sized, TablePut}
 
 -- a room with a part of it lent and filled
@@ -134,73 +134,58 @@ module _ {κ : BookKind} {s : Bytes} {n : ℕ} {lens counts shares : List ℕ} {
             → _≡_ {A = List ℕ} (a₁ ∷ k ∷ b₁ ∷ c₁ ∷ d₁ ∷ e₁ ∷ []) (a₂ ∷ k ∷ b₂ ∷ c₂ ∷ d₂ ∷ e₂ ∷ [])
         six p q r t u = cc
 
-    -- four parts, each from where the one before ended
-    module _ (room x y : Bytes) {c e : ℕ} (big : total ≤ length room) (x-is : x ≡ entryPart k (names s))
-        (t : Surveyed s k (take (nodes - blocks) (drop blocks (put room 0 blocks x))) y c e) where
+    -- entries and block table are lent as one part
+    pub blocks-part : (room : Bytes) → total ≤ length room → length (take (nodes - 0) (drop 0 room)) ≡ blocks + length (blockPart k (names s))
+    blocks-part room big = part-length room 0 (nodes - 0) (omega (arith, z .whole)) ∙ omega (arith, z .nodes-start)
+
+    -- three parts, each from where the one before ended
+    module _ (room x : Bytes) (big : total ≤ length room) (x-is : x ≡ entryPart k (names s) ++ blockPart k (names s)) where
       abbrev r₁ : Bytes
-      r₁ = put room 0 blocks x
+      r₁ = put room 0 nodes x
 
-      abbrev r₂ : Bytes
-      r₂ = put r₁ blocks nodes y
-
-      l₁ : length x ≡ blocks
-      l₁ = ap length x-is ∙ sym (z .blocks-start)
+      l₁ : length x ≡ nodes
+      l₁ = ap length x-is ∙ length-append (entryPart k (names s)) (blockPart k (names s)) ∙ omega (arith, z .blocks-start, z .nodes-start)
 
       p₁ : r₁ ≡ over x room
-      p₁ = lent [] room room x 0 (blocks - 0) refl refl (omega (arith, z .nodes-start, z .whole)) (omega (arith, l₁))
+      p₁ = lent [] room room x 0 (nodes - 0) refl refl (omega (arith, z .whole)) (omega (arith, l₁))
 
-      k₁ : length r₁ ≡ length room
-      k₁ = ap length p₁ ∙ over-length x room (omega (arith, l₁, z .nodes-start, z .whole))
-
-      y-is : y ≡ blockPart k (names s)
-      y-is = t .put (part-length r₁ blocks (nodes - blocks) (omega (arith, k₁, z .nodes-start, z .whole)) ∙ omega (arith, z .nodes-start, t .sums .count-is))
-
-      l₂ : length y ≡ nodes - blocks
-      l₂ = ap length y-is ∙ omega (arith, z .nodes-start)
-
-      p₂ : r₂ ≡ over (x ++ y) room
-      p₂ = lent x room r₁ y blocks (nodes - blocks) p₁ l₁ (omega (arith, z .nodes-start, z .whole)) l₂
-
-      l₁₂ : length (x ++ y) ≡ nodes
-      l₁₂ = length-append x y ∙ omega (arith, l₁, l₂, z .nodes-start)
-
-      table-part : length (take (total - 16 - nodes) (drop nodes (put (put room 0 blocks x) blocks nodes y))) ≡ count * recordSize (formOf κ)
+      table-part : length (take (total - 16 - nodes) (drop nodes (put room 0 nodes x))) ≡ count * recordSize (formOf κ)
       table-part =
-          part-length r₂ nodes (total - 16 - nodes) (omega (arith, ap length p₂ ∙ over-length (x ++ y) room (omega (arith, l₁₂, z .whole)), z .whole)) ∙ omega (arith, z .whole)
+          part-length r₁ nodes (total - 16 - nodes) (omega (arith, ap length p₁ ∙ over-length x room (omega (arith, l₁, z .whole)), z .whole)) ∙ omega (arith, z .whole)
 
-      module _ (w v : Bytes) (q : TablePut κ s (take (total - 16 - nodes) (drop nodes (put (put room 0 blocks x) blocks nodes y))) w) (v-is : v ≡ trailer (markOf κ) n k blocks nodes count total) where
-        abbrev r₃ : Bytes
-        r₃ = put r₂ nodes (total - 16) w
+      module _ (w v : Bytes) (q : TablePut κ s (take (total - 16 - nodes) (drop nodes (put room 0 nodes x))) w) (v-is : v ≡ trailer (markOf κ) n k blocks nodes count total) where
+        abbrev r₂ : Bytes
+        r₂ = put r₁ nodes (total - 16) w
 
         w-is : w ≡ numbers (tableIn (formOf κ) (ruleOf κ) (names s))
         w-is = q .put (table-part ∙ ap (λ (i : ℕ). i * recordSize (formOf κ)) (z .number))
 
-        l₃ : length w ≡ total - 16 - nodes
-        l₃ = ap length w-is ∙ omega (arith, table-length (formOf κ) (ruleOf κ) (names s), ap (λ (i : ℕ). i * recordSize (formOf κ)) (z .number), z .whole)
+        l₂ : length w ≡ total - 16 - nodes
+        l₂ = ap length w-is ∙ omega (arith, table-length (formOf κ) (ruleOf κ) (names s), ap (λ (i : ℕ). i * recordSize (formOf κ)) (z .number), z .whole)
 
-        l₄ : length v ≡ 16
-        l₄ =
+        l₃ : length v ≡ 16
+        l₃ =
             ap length (v-is ∙ trailer-is) ∙ length-append (numbers (trailerNumbers (kind-layout κ) k (names s))) (markOf κ)
             ∙ omega (arith, numbers-length (trailerNumbers (kind-layout κ) k (names s)), mark-length κ)
 
-        p₃ : r₃ ≡ over ((x ++ y) ++ w) room
-        p₃ = lent (x ++ y) room r₂ w nodes (total - 16 - nodes) p₂ l₁₂ (omega (arith, z .whole)) l₃
+        p₂ : r₂ ≡ over (x ++ w) room
+        p₂ = lent x room r₁ w nodes (total - 16 - nodes) p₁ l₁ (omega (arith, z .whole)) l₂
 
-        parts : ((x ++ y) ++ w) ++ v ≡ book κ k (names s)
+        parts : (x ++ w) ++ v ≡ book κ k (names s)
         parts =
             let es : Bytes = entryPart k (names s) in
             let bs : Bytes = blockPart k (names s) in
             let ns : Bytes = numbers (tableIn (formOf κ) (ruleOf κ) (names s)) in
             let end : Bytes = numbers (trailerNumbers (kind-layout κ) k (names s)) ++ markOf κ in
             let grouped : ((es ++ bs) ++ ns) ++ end ≡ es ++ (bs ++ (ns ++ end)) = simp append-assoc in
-            ap₂ (λ (i j : Bytes). ((i ++ y) ++ w) ++ j) x-is (v-is ∙ trailer-is)
-            ∙ ap₂ (λ (i j : Bytes). ((es ++ i) ++ j) ++ end) y-is w-is
+            ap₂ (λ (i j : Bytes). (i ++ w) ++ j) x-is (v-is ∙ trailer-is)
+            ∙ ap (λ (i : Bytes). ((es ++ bs) ++ i) ++ end) w-is
             ∙ grouped ∙ sym (book-parts (kind-layout κ) k (names s))
 
-        pub book-lent : put (put (put (put room 0 blocks x) blocks nodes y) nodes (total - 16) w) (total - 16) total v ≡ over (book κ k (names s)) room
+        pub book-lent : put (put (put room 0 nodes x) nodes (total - 16) w) (total - 16) total v ≡ over (book κ k (names s)) room
         book-lent =
-            lent ((x ++ y) ++ w) room r₃ v (total - 16) (total - (total - 16)) p₃ (length-append (x ++ y) w ∙ omega (arith, l₁₂, l₃, z .whole)) (omega (arith, z .whole))
-            (l₄ ∙ omega (arith, z .whole))
+            lent (x ++ w) room r₂ v (total - 16) (total - (total - 16)) p₂ (length-append x w ∙ omega (arith, l₁, l₂, z .whole)) (omega (arith, z .whole))
+            (l₃ ∙ omega (arith, z .whole))
             ∙ ap (λ (i : Bytes). over i room) parts
 
     -- ---- how it ends

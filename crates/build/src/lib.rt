@@ -1,4 +1,4 @@
-// Building a book from a list: it is judged; then come the sizes, and then four writers, each on its own part of the room, so that
+// Building a book from a list: it is judged; then come the sizes, and then three writers, each on its own part of the room, so that
 // nothing is written before it is known that all of it fits. What a kind of book has of its own is its rule, its table and its mark: the
 // table is counted and written by its form.
 ghost use mathlib.Core.Path.{_≡_};
@@ -96,8 +96,7 @@ fn write_book(
     let nodes = s.nodes;
     let total = s.total;
     let end = total - trailer::SIZE;
-    blocks::write_entries(list, n, lens, counts, k, &mut room[0..blocks]);
-    blocks::write_table(list, n, counts, k, &mut room[blocks..nodes]);
+    blocks::write_blocks(list, n, lens, counts, k, blocks, &mut room[0..nodes]);
     write_records(kind, list, n, lens, shares, &mut room[nodes..end]);
     trailer::put_trailer(
         &mut room[end..total],

@@ -1,6 +1,6 @@
--- `build::write_book` meets its contract: one law puts the four parts together.
+-- `build::write_book` meets its contract: one law puts the three parts together.
 -- Assumes nothing.
-use Rattle.build.proofs.WholeBook.{book-lent, lengths-are}
+use Rattle.build.proofs.WholeBook.{blocks-part, book-lent, lengths-are}
 use native.Mathlib.Omega.{arith}
 use borrow.Author.Needs.{needs}
 use Rattle.build.proofs.write_book.Statement.{statement}
@@ -8,10 +8,9 @@ use Rattle.build.proofs.write_book.Tie as tie
 
 returns : tie.Need-returns
 returns c =
-    let start : tie.Start = c .before .before .before .before .before .before .before .before .before .before .before .before .before .before .before .before .before .before .before .before .before in
-    book-lent (start .pre .0) (start .pre .1 .0) _ _ _ (start .pre .1 .1)
-    (c .before .before .before .before .before .before .before .before .before .before .before .before .before .before .write-entries .ensures)
-    (c .before .before .before .before .before .before .before .before .before .before .write-table .ensures) _ _
+    let start : tie.Start = c .before .before .before .before .before .before .before .before .before .before .before .before .before .before .before .before .before in
+    book-lent (start .pre .0) (start .pre .1 .0) _ _ (start .pre .1 .1)
+    (c .before .before .before .before .before .before .before .before .before .before .write-blocks .ensures) _ _
     (c .before .before .before .before .before .before .write-records .ensures) (c .before .before .put-trailer .ensures)
 
 pub write-book-spec : {M : Type 1} → statement M
@@ -22,7 +21,7 @@ write-book-spec =
     (λ c. search needs)
     (λ c. search needs)
     (λ c. search needs)
-    (λ c κs. (search needs, (search lengths-are, search needs)))
+    (λ c κs. (search needs, (search lengths-are, (search needs, search blocks-part))))
     (λ c. search needs)
     (λ c. search needs)
     (λ c. search needs)
@@ -30,10 +29,6 @@ write-book-spec =
     (λ c. search needs)
     (λ c. search needs)
     (λ c. search needs)
-    (λ c κs. search needs)
-    (λ c. search needs)
-    (λ c. search needs)
-    (λ c. search needs)
-    (λ c κs. search (needs, c .before .before .before .before .before .before .before .before .before .before .before .before .before .before .before .before .before .before .pre .1 .0 .whole))
+    (λ c κs. search (needs, c .before .before .before .before .before .before .before .before .before .before .before .before .before .before .pre .1 .0 .whole))
     (λ c. omega arith)
     returns)
