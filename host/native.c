@@ -1,6 +1,6 @@
 /* The calls for a processor other than x86-64.
  *
- * The prover writes each call as C on x86-64 sees it: an answer, or a head, is three numbers, and the caller says in a first argument
+ * The prover writes each call as C on x86-64 sees it: an answer is three numbers or five, a head three, and the caller says in a first argument
  * where they go. Other processors hand that place over in another way, so what the prover wrote gets other names (host/archive.sh), and
  * the calls are these functions, which the compiler knows as C. For tests and benchmarks only, as the archive that holds them.
  */
@@ -9,6 +9,10 @@ typedef __SIZE_TYPE__ size;
 
 struct answer {
     size code, first, second;
+};
+
+struct counted {
+    size code, first, second, visits, entries;
 };
 
 struct row {
@@ -51,20 +55,20 @@ struct answer book_read(const byte *book, size book_length, size position, byte 
     return *written_book_read(&given, book, book_length, position, room, room_length);
 }
 
-/* A call that reads two runs of bytes and takes nothing else: a question to a book, or two lists. */
-#define READS_TWO(name)                                                                                         \
-    struct answer *written_##name(struct answer *, const byte *, size, const byte *, size);                     \
-    struct answer name(const byte *one, size one_length, const byte *other, size other_length) {                \
-        struct answer given;                                                                                    \
+/* A call that reads two runs of bytes and takes nothing else: two lists, or a question to a book. */
+#define READS_TWO(shape, name)                                                                                  \
+    struct shape *written_##name(struct shape *, const byte *, size, const byte *, size);                       \
+    struct shape name(const byte *one, size one_length, const byte *other, size other_length) {                 \
+        struct shape given;                                                                                     \
         return *written_##name(&given, one, one_length, other, other_length);                                   \
     }
 
-READS_TWO(book_exact)
-READS_TWO(book_place)
-READS_TWO(book_range)
-READS_TWO(book_nearest)
-READS_TWO(book_width)
-READS_TWO(list_judge)
+READS_TWO(counted, book_exact)
+READS_TWO(counted, book_place)
+READS_TWO(counted, book_range)
+READS_TWO(counted, book_nearest)
+READS_TWO(counted, book_width)
+READS_TWO(answer, list_judge)
 
 struct answer book_batch(const byte *book, size book_length, const byte *questions, size questions_length, const struct row *rows,
                          size row_count, struct answer *answers, size answer_count) {

@@ -32,10 +32,10 @@
  *
  * WHAT A CALL GIVES
  *
- * Every call but list_head gives three numbers. The code is 0 where the call was
- * accepted, else the number of a refusal. The two beside it are 0 where nothing
- * else is said. Where several refusals would fit, the first in the order that
- * stands over the call is given.
+ * Every call but list_head gives three numbers, and a single question two more.
+ * The code is 0 where the call was accepted, else the number of a refusal. The
+ * others are 0 where nothing else is said. Where several refusals would fit, the
+ * first in the order that stands over the call is given.
  *
  * A refused call changes nothing that was lent to it. An accepted one writes
  * its output at the front of the lent room and leaves the rest as it was.
@@ -73,8 +73,8 @@
  *   mode that takes a stack of its own for interrupts (docs/TRUST.md).
  *
  * The code is for x86-64 with the calling convention of System V (Linux and its
- * kin); there a struct of three words comes back through memory, which a C or
- * C++ compiler does by itself. It keeps nothing between calls, asks for no heap,
+ * kin); there a struct of three words or five comes back through memory, which a C
+ * or C++ compiler does by itself. It keeps nothing between calls, asks for no heap,
  * and calls memcpy and memset and nothing else, so several threads may call at
  * a time.
  *
@@ -104,7 +104,7 @@ extern "C" {
 #endif
 
 /* The version, of which CHANGELOG.md says what it brought. */
-#define MISTROGU_VERSION "0.7.0"
+#define MISTROGU_VERSION "0.8.0"
 /* The most bytes of a name, and of a question. */
 #define MISTROGU_LONGEST_NAME 200
 /* The most names of a book. */
@@ -169,6 +169,15 @@ struct mistrogu_answer {
     size_t code;
     size_t first;
     size_t second;
+};
+
+/* What a single question gives: an answer's three numbers, and how far it looked. */
+struct mistrogu_counted {
+    size_t code;
+    size_t first;
+    size_t second;
+    size_t visits;
+    size_t entries;
 };
 
 /* A question of a batch: its kind, and the span of the buffer that it is. */
@@ -280,6 +289,14 @@ struct mistrogu_answer MISTROGU_CALL(book_read)(
  * all of its time goes there: whoever has several questions asks a batch. Of a
  * folded book, 'equals', 'less', 'begins' and 'shares' below go by letters,
  * capitals counted as small ones, in the names and in the question.
+ *
+ * Behind its answer each tells how far it looked, the check left aside: how many
+ * nodes of the table it visited going down, the root and the last one counted, and
+ * how many entries it read to rebuild the one name that it compared. To one
+ * question all five look equally far: at the nodes that lead to nearest's name.
+ * With n names in blocks of k, visits are 1 at least, and at most n and at most the
+ * question's length plus 2; entries are 1 to k: nearest's position modulo k, plus
+ * 1. Of a book without names, and where the question is refused, both are 0.
  */
 
 /*
@@ -288,7 +305,7 @@ struct mistrogu_answer MISTROGU_CALL(book_read)(
  * Accepted: (0, position, 1) where there is one, else (0, 0, 0).
  * Refused: 2, 1.
  */
-struct mistrogu_answer MISTROGU_CALL(book_exact)(
+struct mistrogu_counted MISTROGU_CALL(book_exact)(
     const uint8_t *book, size_t book_length,
     const uint8_t *question, size_t question_length)
     MISTROGU_NEVER_NULL;
@@ -299,7 +316,7 @@ struct mistrogu_answer MISTROGU_CALL(book_exact)(
  * Accepted: (0, their number, 0).
  * Refused: 2, 1.
  */
-struct mistrogu_answer MISTROGU_CALL(book_place)(
+struct mistrogu_counted MISTROGU_CALL(book_place)(
     const uint8_t *book, size_t book_length,
     const uint8_t *question, size_t question_length)
     MISTROGU_NEVER_NULL;
@@ -311,7 +328,7 @@ struct mistrogu_answer MISTROGU_CALL(book_place)(
  * Accepted: (0, the question's place, how many names begin with it).
  * Refused: 2, 1.
  */
-struct mistrogu_answer MISTROGU_CALL(book_range)(
+struct mistrogu_counted MISTROGU_CALL(book_range)(
     const uint8_t *book, size_t book_length,
     const uint8_t *question, size_t question_length)
     MISTROGU_NEVER_NULL;
@@ -334,7 +351,7 @@ struct mistrogu_answer MISTROGU_CALL(book_range)(
  * Accepted: (0, its position, how many leading bytes of the question to light).
  * Refused: 2, 1, 10.
  */
-struct mistrogu_answer MISTROGU_CALL(book_nearest)(
+struct mistrogu_counted MISTROGU_CALL(book_nearest)(
     const uint8_t *book, size_t book_length,
     const uint8_t *question, size_t question_length)
     MISTROGU_NEVER_NULL;
@@ -348,7 +365,7 @@ struct mistrogu_answer MISTROGU_CALL(book_nearest)(
  * a book without names.
  * Refused: 2, 1.
  */
-struct mistrogu_answer MISTROGU_CALL(book_width)(
+struct mistrogu_counted MISTROGU_CALL(book_width)(
     const uint8_t *book, size_t book_length,
     const uint8_t *question, size_t question_length)
     MISTROGU_NEVER_NULL;

@@ -3,7 +3,7 @@
 -- the one without names. Each line has what the documents say and not what a branch of a definition says, so a wrong definition shows here by its numbers.
 --     build-refusals    8, 5, 6, 4; lists too long for a book, 7 and 9, are computed in the theorems' Edges
 --     mar-twice         a folded build of Mar and mar: 6
---     check-refusals, read-refusals, question-refusals
+--     check-refusals, read-refusals, question-refusals, counted-refusals
 --     batch-refusals, batch-taken, batch-rows-alone, batch-rows-none
 --     judge-refusals, merge-refusals, put-2001, put-2000, merge-taken     5 and 6 of either list; 4; 7 of the names that a merge has put together
 --     head-refusals, heads-computed
@@ -26,6 +26,7 @@ use Rattle.format.specs.Salvage.{boundsFrom, climbs, judgedAlone, mapped, spans
 use Rattle.format.specs.Spans.{nodeTable}
 use Rattle.format.specs.Widths.{widest}
 use Rattle.answers.specs.Calls.{Row, batch, batchOf, build, buildBy, builtFrom, check, namesAnswer, question, questionOf, readBack, readBackOf, rowAnswer}
+use Rattle.answers.specs.Counts.{countedOf, countedQuestion, entries, namesCounted, unlooked, visits}
 use Rattle.answers.specs.Heads.{Head, headOf, lesserHead}
 use Rattle.answers.specs.Lit.{lit, mayEnd}
 use Rattle.answers.specs.Merging.{judgeLists, mergeLists, ofReadings, putNames}
@@ -127,6 +128,11 @@ asks =
 pub question-refusals : map (λ (c : QuestionRow × Answer). question (c .0 .0) (c .0 .1) (c .0 .2)) asks ≡ map (λ (c : QuestionRow × Answer). c .1) asks
 unfolding shared less begins same depth glue groups widest rowBy tableWithin nodeTable table numbers joined entry blocksFrom front blocks offsets entryPart blockPart allFields trailer bookBy decodeFrom decode number rising sound fitsBy namesOf isBookBy opened childOf reachWithin reached count exactFrom exact place range width nearest ask mayEnd lit answer namesAnswer questionOf question
 question-refusals = refl
+
+-- nothing is looked at but for the last one, which goes no further than the root
+pub counted-refusals : map (λ (c : QuestionRow × Answer). countedQuestion (c .0 .0) (c .0 .1) (c .0 .2)) asks ≡ map (λ (c : QuestionRow × Answer). unlooked (c .1 .code)) (take 15 asks) ++ (record { answer = given 0 0; visits = 1; entries = 1 } ∷ [])
+unfolding shared less begins same depth glue groups widest rowBy tableWithin nodeTable table numbers joined entry blocksFrom front blocks offsets entryPart blockPart allFields trailer bookBy decodeFrom decode number rising sound fitsBy namesOf isBookBy opened childOf reachWithin reached count exactFrom exact place range width nearest ask mayEnd lit answer namesAnswer visits entries namesCounted countedOf countedQuestion
+counted-refusals = refl
 
 -- ---- batch: 12, 2; then for each row 11, 1, 10
 

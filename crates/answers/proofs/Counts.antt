@@ -1,28 +1,34 @@
--- How many nodes a search visits on its way down.
+-- How many nodes a search visits on its way down, and what a single question tells of that.
 --     visits-none       none where there are no words
 --     visits-some       one at least where there is one
 --     visits-few        no more than there are words
 --     visits-met        both bounds are met: a, ab and b, and the question a
 --     visits-short      no more than q's length and 2: depths rise along the way, and q goes down only from those that its length reaches
+--     entries-some      where there are words, the entries of the block up to the position reached
+--     counted-answer    a single question's answer is that of the same question in a batch
+--     counted-no, counted-given     what is told beside a refusal, and beside another answer
 -- Assumes nothing.
-use Prim.Native.Nat.{ℕ, zero, suc, _+_, _≤_, zero-le}
+use Prim.Native.Nat.{ℕ, zero, suc, _+_, _%_, _≤_, _<_, zero-le}
 use native.Mathlib.Nat.{le-of-suc-le-suc, not-suc-le-zero}
 use native.Mathlib.Omega.{arith}
-use mathlib.Core.Path.{_≡_, refl, sym, subst}
+use mathlib.Core.Path.{_≡_, _∙_, ap, refl, sym, subst}
 use mathlib.Core.Bool.{Bool, true, false}
-use mathlib.Core.List.{List, [], _∷_}
+use mathlib.Core.List.{List, [], _∷_, map}
 use lib.Dec.{ltb, eqb}
 use lib.ListN.{length}
-use borrow.Author.Tests.{ltb-false}
+use borrow.Author.Tests.{eq-eqb, ltb-false, ne-eqb}
 use Rattle.words.specs.Rising.{All, Rises, cons}
-use Rattle.words.specs.Words.{Words, at, pick, shared}
+use Rattle.words.specs.Words.{Bytes, Rule, Words, at, pick, shared, word}
 use Rattle.words.proofs.Lists.{all-head, all-left, all-map, all-right, all-tail}
 use Rattle.words.proofs.Rising.{rises-left, rises-right}
 use Rattle.format.specs.Nodes.{depth, glue, groups}
+use Rattle.format.specs.Book.{Book, NoBook, Opened, opened}
+use Rattle.format.specs.Outcomes.{Answer, given, refused}
 use Rattle.format.proofs.Groups.{PartedGroups, Same, Share, Short, children, deeper, depth-share, joinedGroups, part, shorter, whole}
 use Rattle.answers.specs.Stops.{Stop, stopAt}
-use Rattle.answers.specs.Questions.{childOf, reachWithin}
-use Rattle.answers.specs.Counts.{visits}
+use Rattle.answers.specs.Questions.{childOf, reachWithin, reached}
+use Rattle.answers.specs.Calls.{namesAnswer, question, questionOf}
+use Rattle.answers.specs.Counts.{Counted, countedOf, countedQuestion, entries, namesCounted, unlooked, visits}
 
 pub visits-none : (q : List ℕ) → visits q [] ≡ 0
 unfolding visits reachWithin
@@ -125,3 +131,28 @@ three = lone ∷ (98 ∷ 99 ∷ []) ∷ (99 ∷ []) ∷ []
 pub visits-met : (visits lone three ≡ length three) × (visits lone three ≡ length lone + 2)
 unfolding shared depth glue groups childOf reachWithin visits
 visits-met = (refl, refl)
+
+-- ---- a single question
+
+pub entries-some : (k : ℕ) (q : List ℕ) (ws : Words) → 0 < length ws → entries k q ws ≡ suc (reached q ws % k)
+unfolding entries
+entries-some k q [] h = absurd (omega arith)
+entries-some k q (w ∷ ws) h = refl
+
+pub counted-answer : (kind : ℕ) (s q : Bytes) → countedQuestion kind s q .answer ≡ question kind s q
+unfolding countedQuestion question countedOf questionOf namesCounted
+counted-answer kind s q = go (opened s)
+  where
+    go : (o : Opened) → countedOf kind q o .answer ≡ questionOf kind q o
+    go NoBook = refl
+    go (Book κ k xs) = refl
+
+module _ (ρ : Rule) (k kind : ℕ) (q : Bytes) (xs : List Bytes) where
+  pub counted-no : (code : ℕ) → (code ≡ 0 → ⊥) → namesAnswer ρ kind q xs ≡ refused code → namesCounted ρ k kind q xs ≡ unlooked code
+  unfolding namesCounted
+  counted-no code n e = rw (e, ne-eqb code 0 n) refl
+
+  pub counted-given : (x y : ℕ) → namesAnswer ρ kind q xs ≡ given x y
+      → namesCounted ρ k kind q xs ≡ record { answer = given x y; visits = visits (word ρ q) (map (word ρ) xs); entries = entries k (word ρ q) (map (word ρ) xs) }
+  unfolding namesCounted
+  counted-given x y e = rw e refl

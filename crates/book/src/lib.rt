@@ -4,19 +4,21 @@
 // functions, which may ask something, stand in the crates below.
 use kinds::Kind;
 pub use shapes::Answer;
+pub use shapes::Counted;
 pub use shapes::Head;
 pub use shapes::Kept;
 pub use shapes::Row;
 ghost use mathlib.Core.Path.{_≡_};
 ghost use mathlib.Core.List.{map};
 ghost use Rattle.format.specs.Kinds.{FoldedBook, PlainBook};
-ghost use Rattle.answers.specs.Calls.{batch, build, check, question as askedOf, readBack};
+ghost use Rattle.answers.specs.Calls.{batch, build, check, readBack};
+ghost use Rattle.answers.specs.Counts.{countedQuestion};
 ghost use Rattle.answers.specs.Heads.{headOf, partOf};
 ghost use Rattle.answers.specs.Merging.{judgeLists, mergeLists};
 ghost use Rattle.answers.specs.Salvage.{salvage as salvageOf};
 ghost use Rattle.shapes.specs.Heads.{headed, lentPart};
 ghost use Rattle.shapes.specs.Salvage.{keptRow, salvaged};
-ghost use Rattle.shapes.specs.Shapes.{answered, rowOf, batched, written};
+ghost use Rattle.shapes.specs.Shapes.{answered, batched, counted, rowOf, written};
 
 // Builds the book of a list with blocks of so many names, at the front of the room. Refusals: 8; record by record 5, 6, 7; 9; 4.
 #[no_mangle]
@@ -77,40 +79,40 @@ pub extern "C" fn book_read(book: &[u8], position: usize, room: &mut [u8]) -> An
 
 // The position of the name that equals the question, and 1; or 0 and 0. Refusals: 2, 1.
 #[no_mangle]
-pub extern "C" fn book_exact(book: &[u8], question: &[u8]) -> Answer
-    ensures { λ r. ⌜ answered r ≡ askedOf 1 (now (book .entry)) (now (question .entry)) ⌝ }
+pub extern "C" fn book_exact(book: &[u8], question: &[u8]) -> Counted
+    ensures { λ r. ⌜ counted r ≡ countedQuestion 1 (now (book .entry)) (now (question .entry)) ⌝ }
 {
     questions::ask_alone(book, 1, question)
 }
 
 // How many names are less than the question. Refusals: 2, 1.
 #[no_mangle]
-pub extern "C" fn book_place(book: &[u8], question: &[u8]) -> Answer
-    ensures { λ r. ⌜ answered r ≡ askedOf 2 (now (book .entry)) (now (question .entry)) ⌝ }
+pub extern "C" fn book_place(book: &[u8], question: &[u8]) -> Counted
+    ensures { λ r. ⌜ counted r ≡ countedQuestion 2 (now (book .entry)) (now (question .entry)) ⌝ }
 {
     questions::ask_alone(book, 2, question)
 }
 
 // The question's place, and how many names begin with it. Refusals: 2, 1.
 #[no_mangle]
-pub extern "C" fn book_range(book: &[u8], question: &[u8]) -> Answer
-    ensures { λ r. ⌜ answered r ≡ askedOf 3 (now (book .entry)) (now (question .entry)) ⌝ }
+pub extern "C" fn book_range(book: &[u8], question: &[u8]) -> Counted
+    ensures { λ r. ⌜ counted r ≡ countedQuestion 3 (now (book .entry)) (now (question .entry)) ⌝ }
 {
     questions::ask_alone(book, 3, question)
 }
 
 // The position of a name that is as near as any, and what can be lit of the leading bytes that it shares with the question. Refusals: 2, 1, 10.
 #[no_mangle]
-pub extern "C" fn book_nearest(book: &[u8], question: &[u8]) -> Answer
-    ensures { λ r. ⌜ answered r ≡ askedOf 4 (now (book .entry)) (now (question .entry)) ⌝ }
+pub extern "C" fn book_nearest(book: &[u8], question: &[u8]) -> Counted
+    ensures { λ r. ⌜ counted r ≡ countedQuestion 4 (now (book .entry)) (now (question .entry)) ⌝ }
 {
     questions::ask_alone(book, 4, question)
 }
 
 // The greatest length of the names that begin with the question; 0 where none does. Refusals: 2, 1.
 #[no_mangle]
-pub extern "C" fn book_width(book: &[u8], question: &[u8]) -> Answer
-    ensures { λ r. ⌜ answered r ≡ askedOf 5 (now (book .entry)) (now (question .entry)) ⌝ }
+pub extern "C" fn book_width(book: &[u8], question: &[u8]) -> Counted
+    ensures { λ r. ⌜ counted r ≡ countedQuestion 5 (now (book .entry)) (now (question .entry)) ⌝ }
 {
     questions::ask_alone(book, 5, question)
 }

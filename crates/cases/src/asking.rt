@@ -10,7 +10,7 @@ use crate::places::Place;
 
 const HEAD: usize = 8;
 
-// Asks in all five kinds, and prints the case's number and the answers.
+// Asks in all five kinds, and prints the case's number and the answers, each with how far it looked.
 fn print_asked(number: usize, book: &[u8], question: &[u8]) {
     let exact = book::book_exact(book, question);
     let place = book::book_place(book, question);
@@ -18,11 +18,11 @@ fn print_asked(number: usize, book: &[u8], question: &[u8]) {
     let nearest = book::book_nearest(book, question);
     let width = book::book_width(book, question);
     lines::begin(number);
-    lines::add_answer(exact);
-    lines::add_answer(place);
-    lines::add_answer(range);
-    lines::add_answer(nearest);
-    lines::add_answer(width);
+    lines::add_counted(exact);
+    lines::add_counted(place);
+    lines::add_counted(range);
+    lines::add_counted(nearest);
+    lines::add_counted(width);
     lines::end();
 }
 

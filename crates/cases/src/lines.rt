@@ -23,6 +23,14 @@ pub fn add_answer(answer: book::Answer) {
     add(answer.second);
 }
 
+pub fn add_counted(counted: book::Counted) {
+    add(counted.code);
+    add(counted.first);
+    add(counted.second);
+    add(counted.visits);
+    add(counted.entries);
+}
+
 pub fn add_sums(sums: Sums) {
     add(sums.numbers);
     add(sums.sums);

@@ -7,7 +7,7 @@ use mathlib.Core.Path.{_≡_}
 use mathlib.Core.List.{List, []}
 use lib.ListN.{getD, length, take}
 use Rattle.words.specs.Words.{Bytes}
-use Rattle.format.specs.Records.{longest}
+use Rattle.format.specs.Records.{longest, mostNames}
 use Rattle.streams.specs.Streams.{Stream, entryEnd, nameAt}
 
 pub record NameRead (b : Bytes) (o : ℕ) (prev : Bytes) (next len : ℕ) (name : Bytes) : Type 0 where
@@ -21,6 +21,7 @@ pub record ReadAsk (b : Bytes) (start count : ℕ) : Type 0 where
   pub names : List Bytes
   pub stream : Stream b start [] names
   pub within : count < length names
+  pub few : count ≤ mostNames
 
 -- the name of that entry, in the first len bytes
 pub record NameIs (b : Bytes) (start count : ℕ) (name : Bytes) (len : ℕ) : Type 0 where

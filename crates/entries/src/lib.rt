@@ -1,7 +1,7 @@
 // The entries of a book, read. What an entry stores is counted in bytes, under every rule.
 // No list of the names is kept: a name is read from the one before it, into the same array.
 ghost use mathlib.Core.Path.{_≡_};
-ghost use Prim.Native.Nat.{_≤_};
+ghost use Prim.Native.Nat.{_+_, _≤_};
 ghost use lib.ListN.{length, take};
 ghost use Rattle.streams.specs.Streams.{EntryAt};
 ghost use Rattle.entries.specs.Reading.{NameIs, NameRead, ReadAsk};
@@ -11,11 +11,12 @@ pub struct Cursor {
     pub at: usize,
 }
 
-// A name that was rebuilt, and the place of the next entry.
+// A name that was rebuilt, the place of the next entry, and how many entries were read for it.
 pub struct Entry {
     pub name: [u8; 200],
     pub len: usize,
     pub next: Cursor,
+    pub read: usize,
 }
 
 // How long the name is that was read into a lent array, and the place of the next entry.
@@ -48,6 +49,7 @@ impl Cursor {
 pub fn name_of(book: &[u8], start: usize, count: usize) -> Entry
     requires { ⌜ ReadAsk (now book) start count ⌝ }
     ensures { λ r. ⌜ NameIs (now (book .entry)) start count (r .name) (r .len) ⌝ }
+    ensures { λ r. ⌜ r .read ≡ count + 1 ⌝ }
 {
     let mut cur = Cursor { at: start };
     let mut name = [0u8; 200];
@@ -65,5 +67,6 @@ pub fn name_of(book: &[u8], start: usize, count: usize) -> Entry
         name,
         len: ahead.len,
         next,
+        read: i + 1,
     }
 }

@@ -2,9 +2,10 @@
 --     position-..       an accepting check lets each position be asked
 --     block-none        the block of a position where k is 0
 --     BlockFound, found, found-asks, found-name      where the block of a position starts, and what streams from there
+--     found-entries     how many entries are read from there on
 --     put-short, put-all            the room is too short; it holds the name
 -- Assumes nothing.
-use Prim.Native.Nat.{ℕ, _*_, _+_, _-_, _/_, _<_, _≤_}
+use Prim.Native.Nat.{ℕ, _*_, _+_, _-_, _/_, _%_, _<_, _≤_}
 use native.Mathlib.Nat.{div-add-mod', div-le-self, div-zero}
 use native.Mathlib.Omega.{arith}
 use mathlib.Core.Path.{_≡_, _∙_, ap, refl, subst, sym}
@@ -27,7 +28,7 @@ use Rattle.accept.specs.Parts.{checkOn}
 use Rattle.accept.specs.declared.Checked.{Checked}
 use Rattle.accept.specs.declared.Checked.the-variants.{Sound}
 use Rattle.accept.proofs.Judging.{SoundBook, checked-sound}
-use Rattle.names.specs.Names.{Named, PositionAsk, Put}
+use Rattle.names.specs.Names.{Named, PositionAsk, Put, entriesTo}
 
 -- ---- what can be asked
 
@@ -77,7 +78,7 @@ found-told b t position a =
       few = omega (arith, within, has .count, p .trail .few);
       below = div-le-self position k;
       first = first;
-      reads = record { names = drop (position / k * k) (has .names); stream = f .stream; within = u };
+      reads = record { names = drop (position / k * k) (has .names); stream = f .stream; within = u; few = omega (arith, within, has .count, p .trail .few) };
       gives = λ name len n. record {
         name-is = n .named (drop (position / k * k) (has .names)) (f .stream) u
             ∙ getD-drop (position / k * k) (has .names) (position - position / k * k) []
@@ -100,6 +101,11 @@ module _ {b : Bytes} {k position table block start : ℕ} (f : BlockFound b k po
 
   pub found-name : (name : Bytes) (len : ℕ) → NameIs b start (position - block * k) name len → Named (getD (namesOf b) position []) len name
   found-name name len n = f .gives name len (subst (λ (o : ℕ). NameIs b o (position - block * k) name len) e n)
+
+-- from the block's first entry on
+pub found-entries : {b : Bytes} {t : Trailer} {k position block : ℕ} → PositionAsk b t position → k ≡ t .block → block ≡ position / k → (r : ℕ) → r ≡ position - block * k + 1 → r ≡ entriesTo (told b 1) position
+found-entries {b} {t} {k} {position} {block} a ke f r e =
+    e ∙ omega (arith, ap (λ (n : ℕ). n * k) f, div-add-mod' position k, ap (λ (n : ℕ). position % n) (ke ∙ a .block))
 
 -- ---- at the front of a room
 

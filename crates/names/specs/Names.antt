@@ -1,9 +1,10 @@
 -- What reading a name back asks of the bytes, and what it gives.
 --     PositionAsk       the parts of a book have passed, its trailer was read, and it has a name at the position
 --     Named             the front of an array of 200 bytes is the name
+--     entriesTo         how many entries its block has up to the one at a position
 --     Put               the name stands at the front of the room, where it fits
 -- Assumes nothing: these are definitions.
-use Prim.Native.Nat.{ℕ, _<_, _≤_}
+use Prim.Native.Nat.{ℕ, suc, _%_, _<_, _≤_}
 use mathlib.Core.Path.{_≡_}
 use lib.Dec.{leb}
 use lib.ListN.{length, take}
@@ -24,6 +25,9 @@ pub record Named (x : Bytes) (len : ℕ) (name : Bytes) : Type 0 where
   pub name-is : take len name ≡ x
   pub room : len ≤ longest
   pub size : length name ≡ longest
+
+abbrev pub entriesTo : ℕ → ℕ → ℕ
+entriesTo k position = suc (position % k)
 
 -- a name has at least one byte, so 0 says that the room is too short
 pub record Put (x room : Bytes) (len : ℕ) (after : Bytes) : Type 0 where

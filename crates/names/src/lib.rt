@@ -3,8 +3,8 @@ ghost use mathlib.Core.Path.{_≡_};
 ghost use mathlib.Core.List.{[]};
 ghost use Prim.Native.Nat.{_/_};
 ghost use lib.ListN.{getD};
-ghost use Rattle.format.specs.Book.{namesOf};
-ghost use Rattle.names.specs.Names.{Named, PositionAsk, Put};
+ghost use Rattle.format.specs.Book.{namesOf, told};
+ghost use Rattle.names.specs.Names.{Named, PositionAsk, Put, entriesTo};
 
 // The block of a position. k is never 0; that it is asked leaves no trap in the compiled code, in front of which every array that is used
 // later would be copied.
@@ -21,6 +21,7 @@ fn block_of(k: usize, position: usize) -> usize
 pub fn read_name(book: &[u8], t: trailer::Trailer, position: usize) -> entries::Entry
     requires { ⌜ PositionAsk (now book) t position ⌝ }
     ensures { λ r. ⌜ Named (getD (namesOf (now (book .entry))) position []) (r .len) (r .name) ⌝ }
+    ensures { λ r. ⌜ r .read ≡ entriesTo (told (now (book .entry)) 1) position ⌝ }
 {
     let k = numbers::wide16(t.block);
     let table = numbers::wide16(t.blocks_at);

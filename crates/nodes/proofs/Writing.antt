@@ -28,7 +28,7 @@ use Rattle.records.specs.Lists.{Ready, names, startOf, words}
 use Rattle.records.proofs.Starts.{ready-rises, ready-size, ready-word, start-all, start-fits, start-name, start-next, words-length}
 use Rattle.nodes.specs.declared.LeftOpen.{LeftOpen}
 use Rattle.nodes.specs.Frames.{Cur, FramesStand, Tail, depthIn, endIn, frameCount, frameSize, leftOf, markIn, none, raised, sharesAt, symbolOf, widthIn, withFrame}
-use Rattle.nodes.specs.Writing.{Behind, Closing, Counted, LeafPut, NameAsk, NameAt, NamePut, CloseAsk, NodePut, NodesPut, Onward, Passing, PushAsk, PutBack, RaiseAsk, Rowing}
+use Rattle.nodes.specs.Writing.{Behind, Closing, RecordsDone, LeafPut, NameAsk, NameAt, NamePut, CloseAsk, NodePut, NodesPut, Onward, Passing, PushAsk, PutBack, RaiseAsk, Rowing}
 use Rattle.nodes.proofs.Frames.{Closes, cur-all, cur-close, cur-few, cur-keep, cur-leaf, cur-push, framed-raised, framed-with, nodeBy, open-depth, open-few, open-within}
 
 -- ---- one record more, in front of those at the end of a room
@@ -94,7 +94,7 @@ module _ {ρ : Rule} {rest : Bytes} {skip j left : ℕ} where
           → sy ≡ symbolOf (max left (depthIn frames top)) (nth ws j)
           → Closing ws j left frames (record { top = top; count = count + 1; end = j + 1; mark = count; width = skip + length rest }) room
       leaf-closing {top} {count} {room₀} {room} {sy} b put e =
-          let w : Counted (length ws) (suc j) count room₀ (b .done) = b .written in
+          let w : RecordsDone (length ws) (suc j) count room₀ (b .done) = b .written in
           let size : skip + length rest ≡ length (nth ws j) = sym (a .whole) in
           let node : Node = leaf j (symbolOf (max left (depthIn frames top)) (nth ws j)) (nth ws j) in
           let c : Cur ws frames j left top (suc j) (length (b .done)) (length (nth ws j)) (node ∷ b .done) = cur-leaf ws (a .rises) frames left (b .rows) in
@@ -117,7 +117,7 @@ module _ {ρ : Rule} {rest : Bytes} {skip j left : ℕ} where
             (max (p .width) (widthIn frames (p .top))))
             → Closing ws j left frames (record { top = p .top - 1; count = p .count + 1; end = endIn frames (p .top); mark = markIn frames (p .top); width = max (p .width) (widthIn frames (p .top)) }) room
         node-closing {room} sy e put =
-            let w : Counted (length ws) j (p .count) room₀ (k .done) = k .written in
+            let w : RecordsDone (length ws) j (p .count) room₀ (k .done) = k .written in
             let c = closes .next in
             let node : ℕ → ℕ → Node = λ (x y : ℕ). nodeBy x (depthIn frames (p .top) - 1) j (endIn frames (p .top) - j) (y - markIn frames (p .top) + 1) (max (p .width) (widthIn frames (p .top))) in
             record {

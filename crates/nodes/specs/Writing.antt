@@ -1,7 +1,7 @@
 -- What the writer of the node table asks and gives. Below the walk over a list nobody holds the names: what is asked is that there are
 -- words of which this is so, and what is given is given for any words of which it is so.
 --     PutBack           one record more stands in front of those at the end of a room
---     Counted           records at the end of a room, and how many
+--     RecordsDone           records at the end of a room, and how many
 --     NameAt            a piece of name j; Behind: the names behind j; Closing: the name, and nodes that begin with it
 --     NameAsk           what is asked of a name; Passing: its leaf, and nodes in front of it; LeafPut, NamePut: none, and all of them
 --     CloseAsk, NodePut  the same of the node of one frame; Onward: of those of several
@@ -25,7 +25,7 @@ pub record PutBack (room₀ room : Bytes) (w : ℕ) (node : Node) : Type 0 where
   pub tail : (done : List Node) → length done ≡ w → Tail room₀ done → Tail room (node ∷ done)
 
 -- the records `done` stand at the end of the room, as many as w
-pub record Counted (n j w : ℕ) (room : Bytes) (done : List Node) : Type 0 where
+pub record RecordsDone (n j w : ℕ) (room : Bytes) (done : List Node) : Type 0 where
   pub counted : w ≡ length done
   pub tail : Tail room done
   pub few : w + 2 * j ≤ 2 * n
@@ -43,13 +43,13 @@ pub record NameAt (ρ : Rule) (ws : Words) (rest : Bytes) (skip j left : ℕ) : 
 -- The names behind j are written; the top one of the frames that hold j is number `top`.
 pub record Behind (ws : Words) (j : ℕ) (frames : List ℕ) (top count : ℕ) (room : Bytes) : Type 0 where
   pub done : List Node
-  pub written : Counted (length ws) (suc j) count room done
+  pub written : RecordsDone (length ws) (suc j) count room done
   pub rows : Open ws frames j top (suc j) done
 
 -- The node of names j to an end is whole, and in front of the frames that are left.
 pub record Closing (ws : Words) (j left : ℕ) (frames : List ℕ) (p : LeftOpen) (room : Bytes) : Type 0 where
   pub done : List Node
-  pub written : Counted (length ws) j (p .count) room done
+  pub written : RecordsDone (length ws) j (p .count) room done
   pub cur : Cur ws frames j left (p .top) (p .end) (p .mark) (p .width) done
 
 -- ---- one name
@@ -122,7 +122,7 @@ pub record Rowing (ρ : Rule) (s : Bytes) (n : ℕ) (room₀ room : Bytes) (fram
   pub kept : length room ≡ length room₀
   pub framed : FramesStand frames top
   pub done : List Node
-  pub written : Counted (length (words ρ s)) j count room done
+  pub written : RecordsDone (length (words ρ s)) j count room done
   pub rows : 0 < j → Open (words ρ s) frames (pred j) top j done
   pub all : j ≡ 0 → done ≡ table (words ρ s)
 

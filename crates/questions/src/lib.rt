@@ -3,21 +3,25 @@
 use kinds::Form;
 use kinds::Kind;
 use shapes::Answer;
+use shapes::Counted;
 use shapes::Row;
 ghost use mathlib.Core.Path.{_≡_};
 ghost use Rattle.format.specs.Book.{opened};
 ghost use Rattle.format.specs.Spans.{wordsIn};
-ghost use Rattle.answers.specs.Calls.{question as askedOf, rowAnswer};
+ghost use Rattle.answers.specs.Calls.{rowAnswer};
+ghost use Rattle.answers.specs.Counts.{countedQuestion};
 ghost use Rattle.answers.specs.Questions.{ask as answerOf};
 ghost use Rattle.descent.specs.Vocabulary.{askedIn};
-ghost use Rattle.search.specs.Asks.{pairOf};
-ghost use Rattle.shapes.specs.Shapes.{answered, rowOf};
+ghost use Rattle.search.specs.Asks.{Looked, pairOf};
+ghost use Rattle.shapes.specs.Shapes.{answered, counted, rowOf};
 ghost use Rattle.questions.specs.Asking.{Accepted, Asking, KindNumber, Looking, closedBy, openingOf, takesRows};
 
-// The two numbers that an accepted book with names answers to a question of a kind from 1 to 5: an arm for each form of table.
-fn look_up(book: &[u8], t: trailer::Trailer, kind: usize, question: &[u8]) -> search::Pair
+// The two numbers that an accepted book with names answers to a question of a kind from 1 to 5, and how far that looked: an arm for each form
+// of table.
+fn look_up(book: &[u8], t: trailer::Trailer, kind: usize, question: &[u8]) -> search::Reply
     requires { ⌜ Looking (now book) t kind ⌝ }
     ensures { λ r. ⌜ pairOf r ≡ answerOf kind (askedIn (now (book .entry)) (now (question .entry))) (wordsIn (now (book .entry))) ⌝ }
+    ensures { λ r. ⌜ Looked (now (book .entry)) (now (question .entry)) (r .visits) (r .entries) ⌝ }
 {
     let book_kind = t.kind;
     let form = kinds::form_of(book_kind);
@@ -28,42 +32,46 @@ fn look_up(book: &[u8], t: trailer::Trailer, kind: usize, question: &[u8]) -> se
 
 // A question of a kind from 1 to 5 to a book that the check has accepted, by what its trailer tells: whoever has many questions checks
 // once. Of what nearest's name shares, what can be lit of the question is given. Refusals: 1, 10.
-pub fn ask(book: &[u8], t: trailer::Trailer, kind: usize, question: &[u8]) -> Answer
+pub fn ask(book: &[u8], t: trailer::Trailer, kind: usize, question: &[u8]) -> Counted
     requires { ⌜ Asking (now book) t kind ⌝ }
-    ensures { λ r. ⌜ answered r ≡ askedOf kind (now (book .entry)) (now (question .entry)) ⌝ }
+    ensures { λ r. ⌜ counted r ≡ countedQuestion kind (now (book .entry)) (now (question .entry)) ⌝ }
 {
     if 200 < question.len() {
-        return shapes::refuse(1, 0);
+        return shapes::look_at_nothing(1);
     }
     if t.names == 0 {
         if kind == 4 {
-            return shapes::refuse(10, 0);
+            return shapes::look_at_nothing(10);
         }
-        return shapes::refuse(0, 0);
+        return shapes::look_at_nothing(0);
     }
-    let pair = look_up(book, t, kind, question);
+    let reply = look_up(book, t, kind, question);
     if kind == 4 {
-        return Answer {
+        return Counted {
             code: 0,
-            first: pair.first,
-            second: letters::lit_part(question, pair.second),
+            first: reply.first,
+            second: letters::lit_part(question, reply.second),
+            visits: reply.visits,
+            entries: reply.entries,
         };
     }
-    Answer {
+    Counted {
         code: 0,
-        first: pair.first,
-        second: pair.second,
+        first: reply.first,
+        second: reply.second,
+        visits: reply.visits,
+        entries: reply.entries,
     }
 }
 
 // A question of a kind from 1 to 5. Refusals: 2, 1, 10.
-pub fn ask_alone(book: &[u8], kind: usize, question: &[u8]) -> Answer
+pub fn ask_alone(book: &[u8], kind: usize, question: &[u8]) -> Counted
     requires { ⌜ KindNumber kind ⌝ }
-    ensures { λ r. ⌜ answered r ≡ askedOf kind (now (book .entry)) (now (question .entry)) ⌝ }
+    ensures { λ r. ⌜ counted r ≡ countedQuestion kind (now (book .entry)) (now (question .entry)) ⌝ }
 {
     let checked = accept::check_book(book);
     match checked {
-        accept::Checked::Unsound => shapes::refuse(2, 0),
+        accept::Checked::Unsound => shapes::look_at_nothing(2),
         accept::Checked::Sound(t) => ask(book, t, kind, question),
     }
 }
@@ -114,7 +122,7 @@ pub fn open_batch(book: &[u8], rows: usize, places: usize) -> Opening
     }
 }
 
-// What a row's question alone would get from a book that the batch's opening has accepted. Refusals: 11, 1, 10.
+// What a row's question alone would get from a book that the batch's opening has accepted, but for how far it looked. Refusals: 11, 1, 10.
 pub fn answer_row(book: &[u8], opening: Opening, questions: &[u8], row: Row) -> Answer
     requires { ⌜ Accepted (now book) opening ⌝ }
     ensures { λ r. ⌜ answered r ≡ rowAnswer (opened (now (book .entry))) (now (questions .entry)) (rowOf row) ⌝ }
@@ -133,5 +141,10 @@ pub fn answer_row(book: &[u8], opening: Opening, questions: &[u8], row: Row) -> 
     }
     let start = row.start;
     let end = start + row.length;
-    ask(book, opening.trailer, row.kind, &questions[start..end])
+    let alone = ask(book, opening.trailer, row.kind, &questions[start..end]);
+    Answer {
+        code: alone.code,
+        first: alone.first,
+        second: alone.second,
+    }
 }

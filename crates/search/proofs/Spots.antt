@@ -1,6 +1,7 @@
 -- The node that is found, and the answers there.
 --     met, near            how the name at a position stands to the question; the same of the name that is reached
---     end-..               the last node of the path; the name that is reached
+--     end-..               the last node of the path; the name that is reached; how many nodes were visited
+--     looked               how far the search looked
 --     own-map, starts, spot-..     the map of the node table is the one that the trailer tells of
 --     spot                 the highest node that is deep enough is the one with the names that share most
 --     seat-..              the place there: before or after the edge, a child, the end of the row
@@ -26,20 +27,21 @@ use Rattle.symbols.specs.declared.Rule.{Rule as ByRule}
 use Rattle.format.specs.Nodes.{Node, table}
 use Rattle.answers.specs.Questions.{Pair as Numbers, ask, count, exact, nearest, place, range, reached}
 use Rattle.answers.specs.Widths.{width}
+use Rattle.answers.specs.Counts.{visits}
 use Rattle.answers.proofs.Nearest.{reached-most}
 use Rattle.answers.proofs.Widths.{ask-width}
 use Rattle.descent.specs.Vocabulary.{Highest, Reached, Searchable, Sits, Sought, asked, askedIn, from, node, upto}
 use Rattle.standing.specs.Maps.{Map, Placed, mapOf, numberIn, recordAt}
 use Rattle.descent.proofs.Cuts.{exact-here, exact-nowhere, none-wide, range-none, whole-range, whole-width}
 use Rattle.descent.proofs.Rows.{sits-told}
-use Rattle.descent.proofs.Paths.{edge-after, edge-before, fork-child, fork-end, fork-wide, found, only-reached, passed-deepens, passed-sits, reached-is}
+use Rattle.descent.proofs.Paths.{edge-after, edge-before, fork-child, fork-end, fork-wide, found, only-reached, passed-deepens, passed-sits, reached-is, visits-are}
 use Rattle.format.specs.Spans.{wordsIn, wordsOf}
 use Rattle.format.specs.Book.{namesOf, told}
 use Rattle.trailer.specs.declared.Trailer.{Trailer}
-use Rattle.names.specs.Names.{Named, PositionAsk}
+use Rattle.names.specs.Names.{Named, PositionAsk, entriesTo}
 use Rattle.paths.specs.Paths.{AtFork, AtNode, DescentSays, HighestAt, OnPath, SoughtAt, tableMap}
 use Rattle.paths.proofs.Ways.{AtOffset, asked-at, asked-length, at-here, here-room, here-told, own-rule, path-at, row-before, row-here, row-past}
-use Rattle.search.specs.Asks.{Askable, AtSpot, MetSays, NearSays, SpotSays}
+use Rattle.search.specs.Asks.{Askable, AtSpot, Looked, MetSays, NearSays, SpotSays}
 
 -- ---- `compare` and `meet`
 
@@ -106,6 +108,9 @@ module _ (b q : Bytes) {μ : Map} (s : Searchable (ruleIn b) b μ) {p : List ℕ
         deep = subst (λ (d : ℕ). (m ≤ d) ⊎ (suc (h .index) ≡ n)) (ap (λ (x : Node). x .depth) (here-told here)) (h .deep);
       }
 
+  pub end-visits : n ≡ visits (askedIn b q) (wordsIn b)
+  end-visits = sym (visits-are (wordsIn b) (s .rises) (t .way))
+
   module _ {r : ℕ} (f : r ≡ recordAt (μ .step) b last .first) where
     is : r ≡ reached (askedIn b q) (wordsIn b)
     is = f ∙ ap (λ (x : Node). x .first) (here-told end-here) ∙ sym (reached-is (wordsIn b) (s .rises) (t .way))
@@ -126,6 +131,10 @@ module _ (b q : Bytes) {μ : Map} (s : Searchable (ruleIn b) b μ) {p : List ℕ
           located = record { shares = g; found = found (wordsIn b) (s .rises) (t .way) g (highest h) };
           next = e .next ∙ ap (λ (i : ℕ). at (nth (wordsIn b) i) m) is;
         }
+
+-- the nodes of the way were visited, and the entries up to the name that is reached were read
+pub looked : {b q : Bytes} {r seen read : ℕ} → Reached (wordsIn b) (askedIn b q) r → seen ≡ visits (askedIn b q) (wordsIn b) → read ≡ entriesTo (told b 1) r → Looked b q seen read
+looked {b} o e f = record { nodes = e; name = f ∙ ap (entriesTo (told b 1)) (o .is) }
 
 -- the trailer tells of the map: x bytes from a node to the next, y from a number of a node to its next
 module _ {b : Bytes} {t : Trailer} {x y : ℕ} (a : Askable b t) (xe : x ≡ mapOf b .stride) (ye : y ≡ mapOf b .step) where

@@ -3,6 +3,7 @@
 --     NearSays              the name that a question reaches, what they share, and its length
 --     SpotSays, AtSpot      the node whose names share most with a question
 --     Askable, KindAsk      what an accepted book with names is to a search; the kind has a number from 1 to 5
+--     Looked                how far the search for a question looked
 --     pairOf                an answer's two numbers
 -- Assumes nothing: these are definitions.
 use Prim.Native.Nat.{ℕ, _≤_}
@@ -14,13 +15,15 @@ use Rattle.words.specs.Rising.{nth}
 use Rattle.format.specs.Kinds.{ruleIn}
 use Rattle.answers.specs.Widths.{lastKind}
 use Rattle.answers.specs.Questions.{Pair as Numbers, reached}
+use Rattle.answers.specs.Counts.{visits}
 use Rattle.descent.specs.Vocabulary.{Located, Reached, Searchable, askedIn}
 use Rattle.format.specs.Spans.{wordsIn}
 use Rattle.format.specs.Book.{told}
 use Rattle.standing.specs.Maps.{Map, Placed, mapOf, numberIn}
 use Rattle.trailer.specs.declared.Trailer.{Trailer}
 use Rattle.accept.specs.Parts.{Parts}
-use Rattle.search.specs.declared.Pair.{Pair}
+use Rattle.names.specs.Names.{entriesTo}
+use Rattle.search.specs.declared.Reply.{Reply}
 
 -- ---- the name that is reached
 
@@ -60,5 +63,10 @@ pub record KindAsk (b : Bytes) (t : Trailer) (kind : ℕ) : Type 0 where
   pub low : 1 ≤ kind
   pub high : kind ≤ lastKind
 
-abbrev pub pairOf : Pair → Numbers
+-- the nodes on its way down, and the entries up to the name that it reached
+pub record Looked (b q : Bytes) (seen read : ℕ) : Type 0 where
+  pub nodes : seen ≡ visits (askedIn b q) (wordsIn b)
+  pub name : read ≡ entriesTo (told b 1) (reached (askedIn b q) (wordsIn b))
+
+abbrev pub pairOf : Reply → Numbers
 pairOf r = (r .first, r .second)

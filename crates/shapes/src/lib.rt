@@ -3,7 +3,8 @@
 // anything of its caller.
 ghost use mathlib.Core.Path.{_≡_};
 ghost use Rattle.format.specs.Outcomes.{numbered};
-ghost use Rattle.shapes.specs.Shapes.{answered};
+ghost use Rattle.answers.specs.Counts.{unlooked};
+ghost use Rattle.shapes.specs.Shapes.{answered, counted};
 
 // 0 or the number of a refusal, and two numbers beside it.
 #[repr(C)]
@@ -21,6 +22,30 @@ pub fn refuse(code: usize, first: usize) -> Answer
         code,
         first,
         second: 0,
+    }
+}
+
+// What a single question gives: 0 or the number of a refusal, two numbers, and how far it looked: the nodes that it visited going down, and
+// the entries that were read to rebuild the one name compared.
+#[repr(C)]
+pub struct Counted {
+    pub code: usize,
+    pub first: usize,
+    pub second: usize,
+    pub visits: usize,
+    pub entries: usize,
+}
+
+// A code, where nothing was looked at.
+pub fn look_at_nothing(code: usize) -> Counted
+    ensures { λ r. ⌜ counted r ≡ unlooked code ⌝ }
+{
+    Counted {
+        code,
+        first: 0,
+        second: 0,
+        visits: 0,
+        entries: 0,
     }
 }
 

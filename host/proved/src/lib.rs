@@ -13,8 +13,8 @@
 
 pub mod raw;
 
-/// What every call but [`list_head`] gives back, and what an answer row of a
-/// batch holds, as the archive lays it out.
+/// What every call gives back but [`list_head`] and the five questions, and what
+/// an answer row of a batch holds, as the archive lays it out.
 #[repr(C)]
 #[derive(Clone, Copy, Debug, PartialEq, Eq, Default)]
 pub struct Answer {
@@ -24,6 +24,34 @@ pub struct Answer {
     pub first: usize,
     /// The second number of the answer.
     pub second: usize,
+}
+
+/// What a single question gives back, as the archive lays it out: an answer's
+/// three numbers, and how far it looked.
+#[repr(C)]
+#[derive(Clone, Copy, Debug, PartialEq, Eq, Default)]
+pub struct Counted {
+    /// 0 where the question is accepted, else the number of the refusal.
+    pub code: usize,
+    /// The first number of the answer.
+    pub first: usize,
+    /// The second number of the answer.
+    pub second: usize,
+    /// How many nodes were visited going down, root and last node counted.
+    pub visits: usize,
+    /// How many entries were read to rebuild the one name compared.
+    pub entries: usize,
+}
+
+impl Counted {
+    /// The three numbers, as a batch gives them.
+    pub fn answer(self) -> Answer {
+        Answer {
+            code: self.code,
+            first: self.first,
+            second: self.second,
+        }
+    }
 }
 
 /// A question row of a batch, as the archive lays it out.
@@ -119,7 +147,7 @@ pub fn book_read(book: &[u8], position: usize, room: &mut [u8]) -> Answer {
 
 /// Asks for the name that equals the question: (0, its position, 1), or
 /// (0, 0, 0) where there is none, or refusal 2 or 1.
-pub fn book_exact(book: &[u8], question: &[u8]) -> Answer {
+pub fn book_exact(book: &[u8], question: &[u8]) -> Counted {
     // SAFETY: each pointer comes with the length of its own slice, and nothing
     // is written.
     unsafe { raw::book_exact(book.as_ptr(), book.len(), question.as_ptr(), question.len()) }
@@ -127,7 +155,7 @@ pub fn book_exact(book: &[u8], question: &[u8]) -> Answer {
 
 /// Asks how many names are less than the question: (0, their number, 0), or
 /// refusal 2 or 1.
-pub fn book_place(book: &[u8], question: &[u8]) -> Answer {
+pub fn book_place(book: &[u8], question: &[u8]) -> Counted {
     // SAFETY: each pointer comes with the length of its own slice, and nothing
     // is written.
     unsafe { raw::book_place(book.as_ptr(), book.len(), question.as_ptr(), question.len()) }
@@ -135,7 +163,7 @@ pub fn book_place(book: &[u8], question: &[u8]) -> Answer {
 
 /// Asks which names begin with the question: (0, the question's place, their
 /// number), or refusal 2 or 1.
-pub fn book_range(book: &[u8], question: &[u8]) -> Answer {
+pub fn book_range(book: &[u8], question: &[u8]) -> Counted {
     // SAFETY: each pointer comes with the length of its own slice, and nothing
     // is written.
     unsafe { raw::book_range(book.as_ptr(), book.len(), question.as_ptr(), question.len()) }
@@ -143,7 +171,7 @@ pub fn book_range(book: &[u8], question: &[u8]) -> Answer {
 
 /// Asks for a name that shares most with the question: (0, its position, how
 /// many leading bytes of the question to light), or refusal 2, 1 or 10.
-pub fn book_nearest(book: &[u8], question: &[u8]) -> Answer {
+pub fn book_nearest(book: &[u8], question: &[u8]) -> Counted {
     // SAFETY: each pointer comes with the length of its own slice, and nothing
     // is written.
     unsafe { raw::book_nearest(book.as_ptr(), book.len(), question.as_ptr(), question.len()) }
@@ -151,7 +179,7 @@ pub fn book_nearest(book: &[u8], question: &[u8]) -> Answer {
 
 /// Asks how long the longest name is that begins with the question: (0, its
 /// length, 0), with length 0 where no name does, or refusal 2 or 1.
-pub fn book_width(book: &[u8], question: &[u8]) -> Answer {
+pub fn book_width(book: &[u8], question: &[u8]) -> Counted {
     // SAFETY: each pointer comes with the length of its own slice, and nothing
     // is written.
     unsafe { raw::book_width(book.as_ptr(), book.len(), question.as_ptr(), question.len()) }

@@ -1,8 +1,9 @@
 //! The functions of the archive as C knows them: a slice is a pointer and then
 //! a length.
 //!
-//! An answer and a head are structs of three words, which C hands over in a way
-//! of its own on each processor, and Rust in the same. On x86-64 the library is
+//! An answer and a head are structs of three words, and what a single question
+//! gives one of five, which C hands over in a way of its own on each processor, and
+//! Rust in the same. On x86-64 the library is
 //! compiled so; where it is compiled for another processor, for tests and
 //! benchmarks, `native.c` stands between.
 //!
@@ -11,7 +12,7 @@
 //! Every pointer must be good for as many items as the length after it says, and
 //! what is written to may overlap nothing else.
 
-use crate::{Answer, Head, Kept, Row};
+use crate::{Answer, Counted, Head, Kept, Row};
 
 extern "C" {
     /// Builds a plain book from list records.
@@ -46,35 +47,35 @@ extern "C" {
         book_len: usize,
         question: *const u8,
         question_len: usize,
-    ) -> Answer;
+    ) -> Counted;
     /// Asks how many names are less than a question.
     pub fn book_place(
         book: *const u8,
         book_len: usize,
         question: *const u8,
         question_len: usize,
-    ) -> Answer;
+    ) -> Counted;
     /// Asks which names begin with a question.
     pub fn book_range(
         book: *const u8,
         book_len: usize,
         question: *const u8,
         question_len: usize,
-    ) -> Answer;
+    ) -> Counted;
     /// Asks for a name that shares most with a question.
     pub fn book_nearest(
         book: *const u8,
         book_len: usize,
         question: *const u8,
         question_len: usize,
-    ) -> Answer;
+    ) -> Counted;
     /// Asks how long the longest name is that begins with a question.
     pub fn book_width(
         book: *const u8,
         book_len: usize,
         question: *const u8,
         question_len: usize,
-    ) -> Answer;
+    ) -> Counted;
     /// Asks a batch of questions.
     pub fn book_batch(
         book: *const u8,

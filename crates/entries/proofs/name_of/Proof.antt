@@ -2,7 +2,7 @@
 -- Assumes nothing.
 use Prim.Native.Nat.{_-_}
 use borrow.Author.Needs.{needs}
-use Rattle.entries.proofs.Reading.{ReadTo, reached-done, reached-entry, reached-more, reached-start}
+use Rattle.entries.proofs.Reading.{ReadTo, reached-all, reached-done, reached-entry, reached-few, reached-more, reached-start}
 use Rattle.entries.proofs.name_of.Statement.{statement}
 use Rattle.entries.proofs.name_of.Tie as tie
 
@@ -26,4 +26,5 @@ name-of-spec =
     (λ c. search reached-more)
     (λ c. search needs)
     (λ c κs. search reached-entry)
-    (λ c. search reached-done))
+    (λ c. search reached-few)
+    (λ c. (search reached-done, search reached-all)))

@@ -11,7 +11,7 @@ use Rattle.names.proofs.put_name.Tie as tie
 
 -- the name at the position
 name-at : (c : tie.After-read-name) → let a = c .before .before .before .args in Named (getD (namesOf (a .book .now)) (a .position) []) (c .read-name .result .len) (c .read-name .result .name)
-name-at c = c .read-name .ensures
+name-at c = c .read-name .ensures .0
 
 returns-2 : tie.Need-returns-2
 returns-2 c =

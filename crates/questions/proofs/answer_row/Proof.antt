@@ -2,19 +2,21 @@
 -- Assumes nothing.
 use Prim.Native.Nat.{_+_, _-_}
 use native.Mathlib.Omega.{arith}
-use mathlib.Core.Path.{_≡_}
+use mathlib.Core.Path.{_≡_, _∙_, ap}
 use lib.ListN.{drop, take}
 use borrow.Author.Needs.{needs}
 use Rattle.answers.specs.Calls.{question}
-use Rattle.shapes.specs.Shapes.{answered, rowOf}
+use Rattle.answers.specs.Counts.{Counted as Looked}
+use Rattle.answers.proofs.Counts.{counted-answer}
+use Rattle.shapes.specs.Shapes.{counted, rowOf}
 use Rattle.questions.proofs.Rows.{row-answered, row-refused}
 use Rattle.questions.proofs.answer_row.Statement.{statement}
 use Rattle.questions.proofs.answer_row.Tie as tie
 
 -- the row's own bytes were asked for
 asked : (c : tie.After-ask) → let a = c .before .before .before .before .before .before .before .before .before .before .before .before .before .before .args in
-    answered (c .ask .result) ≡ question (a .row .kind) (a .book .now) (take (a .row .start + a .row .length - a .row .start) (drop (a .row .start) (a .questions .now)))
-asked c = c .ask .ensures
+    counted (c .ask .result) .answer ≡ question (a .row .kind) (a .book .now) (take (a .row .start + a .row .length - a .row .start) (drop (a .row .start) (a .questions .now)))
+asked c = ap (λ (r : Looked). r .answer) (c .ask .ensures) ∙ counted-answer _ _ _
 
 pub answer-row-spec : {M : Type 1} → statement M
 answer-row-spec =

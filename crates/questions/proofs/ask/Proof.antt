@@ -18,7 +18,7 @@ returns-2 c =
     let none = c .before .before in
     let shorter = none .before .before in
     let known = shorter .before .before in
-    nearest-none _ _ _ _ (known .shared-slice-known .given) (known .before .pre) (short shorter) _ (c .refuse2 .ensures) (none .if2 .taken) (c .before .if3 .taken)
+    nearest-none _ _ _ _ (known .shared-slice-known .given) (known .before .pre) (short shorter) _ (c .look-at-nothing2 .ensures) (none .if2 .taken) (c .before .if3 .taken)
 
 -- nearest is answered
 returns-4 : tie.Need-returns-4
@@ -27,7 +27,7 @@ returns-4 c =
     let some = answer .before in
     let shorter = some .before .before in
     let known = shorter .before .before in
-    ask-lit _ _ _ _ (known .shared-slice-known .given) (known .before .pre) (short shorter) (some .if2 .left) (answer .look-up .ensures) (c .before .if4 .taken) (c .lit-part .ensures)
+    ask-lit _ _ _ _ (known .shared-slice-known .given) (known .before .pre) (short shorter) (some .if2 .left) (answer .look-up .ensures .1) (answer .look-up .ensures .0) (c .before .if4 .taken) (c .lit-part .ensures)
 
 pub ask-spec : {M : Type 1} → statement M
 ask-spec =

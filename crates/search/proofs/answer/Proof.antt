@@ -7,19 +7,19 @@ use Rattle.search.proofs.answer.Statement.{statement}
 use Rattle.search.proofs.answer.Tie as tie
 
 returns : tie.Need-returns
-returns c = by-exact _ _ _ (omega arith) (c .ask-exact .ensures)
+returns c = (by-exact _ _ _ (omega arith) (c .ask-exact .ensures .0), c .ask-exact .ensures .1)
 
 returns-2 : tie.Need-returns-2
-returns-2 c = by-place _ _ _ (omega arith) (c .ask-place .ensures)
+returns-2 c = (by-place _ _ _ (omega arith) (c .ask-place .ensures .0), c .ask-place .ensures .1)
 
 returns-3 : tie.Need-returns-3
-returns-3 c = by-range _ _ _ (omega arith) (c .ask-range .ensures)
+returns-3 c = (by-range _ _ _ (omega arith) (c .ask-range .ensures .0), c .ask-range .ensures .1)
 
 returns-4 : tie.Need-returns-4
-returns-4 c = by-nearest _ _ _ (omega arith) (c .ask-nearest .ensures)
+returns-4 c = (by-nearest _ _ _ (omega arith) (c .ask-nearest .ensures .0), c .ask-nearest .ensures .1)
 
 returns-5 : tie.Need-returns-5
-returns-5 c = by-width _ _ _ (omega arith) (c .ask-width .ensures)
+returns-5 c = (by-width _ _ _ (omega arith) (c .ask-width .ensures .0), c .ask-width .ensures .1)
 
 pub answer-spec : {M : Type 1} → statement M
 answer-spec =

@@ -9,17 +9,17 @@ use Rattle.search.proofs.ask_exact.Tie as tie
 returns : tie.Need-returns
 returns c =
     let met = c .before .before in
-    exact-short _ (met .before .before .before .pre .searchable) (met .meet .ensures) (omega arith)
+    (exact-short _ (met .before .before .before .pre .searchable) (met .meet .ensures .0) (omega arith), met .meet .ensures .1)
 
 returns-2 : tie.Need-returns-2
 returns-2 c =
     let met = c .before .before .before .before in
-    exact-longer _ (met .before .before .before .pre .searchable) (met .meet .ensures) (omega arith) (omega arith)
+    (exact-longer _ (met .before .before .before .pre .searchable) (met .meet .ensures .0) (omega arith) (omega arith), met .meet .ensures .1)
 
 returns-3 : tie.Need-returns-3
 returns-3 c =
     let met = c .before .before .before .before in
-    exact-found _ (met .before .before .before .pre .searchable) (met .meet .ensures) (omega arith) (omega arith)
+    (exact-found _ (met .before .before .before .pre .searchable) (met .meet .ensures .0) (omega arith) (omega arith), met .meet .ensures .1)
 
 pub ask-exact-spec : {M : Type 1} → statement M
 ask-exact-spec = tie.close (tie.spec (λ c κs. search needs) returns returns-2 returns-3)

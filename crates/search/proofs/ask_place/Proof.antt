@@ -8,7 +8,7 @@ use Rattle.search.proofs.ask_place.Statement.{statement}
 use Rattle.search.proofs.ask_place.Tie as tie
 
 returns : tie.Need-returns
-returns c = ap (λ (n : ℕ). (n, 0)) (c .seat .ensures)
+returns c = (ap (λ (n : ℕ). (n, 0)) (c .seat .ensures), c .before .before .before .locate .ensures .1)
 
 pub ask-place-spec : {M : Type 1} → statement M
 ask-place-spec =
@@ -17,5 +17,5 @@ ask-place-spec =
     (λ c κs. search needs)
     (λ c κs. search needs)
     (λ c κs. search needs)
-    (λ c κs. spot-at (c .before .before .before .before .before .pre) (c .before .stride .ensures) (c .step .ensures) _ (c .before .before .locate .ensures))
+    (λ c κs. spot-at (c .before .before .before .before .before .pre) (c .before .stride .ensures) (c .step .ensures) _ (c .before .before .locate .ensures .0))
     returns)

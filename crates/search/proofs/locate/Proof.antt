@@ -5,7 +5,7 @@ use Rattle.format.specs.Kinds.{ruleIn}
 use Rattle.descent.specs.Vocabulary.{Searchable}
 use Rattle.paths.specs.Paths.{tableMap}
 use Rattle.paths.proofs.Ways.{here-room}
-use Rattle.search.proofs.Spots.{end-here, end-path, end-reached, name-ask, own-searchable, spot, spot-in, starts}
+use Rattle.search.proofs.Spots.{end-here, end-path, end-reached, end-visits, looked, name-ask, own-searchable, spot, spot-in, starts}
 use Rattle.search.proofs.locate.Statement.{statement}
 use Rattle.search.proofs.locate.Tie as tie
 
@@ -17,8 +17,12 @@ returns : tie.Need-returns
 returns c =
     let way = c .before .before .before in
     let map = way .before in
-    spot-in (map .before .before .before .before .before .pre) (map .before .stride .ensures) (map .step .ensures)
-    (spot _ _ (own map) (way .descend .ensures) (c .before .before .first .ensures .0) (c .before .compare .ensures) (c .highest .ensures))
+    let met = c .before .compare .ensures in
+    let first = c .before .before .first .ensures .0 in (
+      spot-in (map .before .before .before .before .before .pre) (map .before .stride .ensures) (map .step .ensures)
+          (spot _ _ (own map) (way .descend .ensures) first (met .0) (c .highest .ensures)),
+      looked (end-reached _ _ (own map) (way .descend .ensures) first) (end-visits _ _ (own map) (way .descend .ensures)) (met .1),
+    )
 
 pub locate-spec : {M : Type 1} → statement M
 locate-spec =

@@ -1,7 +1,7 @@
 -- `search::meet` meets its contract: the front of the array is the name that is reached. The question is named, so that a wrong rule shows.
 -- Assumes nothing.
 use borrow.Author.Needs.{needs}
-use Rattle.search.proofs.Spots.{name-ask, near, starts}
+use Rattle.search.proofs.Spots.{looked, name-ask, near, starts}
 use Rattle.search.proofs.meet.Statement.{statement}
 use Rattle.search.proofs.meet.Tie as tie
 
@@ -10,7 +10,8 @@ returns c =
     let ruled = c .before .before .before in
     let named = ruled .before .before in
     let start = named .before .before .before .before .before .before .before in
-    near _ _ (ruled .rule .result) (ruled .rule .ensures) (start .args .question .now) _ (named .read-name .ensures) (c .shared-symbols .ensures) (named .before .reach .ensures)
+    let goal = named .before .reach .ensures in
+    (near _ _ (ruled .rule .result) (ruled .rule .ensures) (start .args .question .now) _ (named .read-name .ensures .0) (c .shared-symbols .ensures) (goal .0), looked (goal .0) (goal .1) (named .read-name .ensures .1))
 
 pub meet-spec : {M : Type 1} → statement M
 meet-spec =
@@ -20,7 +21,7 @@ meet-spec =
     (λ c κs. search needs)
     (λ c κs. search needs)
     (λ c κs. starts (c .before .before .before .before .before .pre) (c .before .stride .ensures) (c .step .ensures) (c .before .before .wide16 .ensures .0))
-    (λ c κs. name-ask _ (c .before .before .before .before .before .before .pre) (c .reach .ensures))
+    (λ c κs. name-ask _ (c .before .before .before .before .before .before .pre) (c .reach .ensures .0))
     (λ c κs. search needs)
     (λ c. search needs)
     (λ c. search needs)

@@ -1,10 +1,16 @@
--- `search::reach` meets its contract: the first name of the last node on the path.
+-- `search::reach` meets its contract: the first name of the last node on the path, and how many nodes that has.
 -- Assumes nothing.
 use borrow.Author.Needs.{needs}
 use Rattle.paths.proofs.Ways.{here-room}
-use Rattle.search.proofs.Spots.{end-here, end-reached}
+use Rattle.search.proofs.Spots.{end-here, end-reached, end-visits}
 use Rattle.search.proofs.reach.Statement.{statement}
 use Rattle.search.proofs.reach.Tie as tie
+
+returns : tie.Need-returns
+returns c =
+    let way = c .before in
+    let map = way .before .before .before .pre .0 in
+    (end-reached _ _ map (way .descend .ensures) (c .first .ensures .0), end-visits _ _ map (way .descend .ensures))
 
 pub reach-spec : {M : Type 1} → statement M
 reach-spec =
@@ -12,4 +18,4 @@ reach-spec =
     (tie.spec
     (λ c κs. search needs)
     (λ c κs. here-room (end-here _ _ (c .before .before .before .pre .0) (c .descend .ensures)))
-    (λ c. end-reached _ _ (c .before .before .before .before .pre .0) (c .before .descend .ensures) (c .first .ensures .0)))
+    returns)
