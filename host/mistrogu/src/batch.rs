@@ -64,8 +64,9 @@ const NO_ANSWER: Answer = Answer {
 /// them at most, and never more than 64.
 ///
 /// A question is a kind and a span of a buffer that they all share. What it gets is
-/// read by the kind that it was asked with, and can't be read by another. A batch
-/// has 48 bytes for each place, and 8 more.
+/// read by the kind that it was asked with, and can't be read by another. How far it
+/// looked a batch does not tell: [`counted`](crate::counted) does. A batch has 48 bytes
+/// for each place, and 8 more.
 ///
 /// ```
 /// use mistrogu::{build, Batch, Kind, Nearest, Refusal, Reply};

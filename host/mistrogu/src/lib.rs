@@ -21,6 +21,7 @@
 //! | have the stops that begin with some letters | [`range`] |
 //! | have a stop as near as any to what was typed, and how much of that to light | [`nearest`] |
 //! | know how much space the stops that begin with some letters take | [`width`] |
+//! | know how far a question looked | the same five in [`counted`] |
 //! | ask many questions of one book | [`Batch`] |
 //! | have what is left of a damaged book | [`salvage`] |
 //!
@@ -80,10 +81,11 @@
 //!
 //! Every call that takes a book checks all of it before anything else, and
 //! nearly all of its time goes there. A [`Batch`] does so once for all of its
-//! questions. A [`salvage`] takes bytes that need not be a book, and goes over their
-//! blocks alone. Every call that takes two lists judges both, and each name of
-//! [`heads`] is such a call. [`STACK`] bytes of stack are enough for a call,
-//! [`BUILD_STACK`] for [`build`] and [`build_folded`].
+//! questions, and [`counted`] tells how far a single one looked behind the check. A
+//! [`salvage`] takes bytes that need not be a book, and goes over their blocks alone.
+//! Every call that takes two lists judges both, and each name of [`heads`] is such a
+//! call. [`STACK`] bytes of stack are enough for a call, [`BUILD_STACK`] for [`build`]
+//! and [`build_folded`].
 //!
 //! # Linking
 //!
@@ -109,6 +111,7 @@
 mod readme {}
 
 mod batch;
+pub mod counted;
 mod list;
 mod merging;
 mod refusal;
@@ -317,7 +320,7 @@ pub fn read<'room>(
 /// # Ok::<(), mistrogu::Refused>(())
 /// ```
 pub fn exact(book: &[u8], question: &[u8]) -> Result<Option<usize>, Refusal> {
-    accepted(proved::book_exact(book, question)).map(found)
+    Ok(counted::exact(book, question)?.answer)
 }
 
 /// How many names are less than the question: the position that it has, or
@@ -336,8 +339,7 @@ pub fn exact(book: &[u8], question: &[u8]) -> Result<Option<usize>, Refusal> {
 /// # Ok::<(), mistrogu::Refused>(())
 /// ```
 pub fn place(book: &[u8], question: &[u8]) -> Result<usize, Refusal> {
-    let (place, _) = accepted(proved::book_place(book, question))?;
-    Ok(place)
+    Ok(counted::place(book, question)?.answer)
 }
 
 /// The positions of the names that begin with the question. Where there are
@@ -357,7 +359,7 @@ pub fn place(book: &[u8], question: &[u8]) -> Result<usize, Refusal> {
 /// # Ok::<(), mistrogu::Refused>(())
 /// ```
 pub fn range(book: &[u8], question: &[u8]) -> Result<Range<usize>, Refusal> {
-    accepted(proved::book_range(book, question)).map(span)
+    Ok(counted::range(book, question)?.answer)
 }
 
 /// A name that shares as many leading bytes with the question as any name does,
@@ -390,7 +392,7 @@ pub fn range(book: &[u8], question: &[u8]) -> Result<Range<usize>, Refusal> {
 /// # Ok::<(), mistrogu::Refused>(())
 /// ```
 pub fn nearest(book: &[u8], question: &[u8]) -> Result<Nearest, Refusal> {
-    accepted(proved::book_nearest(book, question)).map(near)
+    Ok(counted::nearest(book, question)?.answer)
 }
 
 /// How many bytes the longest of the names has that begin with the question, so
@@ -410,6 +412,5 @@ pub fn nearest(book: &[u8], question: &[u8]) -> Result<Nearest, Refusal> {
 /// # Ok::<(), mistrogu::Refused>(())
 /// ```
 pub fn width(book: &[u8], question: &[u8]) -> Result<usize, Refusal> {
-    let (width, _) = accepted(proved::book_width(book, question))?;
-    Ok(width)
+    Ok(counted::width(book, question)?.answer)
 }

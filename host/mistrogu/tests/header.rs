@@ -1,7 +1,9 @@
 //! What C is told is what Rust is told: `include/mistrogu.h` has the same
-//! version, names, numbers and sentences.
+//! version, names, numbers, sentences and structs.
 
 use mistrogu::{BookKind, Kind, Refusal};
+use proved::{Answer, Counted, Head, Kept, Row};
+use std::mem::{offset_of, size_of};
 
 const HEADER: &str = include_str!("../../../include/mistrogu.h");
 const CHANGES: &str = include_str!("../../../CHANGELOG.md");
@@ -105,6 +107,44 @@ fn limits() {
     }
 }
 
+/// The fields of the header's struct of this name, which are words.
+fn fields(name: &str) -> Vec<&'static str> {
+    let opens = format!("\nstruct mistrogu_{name} {{\n");
+    let (_, rest) = HEADER.split_once(&opens).expect("the struct is there");
+    let (body, _) = rest.split_once("\n};\n").expect("a struct ends");
+    let lines = body.lines().map(str::trim);
+    let field = |line: &'static str| line.strip_prefix("size_t ")?.strip_suffix(';');
+    lines.map(|line| field(line).expect(line)).collect()
+}
+
+/// Asserts that the header's struct of this name has these fields, each one word
+/// behind the one before, and no others; and that Rust lays it out so.
+fn assert_laid_out<T>(name: &str, offsets: &[(&str, usize)]) {
+    let words = (0..).step_by(size_of::<usize>());
+    let in_c: Vec<(&str, usize)> = fields(name).into_iter().zip(words).collect();
+    assert_eq!(in_c, offsets, "{name}");
+    assert_eq!(size_of::<T>(), offsets.len() * size_of::<usize>(), "{name}");
+}
+
+/// The names of a struct's fields, each with its offset.
+macro_rules! offsets {
+    ($of:ident: $($field:ident),*) => {
+        [$((stringify!($field), offset_of!($of, $field))),*]
+    };
+}
+
+#[test]
+fn structs() {
+    assert_laid_out::<Answer>("answer", &offsets!(Answer: code, first, second));
+    let counted = offsets!(Counted: code, first, second, visits, entries);
+    assert_laid_out::<Counted>("counted", &counted);
+    assert_laid_out::<Row>("row", &offsets!(Row: kind, start, length));
+    assert_laid_out::<Kept>("kept", &offsets!(Kept: kept, names));
+    assert_laid_out::<Head>("head", &offsets!(Head: list, start, length));
+    let opens = |line: &&str| line.starts_with("struct ") && line.ends_with(" {");
+    assert_eq!(HEADER.lines().filter(opens).count(), 5);
+}
+
 /// How the arguments of a call begin.
 const OPENS: &str = "(\n    const uint8_t *";
 
@@ -115,25 +155,32 @@ fn calls() {
         "book_build_folded",
         "book_check",
         "book_read",
-        "book_exact",
-        "book_place",
-        "book_range",
-        "book_nearest",
-        "book_width",
         "book_batch",
         "book_salvage",
         "list_merge",
         "list_judge",
     ];
+    let counted = [
+        "book_exact",
+        "book_place",
+        "book_range",
+        "book_nearest",
+        "book_width",
+    ];
     let heads = ["list_head"];
-    for (gives, calls) in [("answer", &answers[..]), ("head", &heads)] {
+    let all = [
+        ("answer", &answers[..]),
+        ("counted", &counted),
+        ("head", &heads),
+    ];
+    for (gives, calls) in all {
         for call in calls {
             let declared = format!("struct mistrogu_{gives} MISTROGU_CALL({call}){OPENS}");
             assert_eq!(HEADER.matches(&declared).count(), 1, "{call}");
         }
     }
-    let all = HEADER.matches(OPENS).count();
-    assert_eq!(all, answers.len() + heads.len());
+    let calls = all.iter().map(|(_, calls)| calls.len()).sum();
+    assert_eq!(HEADER.matches(OPENS).count(), calls);
     // And one function that is compiled with what includes the header.
     let own = "static inline size_t mistrogu_blocks_of(const uint8_t *card, size_t length)\n{";
     assert_eq!(HEADER.matches(own).count(), 1);

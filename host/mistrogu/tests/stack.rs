@@ -7,7 +7,7 @@ use fenced::apart::{last_lines, run_test, word};
 use fenced::{on_stack, Fence, Fenced};
 use mistrogu::{blocks_of, BUILD_STACK, LONGEST_BOOK, LONGEST_NAME, MOST_SALVAGED, STACK};
 use model::{book_check, book_of, write_list, BookKind};
-use proved::{Answer, Kept, Row};
+use proved::{Answer, Counted, Kept, Row};
 use vectors::folded::on_past_the_end;
 use vectors::hostile::{kinds, DEEPER_THAN_ANY};
 use vectors::lists::{self, Names};
@@ -86,7 +86,7 @@ fn say(call: &str, about: &str) {
 }
 
 /// A call that asks a question.
-type Ask = fn(&[u8], &[u8]) -> Answer;
+type Ask = fn(&[u8], &[u8]) -> Counted;
 
 /// The five questions.
 const ASKS: [(&str, Ask); 5] = [
@@ -115,6 +115,8 @@ fn call_with_book(lent: &Lent, fence: Fence) {
         say(call, about);
         let asked = on_stack(STACK, || ask(&book, &question));
         assert_eq!(asked.code, *code);
+        let looked = [asked.visits, asked.entries].map(|count| count > 0);
+        assert_eq!(looked, [*code == 0; 2], "{call}: {about}");
     }
     say("batch", about);
     let batched = batch(&book, &question, fence);
