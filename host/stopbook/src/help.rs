@@ -113,8 +113,8 @@ Examples:
 
 /// The help of `ask`.
 pub const ASK: &str = "\
-stopbook ask BOOK KIND QUESTION [--limit N | --tsv]
-stopbook ask BOOK [--limit N | --tsv]
+stopbook ask BOOK KIND QUESTION [--limit N | --tsv] [--looked]
+stopbook ask BOOK [--limit N | --tsv] [--looked]
 
 Asks a book one question of at most 200 bytes:
 
@@ -155,6 +155,13 @@ each behind the number of its line, and what is refused is told on standard erro
 
               Numbers have digits alone. A lone - stands where there is no such number.
 
+  --looked    tell how far each question looked, without the check of the book: how many
+              nodes of the tree it visited on its way down, and how many entries it read to
+              rebuild the one name that it compared. All kinds look equally far. Behind an
+              answer it is a line of its own; with --tsv these two numbers are two more
+              fields behind the question, 0 and 0 where it is refused. A batch does not tell
+              it, so lines of standard input are then asked one by one, each with a check.
+
 The exit status is 1 where exact, range or width find nothing or the question is refused;
 for lines of standard input, where a line is refused.
 
@@ -164,6 +171,7 @@ Examples:
   stopbook ask stops.book exact -- -Mar
   printf 'exact Mar\\nrange Harb\\n' | stopbook ask stops.book
   printf 'exact Mar\\nrange Harb\\n' | stopbook ask stops.book --tsv
+  stopbook ask stops.book exact Marina --looked
 ";
 
 /// The help of `check`.

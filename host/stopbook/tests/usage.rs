@@ -45,6 +45,8 @@ fn the_outputs_in_the_readme_are_what_the_program_prints() {
         "3",
     ];
     assert_in_readme(folder.run(&words).out());
+    let ran = folder.run(&["ask", "stops.book", "exact", "Marina", "--looked"]);
+    assert_in_readme(ran.out());
     let lines = b"exact Mar\nrange Harb\n";
     let ran = folder.run_with(&["ask", "stops.book", "--tsv"], lines);
     assert_in_readme(ran.out());

@@ -1,12 +1,13 @@
 //! Questions from standard input, a kind and a question on each line, asked as
-//! batches. Answers and refusals come in the order of the lines, each with its line.
+//! batches, or one by one where it is told how far each looked. Answers and refusals
+//! come in the order of the lines, each with its line.
 
-use super::question::{self, Question, KINDS};
-use super::{fields, sentence, Form};
+use super::question::{self, Got, Question, KINDS, NOWHERE};
+use super::{fields, sentence, Form, Style};
 use crate::book::Book;
 use crate::outcome::{Failure, Outcome, Status, Streams};
 use crate::text::{grouped, named};
-use mistrogu::{Kind, Refusal, Reply, MOST_ROWS};
+use mistrogu::{Kind, MOST_ROWS};
 use std::io::{self, BufRead, IsTerminal, Read};
 
 /// So much of a line is read; what is longer is refused as a question.
@@ -105,20 +106,20 @@ fn read_question(line: &[u8]) -> Result<Question, String> {
     }
 }
 
-/// Asks the waiting questions in one batch and prints the answers.
+/// Asks the waiting questions and prints the answers.
 fn ask_waiting(book: &mut Book, waiting: &[Asked], form: Form, streams: &mut Streams) -> Outcome {
     let questions = waiting
         .iter()
         .filter_map(|asked| asked.question.as_ref().ok());
     let questions: Vec<Question> = questions.cloned().collect();
-    let replies = question::ask_batch(book.bytes(), &questions)
+    let all = question::ask_all(book.bytes(), &questions, form.looked)
         .map_err(|refusal| Failure::refused(format!("{}: {refusal}", book.source())))?;
-    let mut replies = replies.into_iter();
+    let mut all = all.into_iter();
     let mut status = Status::Done;
     for asked in waiting {
         let answered = match &asked.question {
-            Ok(question) => match replies.next() {
-                Some(reply) => tell(book, asked, question, reply, form, streams)?,
+            Ok(question) => match all.next() {
+                Some(got) => tell(book, asked, question, got, form, streams)?,
                 None => Status::No,
             },
             Err(why) => tell_other(asked, why, form, streams)?,
@@ -134,21 +135,22 @@ fn tell(
     book: &mut Book,
     asked: &Asked,
     question: &Question,
-    reply: Result<Reply, Refusal>,
+    Got { reply, looked }: Got,
     form: Form,
     streams: &mut Streams,
 ) -> Outcome {
     let number = asked.number;
-    match (form, &reply) {
-        (Form::Fields, reply) => {
-            let line = fields::of_question(number, question, reply.as_ref().ok());
+    match (form.style, &reply) {
+        (Style::Fields, reply) => {
+            let line = fields::of_question(number, question, reply.as_ref().ok(), looked);
             streams.out.write_all(line.as_bytes())?;
         }
-        (Form::Sentences(limit), Ok(reply)) => {
+        (Style::Sentences(limit), Ok(reply)) => {
             let text = sentence::tell(book, question, reply, limit, streams.light)?;
-            write!(streams.out, "line {}: {text}", grouped(number))?;
+            let looked = sentence::tell_looked(looked);
+            write!(streams.out, "line {}: {text}{looked}", grouped(number))?;
         }
-        (Form::Sentences(_), Err(_)) => {}
+        (Style::Sentences(_), Err(_)) => {}
     }
     let Err(refusal) = reply else {
         return Ok(Status::Done);
@@ -161,8 +163,9 @@ fn tell(
 
 /// Tells why a line is no question.
 fn tell_other(asked: &Asked, why: &str, form: Form, streams: &mut Streams) -> Outcome {
-    if form == Form::Fields {
-        let line = fields::of_other(asked.number, &asked.line);
+    if form.style == Style::Fields {
+        let looked = form.looked.then_some(NOWHERE);
+        let line = fields::of_other(asked.number, &asked.line, looked);
         streams.out.write_all(line.as_bytes())?;
     }
     note_line(asked.number, why, streams);
@@ -225,7 +228,10 @@ mod tests {
             err: &mut err,
             light: Light::Brackets,
         };
-        let form = Form::Sentences(20);
+        let form = Form {
+            style: Style::Sentences(20),
+            looked: false,
+        };
         let status = ask_reader(&mut book, &mut lines.as_bytes(), most, form, &mut streams);
         let text = |bytes| String::from_utf8(bytes).expect("answers are text");
         (status.expect("the lines are read"), text(out), text(err))

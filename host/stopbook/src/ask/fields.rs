@@ -4,35 +4,41 @@
 //! the answer is yes, no or refused, two numbers, and the question. Where there is no
 //! such number, or no such kind, a lone `-` stands. Numbers have digits alone. The
 //! question is printed as names are, so it has neither tabs nor line ends.
+//!
+//! Where it is told how far questions looked, there are two more behind these, also
+//! always: how many nodes were visited, and how many entries were read. Where the
+//! question is refused, both are 0.
 
 use super::question::{self, Question};
 use crate::outcome::Status;
 use crate::text::shown;
+use mistrogu::counted::Looked;
 use mistrogu::Reply;
 
 /// What stands where there is nothing.
 const NOTHING: &str = "-";
 
 /// The line of a question and its reply, or of one that was refused.
-pub fn of_question(number: usize, question: &Question, reply: Option<&Reply>) -> String {
+pub fn of_question(
+    number: usize,
+    question: &Question,
+    reply: Option<&Reply>,
+    looked: Option<Looked>,
+) -> String {
     let verdict = match reply.map(question::status) {
         None => "refused",
         Some(Status::Done) => "yes",
         Some(_) => "no",
     };
     let numbers = reply.map_or([None, None], numbers);
-    line(
-        number,
-        question.kind.name(),
-        verdict,
-        numbers,
-        &question.text,
-    )
+    let kind = question.kind.name();
+    let fields = six(number, kind, verdict, numbers, &question.text);
+    line(fields, looked)
 }
 
 /// The line of what is no question: it is refused, and has no kind.
-pub fn of_other(number: usize, text: &[u8]) -> String {
-    line(number, NOTHING, "refused", [None, None], text)
+pub fn of_other(number: usize, text: &[u8], looked: Option<Looked>) -> String {
+    line(six(number, NOTHING, "refused", [None, None], text), looked)
 }
 
 /// The two numbers of a reply.
@@ -46,8 +52,8 @@ fn numbers(reply: &Reply) -> [Option<usize>; 2] {
     }
 }
 
-/// A line of fields.
-fn line(
+/// The fields that are always there.
+fn six(
     number: usize,
     kind: &str,
     verdict: &str,
@@ -58,7 +64,15 @@ fn line(
     let [first, second] =
         numbers.map(|number| in_digits(number).unwrap_or_else(|| NOTHING.to_string()));
     let text = shown(text);
-    format!("{number}\t{kind}\t{verdict}\t{first}\t{second}\t{text}\n")
+    format!("{number}\t{kind}\t{verdict}\t{first}\t{second}\t{text}")
+}
+
+/// A line of these fields, and of the two more where it is told how far was looked.
+fn line(fields: String, looked: Option<Looked>) -> String {
+    match looked {
+        None => format!("{fields}\n"),
+        Some(Looked { visits, entries }) => format!("{fields}\t{visits}\t{entries}\n"),
+    }
 }
 
 #[cfg(test)]
@@ -69,7 +83,7 @@ mod tests {
     /// The line of a question in line 1,234.
     fn told(kind: Kind, text: &str, reply: Option<Reply>) -> String {
         let text = text.as_bytes().to_vec();
-        of_question(1_234, &Question { kind, text }, reply.as_ref())
+        of_question(1_234, &Question { kind, text }, reply.as_ref(), None)
     }
 
     #[test]
@@ -110,6 +124,22 @@ mod tests {
             told(Kind::Place, "", Some(Reply::Place(2))),
             "1234\tplace\tyes\t2\t-\t\n"
         );
-        assert_eq!(of_other(7, b"find Mar"), "7\t-\trefused\t-\t-\tfind Mar\n");
+        let other = of_other(7, b"find Mar", None);
+        assert_eq!(other, "7\t-\trefused\t-\t-\tfind Mar\n");
+    }
+
+    #[test]
+    fn how_far_was_looked_are_two_fields_more() {
+        let far = |visits, entries| Some(Looked { visits, entries });
+        let question = Question {
+            kind: Kind::Place,
+            text: b"Mar".to_vec(),
+        };
+        let told = of_question(7, &question, Some(&Reply::Place(2)), far(1_200, 16));
+        assert_eq!(told, "7\tplace\tyes\t2\t-\tMar\t1200\t16\n");
+        let told = of_question(7, &question, None, far(0, 0));
+        assert_eq!(told, "7\tplace\trefused\t-\t-\tMar\t0\t0\n");
+        let told = of_other(7, b"find Mar", far(0, 0));
+        assert_eq!(told, "7\t-\trefused\t-\t-\tfind Mar\t0\t0\n");
     }
 }

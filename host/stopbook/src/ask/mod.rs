@@ -12,7 +12,7 @@ use crate::files;
 use crate::outcome::{Failure, Outcome, Streams};
 use crate::{help, Command};
 use mistrogu::Kind;
-use question::Question;
+use question::{Got, Question};
 use std::ffi::OsStr;
 use std::os::unix::ffi::OsStrExt;
 
@@ -21,7 +21,7 @@ pub const COMMAND: Command = Command {
     name: "ask",
     shape: Shape {
         valued: &["--limit"],
-        flags: &["--tsv"],
+        flags: &["--tsv", "--looked"],
     },
     help: help::ASK,
     run,
@@ -32,7 +32,15 @@ const USUAL_LIMIT: usize = 20;
 
 /// How answers are told.
 #[derive(Clone, Copy, Debug, PartialEq, Eq)]
-enum Form {
+struct Form {
+    style: Style,
+    /// Whether it is also told how far each question looked.
+    looked: bool,
+}
+
+/// For whom answers are told.
+#[derive(Clone, Copy, Debug, PartialEq, Eq)]
+enum Style {
     /// In sentences, with so many names of a range at most.
     Sentences(usize),
     /// In lines of fields, for programs.
@@ -67,13 +75,21 @@ fn run(words: &Words, streams: &mut Streams) -> Outcome {
 
 /// The form of the answers.
 fn read_form(words: &Words) -> Result<Form, Failure> {
+    Ok(Form {
+        style: read_style(words)?,
+        looked: words.has("--looked"),
+    })
+}
+
+/// The style of the answers.
+fn read_style(words: &Words) -> Result<Style, Failure> {
     let limit = words.number("--limit").map_err(Failure::Usage)?;
     match (words.has("--tsv"), limit) {
         (true, Some(_)) => Err(Failure::usage(
             "--limit is for names of a range, and --tsv prints none; give one of them",
         )),
-        (true, None) => Ok(Form::Fields),
-        (false, limit) => Ok(Form::Sentences(limit.unwrap_or(USUAL_LIMIT))),
+        (true, None) => Ok(Style::Fields),
+        (false, limit) => Ok(Style::Sentences(limit.unwrap_or(USUAL_LIMIT))),
     }
 }
 
@@ -87,14 +103,15 @@ fn read_kind(word: &OsStr) -> Result<Kind, Failure> {
 
 /// Asks one question and prints the answer. As the only one it counts as line 1.
 fn ask_one(book: &mut Book, question: &Question, form: Form, streams: &mut Streams) -> Outcome {
-    let reply = question::ask(book.bytes(), question);
-    if form == Form::Fields {
-        let line = fields::of_question(1, question, reply.as_ref().ok());
+    let Got { reply, looked } = question::ask(book.bytes(), question, form.looked);
+    if form.style == Style::Fields {
+        let line = fields::of_question(1, question, reply.as_ref().ok(), looked);
         streams.out.write_all(line.as_bytes())?;
     }
     let reply = reply.map_err(|refusal| sentence::refusal(book, question, refusal))?;
-    if let Form::Sentences(limit) = form {
-        let text = sentence::tell(book, question, &reply, limit, streams.light)?;
+    if let Style::Sentences(limit) = form.style {
+        let mut text = sentence::tell(book, question, &reply, limit, streams.light)?;
+        text.push_str(&sentence::tell_looked(looked));
         streams.out.write_all(text.as_bytes())?;
     }
     Ok(question::status(&reply))

@@ -1,7 +1,7 @@
 //! Questions and what they get.
 
 use crate::outcome::Status;
-use mistrogu::{exact, nearest, place, range, width};
+use mistrogu::counted::{self, Counted, Looked};
 use mistrogu::{Batch, Kind, Refusal, Reply};
 
 /// The kinds, for messages.
@@ -16,23 +16,60 @@ pub struct Question {
     pub text: Vec<u8>,
 }
 
-/// Asks one question by its own call.
-pub fn ask(book: &[u8], question: &Question) -> Result<Reply, Refusal> {
-    let text = &question.text;
-    match question.kind {
-        Kind::Exact => exact(book, text).map(Reply::Exact),
-        Kind::Place => place(book, text).map(Reply::Place),
-        Kind::Range => range(book, text).map(Reply::Range),
-        Kind::Nearest => nearest(book, text).map(Reply::Nearest),
-        Kind::Width => width(book, text).map(Reply::Width),
+/// What a question got.
+#[derive(Clone, Debug, PartialEq, Eq)]
+pub struct Got {
+    /// The answer, or why there is none.
+    pub reply: Result<Reply, Refusal>,
+    /// How far it looked, where that is told.
+    pub looked: Option<Looked>,
+}
+
+/// How far a question looked that was refused.
+pub const NOWHERE: Looked = Looked {
+    visits: 0,
+    entries: 0,
+};
+
+/// Asks one question by its own call; where that is told, with how far it looked.
+pub fn ask(book: &[u8], question: &Question, looked: bool) -> Got {
+    let counted = ask_counted(book, question);
+    let far = counted.as_ref().map_or(NOWHERE, |counted| counted.looked);
+    Got {
+        reply: counted.map(|counted| counted.answer),
+        looked: looked.then_some(far),
     }
 }
 
-/// Asks questions by one call, at most as many as a batch has rows.
-pub fn ask_batch(
-    book: &[u8],
-    questions: &[Question],
-) -> Result<Vec<Result<Reply, Refusal>>, Refusal> {
+/// Asks one question by its own call.
+fn ask_counted(book: &[u8], question: &Question) -> Result<Counted<Reply>, Refusal> {
+    let text = &question.text;
+    match question.kind {
+        Kind::Exact => counted::exact(book, text).map(|got| got.map(Reply::Exact)),
+        Kind::Place => counted::place(book, text).map(|got| got.map(Reply::Place)),
+        Kind::Range => counted::range(book, text).map(|got| got.map(Reply::Range)),
+        Kind::Nearest => counted::nearest(book, text).map(|got| got.map(Reply::Nearest)),
+        Kind::Width => counted::width(book, text).map(|got| got.map(Reply::Width)),
+    }
+}
+
+/// Asks questions, at most as many as a batch has rows: by one call, or one by one
+/// where it is told how far each looked, since a batch does not tell it.
+pub fn ask_all(book: &[u8], questions: &[Question], looked: bool) -> Result<Vec<Got>, Refusal> {
+    if looked {
+        let each = questions.iter();
+        return Ok(each.map(|question| ask(book, question, true)).collect());
+    }
+    let replies = ask_batch(book, questions)?.into_iter();
+    let got = |reply| Got {
+        reply,
+        looked: None,
+    };
+    Ok(replies.map(got).collect())
+}
+
+/// Asks questions by one call.
+fn ask_batch(book: &[u8], questions: &[Question]) -> Result<Vec<Result<Reply, Refusal>>, Refusal> {
     let mut buffer = Vec::new();
     let mut batch: Batch = Batch::new();
     for question in questions {
@@ -97,16 +134,25 @@ mod tests {
     #[test]
     fn each_row_of_the_documents_is_answered_alone() {
         for (question, reply) in rows() {
-            assert_eq!(ask(EXAMPLE, &question), Ok(reply), "{question:?}");
+            let got = ask(EXAMPLE, &question, false);
+            let expected = Got {
+                reply: Ok(reply),
+                looked: None,
+            };
+            assert_eq!(got, expected, "{question:?}");
         }
     }
 
     #[test]
-    fn all_rows_of_the_documents_are_answered_in_a_batch() {
+    fn all_rows_of_the_documents_are_answered_in_a_batch_and_one_by_one() {
         let (questions, replies): (Vec<Question>, Vec<Reply>) = rows().into_iter().unzip();
-        let found = ask_batch(EXAMPLE, &questions).expect("so few rows are a batch");
         let expected: Vec<Result<Reply, Refusal>> = replies.into_iter().map(Ok).collect();
-        assert_eq!(found, expected);
+        for looked in [false, true] {
+            let found = ask_all(EXAMPLE, &questions, looked).expect("so few rows are a batch");
+            assert!(found.iter().all(|got| got.looked.is_some() == looked));
+            let found: Vec<_> = found.into_iter().map(|got| got.reply).collect();
+            assert_eq!(found, expected);
+        }
     }
 
     #[test]
@@ -120,8 +166,18 @@ mod tests {
             text: vec![b'a'; 200],
         };
         let refused = Err(Refusal::QuestionTooLong);
-        assert_eq!(ask(EXAMPLE, &long), refused);
+        assert_eq!(ask(EXAMPLE, &long, false).reply, refused);
         let found = ask_batch(EXAMPLE, &[long, fine]).expect("the batch goes on");
         assert_eq!(found, [refused, Ok(Reply::Place(3))]);
+    }
+
+    #[test]
+    fn a_refused_question_looked_nowhere() {
+        let long = Question {
+            kind: Kind::Place,
+            text: vec![b'a'; 201],
+        };
+        assert_eq!(ask(EXAMPLE, &long, true).looked, Some(NOWHERE));
+        assert_eq!(ask(EXAMPLE, &long, false).looked, None);
     }
 }

@@ -5,6 +5,7 @@ use crate::book::Book;
 use crate::light::Light;
 use crate::outcome::Failure;
 use crate::text::{counted, grouped, named, shown};
+use mistrogu::counted::Looked;
 use mistrogu::{BookKind, Nearest, Refusal, Reply, LONGEST_NAME};
 use std::ops::Range;
 
@@ -27,6 +28,20 @@ pub fn tell(
         Reply::Nearest(nearest) => tell_nearest(book, text, *nearest, light),
         Reply::Width(width) => Ok(tell_width(text, *width)),
     }
+}
+
+/// Tells how far a question looked, in a line that goes behind its answer; nothing
+/// where that is not told.
+pub fn tell_looked(looked: Option<Looked>) -> String {
+    let Some(Looked { visits, entries }) = looked else {
+        return String::new();
+    };
+    let nodes = counted(visits, "node");
+    let entries = match entries {
+        1 => "1 entry".to_string(),
+        _ => format!("{} entries", grouped(entries)),
+    };
+    format!("  looked at {nodes} and {entries}\n")
 }
 
 /// Why a question was refused.
