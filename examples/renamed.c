@@ -82,6 +82,7 @@ static int merges_stops(void)
     static const uint8_t both[] = "\003Mar\006Marina\015Market Square";
     uint8_t merged[sizeof first + sizeof second], book[93];
     struct mistrogu_answer answer;
+    struct mistrogu_counted found;
 
     answer = transit_list_merge(first, sizeof first - 1, second, sizeof second - 1, merged,
                                 sizeof merged);
@@ -90,8 +91,8 @@ static int merges_stops(void)
     answer = transit_book_build(merged, 25, 2, book, sizeof book);
     if (answer.code != 0 || answer.first != sizeof book)
         return 0;
-    answer = transit_book_exact(book, sizeof book, (const uint8_t *)"Marina", 6);
-    return answer.code == 0 && answer.first == 1 && answer.second == 1;
+    found = transit_book_exact(book, sizeof book, (const uint8_t *)"Marina", 6);
+    return found.code == 0 && found.first == 1 && found.second == 1;
 }
 
 int main(void)

@@ -1,13 +1,13 @@
 /*
  * Two operators' lists made one, its three stops in a book, what can be asked of
- * it, and what is left of it where it is damaged; and a folded book, in which a
- * driver finds stops in small letters.
+ * it, how far each question looks, and what is left of it where it is damaged; and a
+ * folded book, in which a driver finds stops in small letters.
  *
  * The merged list, the book and the first twelve questions are those of document
  * 01, the project's scope document; the widths, the merging, how much of a
- * question is lit, the salvage and the folded book are document 02's. Every answer
- * is held to the figures there: where one differs, the program says so and its
- * exit status is 1.
+ * question is lit, the salvage, the folded book and how far a question looks are
+ * document 02's. Every answer is held to the figures there: where one differs, the
+ * program says so and its exit status is 1.
  *
  * run.sh compiles it, links it with the proved library and runs it.
  */
@@ -29,29 +29,32 @@ static const struct mistrogu_head HEADS[] = {{1, 1, 3}, {2, 5, 6}, {1, 5, 13}};
 /* A list whose second name is not above its first. */
 static const uint8_t FALLING[] = "\003Mar\001M";
 
+/* A question, its answer, and how far it looks: nodes visited and entries read. */
 struct asked {
     size_t kind;
     const char *question;
     size_t first;
     size_t second;
+    size_t visits;
+    size_t entries;
 };
 
 static const struct asked ASKED[] = {
-    {MISTROGU_EXACT, "Marina", 1, 1},
-    {MISTROGU_EXACT, "Marin", 0, 0},
-    {MISTROGU_PLACE, "", 0, 0},
-    {MISTROGU_PLACE, "Mark", 2, 0},
-    {MISTROGU_PLACE, "Maxim", 3, 0},
-    {MISTROGU_RANGE, "Mar", 0, 3},
-    {MISTROGU_RANGE, "Mark", 2, 1},
-    {MISTROGU_RANGE, "Mas", 3, 0},
-    {MISTROGU_NEAREST, "Mango", 0, 2},
-    {MISTROGU_NEAREST, "Maxim", 1, 2},
-    {MISTROGU_NEAREST, "Zoo", 0, 0},
-    {MISTROGU_NEAREST, "M", 0, 1},
-    {MISTROGU_WIDTH, "", 13, 0},
-    {MISTROGU_WIDTH, "Mari", 6, 0},
-    {MISTROGU_WIDTH, "Mas", 0, 0},
+    {MISTROGU_EXACT, "Marina", 1, 1, 2, 2},
+    {MISTROGU_EXACT, "Marin", 0, 0, 2, 2},
+    {MISTROGU_PLACE, "", 0, 0, 1, 1},
+    {MISTROGU_PLACE, "Mark", 2, 0, 2, 1},
+    {MISTROGU_PLACE, "Maxim", 3, 0, 2, 2},
+    {MISTROGU_RANGE, "Mar", 0, 3, 2, 1},
+    {MISTROGU_RANGE, "Mark", 2, 1, 2, 1},
+    {MISTROGU_RANGE, "Mas", 3, 0, 2, 1},
+    {MISTROGU_NEAREST, "Mango", 0, 2, 1, 1},
+    {MISTROGU_NEAREST, "Maxim", 1, 2, 2, 2},
+    {MISTROGU_NEAREST, "Zoo", 0, 0, 2, 1},
+    {MISTROGU_NEAREST, "M", 0, 1, 1, 1},
+    {MISTROGU_WIDTH, "", 13, 0, 1, 1},
+    {MISTROGU_WIDTH, "Mari", 6, 0, 2, 2},
+    {MISTROGU_WIDTH, "Mas", 0, 0, 2, 1},
 };
 
 /* A list of one stop, Café, whose last letter has two bytes: C3 A9. */
@@ -79,12 +82,12 @@ static const uint8_t ALIKE[] = "\003MAR\003mar";
 
 /* What is typed to the folded book, in whatever case. */
 static const struct asked TYPED[] = {
-    {MISTROGU_EXACT, "marina", 1, 1},
-    {MISTROGU_EXACT, "MARKET SQUARE", 2, 1},
-    {MISTROGU_PLACE, "MARK", 2, 0},
-    {MISTROGU_RANGE, "maR", 0, 3},
-    {MISTROGU_NEAREST, "markt", 2, 4},
-    {MISTROGU_WIDTH, "MARI", 6, 0},
+    {MISTROGU_EXACT, "marina", 1, 1, 2, 2},
+    {MISTROGU_EXACT, "MARKET SQUARE", 2, 1, 2, 3},
+    {MISTROGU_PLACE, "MARK", 2, 0, 2, 3},
+    {MISTROGU_RANGE, "maR", 0, 3, 2, 1},
+    {MISTROGU_NEAREST, "markt", 2, 4, 2, 3},
+    {MISTROGU_WIDTH, "MARI", 6, 0, 2, 2},
 };
 
 struct damage {
@@ -116,6 +119,27 @@ static struct mistrogu_answer hold(const char *what, struct mistrogu_answer got,
         differences++;
     }
     return got;
+}
+
+/* The three numbers of what a question gives, which are those of a batch's row. */
+static struct mistrogu_answer answer_of(struct mistrogu_counted got)
+{
+    struct mistrogu_answer answer;
+    answer.code = got.code;
+    answer.first = got.first;
+    answer.second = got.second;
+    return answer;
+}
+
+/* Holds how far a question looked to the expected numbers. */
+static void hold_looked(const char *what, struct mistrogu_counted got, size_t visits,
+                        size_t entries)
+{
+    if (got.visits != visits || got.entries != entries) {
+        printf("WRONG: \"%s\" looked at (%zu, %zu), expected (%zu, %zu)\n", what,
+               got.visits, got.entries, visits, entries);
+        differences++;
+    }
 }
 
 /* Holds a head to the expected one. */
@@ -215,8 +239,8 @@ static size_t merge_lists(uint8_t *room, size_t room_length)
 }
 
 /* Asks a question by the call of its kind. */
-static struct mistrogu_answer ask(const uint8_t *book, size_t length, size_t kind,
-                                  const char *question)
+static struct mistrogu_counted ask(const uint8_t *book, size_t length, size_t kind,
+                                   const char *question)
 {
     const uint8_t *bytes = (const uint8_t *)question;
     switch (kind) {
@@ -231,6 +255,15 @@ static struct mistrogu_answer ask(const uint8_t *book, size_t length, size_t kin
     default:
         return book_nearest(book, length, bytes, strlen(question));
     }
+}
+
+/* Asks a question, holds what it gives to what is expected, and gives its answer. */
+static struct mistrogu_answer ask_and_hold(const uint8_t *book, size_t length,
+                                           const struct asked *asked)
+{
+    struct mistrogu_counted got = ask(book, length, asked->kind, asked->question);
+    hold_looked(asked->question, got, asked->visits, asked->entries);
+    return hold(asked->question, answer_of(got), 0, asked->first, asked->second);
 }
 
 /* Prints what a question was answered. */
@@ -272,10 +305,34 @@ static void ask_one_by_one(const uint8_t *book, size_t length)
 {
     size_t i;
     printf("questions one by one\n");
+    for (i = 0; i < COUNT(ASKED); i++)
+        tell(&ASKED[i], ask_and_hold(book, length, &ASKED[i]));
+}
+
+/* The most nodes that a question of so many bytes visits in a book of so many names. */
+static size_t most_visits(size_t names, size_t question_length)
+{
+    return question_length + 2 < names ? question_length + 2 : names;
+}
+
+/* As a guest does that has a fixed slot for each question: before it asks it knows
+   the most that a question can look at, and the answer tells how much it was. */
+static void keep_to_a_slot(const uint8_t *book, size_t length)
+{
+    struct mistrogu_answer checked = book_check(book, length);
+    size_t i;
+    printf("how far each looked, of the most that it can\n");
     for (i = 0; i < COUNT(ASKED); i++) {
-        const struct asked *asked = &ASKED[i];
-        tell(asked, hold(asked->question, ask(book, length, asked->kind, asked->question),
-                         0, asked->first, asked->second));
+        const char *question = ASKED[i].question;
+        size_t nodes = most_visits(checked.first, strlen(question));
+        size_t entries = checked.second;
+        struct mistrogu_counted got = ask(book, length, ASKED[i].kind, question);
+        if (got.visits > nodes || got.entries > entries) {
+            printf("WRONG: \"%s\" is past its slot\n", question);
+            differences++;
+        }
+        printf("  \"%s\": nodes %zu of %zu, entries %zu of %zu\n", question, got.visits,
+               nodes, got.entries, entries);
     }
 }
 
@@ -307,7 +364,7 @@ static void ask_in_a_batch(const uint8_t *book, size_t length)
                  0, COUNT(rows), 0);
     if (batch.code != 0)
         return; /* A refused batch has written no answers. */
-    printf("the same in a batch\n");
+    printf("the same questions in a batch\n");
     for (i = 0; i < COUNT(ASKED); i++)
         tell(&ASKED[i], hold("a row of the batch", answers[i], 0, ASKED[i].first,
                              ASKED[i].second));
@@ -333,8 +390,8 @@ static void light_no_half_letter(void)
     for (i = 0; i < COUNT(LIT); i++) {
         struct mistrogu_answer answer =
             hold(LIT[i].how,
-                 ask(book, sizeof book, MISTROGU_NEAREST, LIT[i].question), 0, 0,
-                 LIT[i].lit);
+                 answer_of(ask(book, sizeof book, MISTROGU_NEAREST, LIT[i].question)), 0,
+                 0, LIT[i].lit);
         printf("  %s: bytes to light: %zu\n", LIT[i].how, answer.second);
     }
 }
@@ -358,11 +415,8 @@ static void ask_a_folded_book(const uint8_t *book, size_t length)
         differences++;
     }
     printf("a folded book of %zu bytes\n", length);
-    for (i = 0; i < COUNT(TYPED); i++) {
-        const struct asked *typed = &TYPED[i];
-        tell(typed, hold(typed->question, ask(book, length, typed->kind, typed->question),
-                         0, typed->first, typed->second));
-    }
+    for (i = 0; i < COUNT(TYPED); i++)
+        tell(&TYPED[i], ask_and_hold(book, length, &TYPED[i]));
     for (i = 0; i < COUNT(SPELT); i++) {
         struct mistrogu_answer read =
             hold("book_read, folded", book_read(book, length, i, name, sizeof name), 0,
@@ -465,6 +519,7 @@ static void be_refused(const uint8_t *list, size_t list_length, const uint8_t *b
     static const uint8_t long_question[MISTROGU_LONGEST_NAME + 1] = {0};
     uint8_t room[92];
     uint8_t old[93];
+    struct mistrogu_counted asked;
     int before = differences;
 
     memset(room, 0xAA, sizeof room);
@@ -483,9 +538,9 @@ static void be_refused(const uint8_t *list, size_t list_length, const uint8_t *b
          MISTROGU_NO_SUCH_POSITION, 0, 0);
     hold("a name into 5 bytes", book_read(book, length, 1, room, 5),
          MISTROGU_ROOM_TOO_SHORT, 0, 0);
-    hold("a question of 201 bytes",
-         book_exact(book, length, long_question, sizeof long_question),
-         MISTROGU_QUESTION_TOO_LONG, 0, 0);
+    asked = book_exact(book, length, long_question, sizeof long_question);
+    hold("a question of 201 bytes", answer_of(asked), MISTROGU_QUESTION_TOO_LONG, 0, 0);
+    hold_looked("a question of 201 bytes", asked, 0, 0);
     hold_untouched(room, sizeof room);
     if (differences == before)
         printf("eight calls were refused as they had to be\n");
@@ -605,6 +660,7 @@ int main(void)
         return 1;
     read_names(book, length);
     ask_one_by_one(book, length);
+    keep_to_a_slot(book, length);
     ask_in_a_batch(book, length);
     light_no_half_letter();
     fold();
