@@ -1,2 +1,2 @@
 -- Laws of the search, in the shapes that its functions need. No contract cites them.
-pub mod Spots
+pub mod Seats

@@ -1,72 +1,19 @@
--- What the functions of the search ask and give. The way down the node table is `Paths.antt` of `paths`.
---     MetSays               how a name stands to a question
---     NearSays              the name that a question reaches, what they share, and its length
---     SpotSays, AtSpot      the node whose names share most with a question
---     Askable, KindAsk      what an accepted book with names is to a search; the kind has a number from 1 to 5
---     Looked                how far the search for a question looked
+-- What the five questions ask, and how a reply is read.
+--     KindAsk               an accepted book with names; the kind has a number from 1 to 5
 --     pairOf                an answer's two numbers
 -- Assumes nothing: these are definitions.
 use Prim.Native.Nat.{ℕ, _≤_}
-use mathlib.Core.Path.{_≡_}
-use mathlib.Core.List.{List}
-use lib.ListN.{length}
-use Rattle.words.specs.Words.{Bytes, Words, at, shared}
-use Rattle.words.specs.Rising.{nth}
-use Rattle.format.specs.Kinds.{ruleIn}
+use Rattle.words.specs.Words.{Bytes}
 use Rattle.answers.specs.Widths.{lastKind}
-use Rattle.answers.specs.Questions.{Pair as Numbers, reached}
-use Rattle.answers.specs.Counts.{visits}
-use Rattle.descent.specs.Vocabulary.{Located, Reached, Searchable, askedIn}
-use Rattle.format.specs.Spans.{wordsIn}
-use Rattle.format.specs.Book.{told}
-use Rattle.standing.specs.Maps.{Map, Placed, mapOf, numberIn}
+use Rattle.answers.specs.Questions.{Pair as Numbers}
 use Rattle.trailer.specs.declared.Trailer.{Trailer}
-use Rattle.accept.specs.Parts.{Parts}
-use Rattle.names.specs.Names.{entriesTo}
+use Rattle.spots.specs.Spots.{Askable}
 use Rattle.search.specs.declared.Reply.{Reply}
-
--- ---- the name that is reached
-
--- the name at a position shares m symbols with q, and then comes its symbol s
-pub record MetSays (ws : Words) (q : List ℕ) (position m s : ℕ) : Type 0 where
-  pub shares : m ≡ shared q (nth ws position)
-  pub next : s ≡ at (nth ws position) m
-
--- the name at a position is the one that q reaches; they share m symbols, and it has len of them
-pub record NearSays (ws : Words) (q : List ℕ) (position m len : ℕ) : Type 0 where
-  pub there : Reached ws q position
-  pub shares : m ≡ shared q (nth ws position)
-  pub size : len ≡ length (nth ws position)
-
--- the node at o has the names that share most with q, m symbols; in the one that is reached then comes s
-pub record SpotSays (b : Bytes) (μ : Map) (q : List ℕ) (o m s : ℕ) : Type 0 where
-  pub placed : Placed μ o
-  pub located : Located (wordsIn b) q m (numberIn μ o)
-  pub next : s ≡ at (nth (wordsIn b) (reached q (wordsIn b))) m
-
-pub record AtSpot (b : Bytes) (μ : Map) (q : Bytes) (o m s : ℕ) : Type 0 where
-  pub searchable : Searchable (ruleIn b) b μ
-  pub spot : SpotSays b μ (askedIn b q) o m s
-
--- ---- the questions
-
-pub record Askable (b : Bytes) (t : Trailer) : Type 0 where
-  pub parts : Parts b
-  pub block : t .block ≡ told b 1
-  pub table : t .«blocks_at» ≡ told b 2
-  pub nodes : t .«nodes_at» ≡ told b 3
-  pub start : mapOf b .start ≡ told b 3
-  pub searchable : Searchable (ruleIn b) b (mapOf b)
 
 pub record KindAsk (b : Bytes) (t : Trailer) (kind : ℕ) : Type 0 where
   pub askable : Askable b t
   pub low : 1 ≤ kind
   pub high : kind ≤ lastKind
-
--- the nodes on its way down, and the entries up to the name that it reached
-pub record Looked (b q : Bytes) (seen read : ℕ) : Type 0 where
-  pub nodes : seen ≡ visits (askedIn b q) (wordsIn b)
-  pub name : read ≡ entriesTo (told b 1) (reached (askedIn b q) (wordsIn b))
 
 abbrev pub pairOf : Reply → Numbers
 pairOf r = (r .first, r .second)

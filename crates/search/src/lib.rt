@@ -1,19 +1,15 @@
-// The five questions, asked of a book that the check has accepted. One way down the node table serves all of them (crate `paths`); the name
-// that it reaches is rebuilt and compared, since the way down passes over bytes that it never looks at. Each also tells how far that looked: the
-// nodes on the way, and the entries that were read for the name. A node is told by the offset of its first number; the next node stands
-// `stride` bytes further on, and a node's next number `step` bytes.
+// The five questions, asked of a book that the check has accepted: what was found in its node table (crate `spots`) gives the numbers of
+// each. A node is told by the offset of its first number; the next node stands `stride` bytes further on, and a node's next number `step`
+// bytes.
 ghost use mathlib.Core.Path.{_≡_};
-ghost use Rattle.format.specs.Book.{told};
-ghost use Rattle.format.specs.Kinds.{ruleIn};
 ghost use Rattle.format.specs.Spans.{wordsIn};
-ghost use Rattle.standing.specs.Maps.{mapOf};
 ghost use Rattle.answers.specs.Questions.{ask, exact, nearest, place, range};
 ghost use Rattle.answers.specs.Widths.{width};
-ghost use Rattle.answers.specs.Counts.{visits};
-ghost use Rattle.descent.specs.Vocabulary.{Reached, Searchable, askedIn};
-ghost use Rattle.names.specs.Names.{PositionAsk, entriesTo};
+ghost use Rattle.descent.specs.Vocabulary.{askedIn};
 ghost use Rattle.paths.specs.Paths.{tableMap};
-ghost use Rattle.search.specs.Asks.{AtSpot, Askable, KindAsk, Looked, MetSays, NearSays, SpotSays, pairOf};
+ghost use Rattle.spots.specs.Spots.{AtSpot, Askable, Looked};
+ghost use Rattle.search.specs.Asks.{KindAsk, pairOf};
+use spots::Spot;
 
 // An answer's two numbers, and how far the search looked.
 pub struct Reply {
@@ -21,118 +17,6 @@ pub struct Reply {
     pub second: usize,
     pub visits: usize,
     pub entries: usize,
-}
-
-// How a name stands to a question: how many symbols they share, and the name's next one; and the entries that were read for it.
-pub struct Met {
-    pub shared: usize,
-    pub symbol: usize,
-    pub entries: usize,
-}
-
-// The offset of the node whose names share most with a question, how many symbols, and the next one of the name that is reached; and how far
-// the search looked.
-pub struct Spot {
-    pub node: usize,
-    pub shared: usize,
-    pub symbol: usize,
-    pub visits: usize,
-    pub entries: usize,
-}
-
-// The position that a question reaches, and the nodes that it visited.
-pub struct Goal {
-    pub position: usize,
-    pub visits: usize,
-}
-
-// The name that a question reaches: its position, how many symbols the two share, and its length; and how far the search looked.
-pub struct Near {
-    pub position: usize,
-    pub shared: usize,
-    pub len: usize,
-    pub visits: usize,
-    pub entries: usize,
-}
-
-// The name at a position, rebuilt, and how it stands to the question.
-fn compare(book: &[u8], t: trailer::Trailer, position: usize, question: &[u8]) -> Met
-    requires { ⌜ PositionAsk (now book) t position ⌝ }
-    ensures { λ r. ⌜ MetSays (wordsIn (now (book .entry))) (askedIn (now (book .entry)) (now (question .entry))) position (r .shared) (r .symbol) ⌝ }
-    ensures { λ r. ⌜ r .entries ≡ entriesTo (told (now (book .entry)) 1) position ⌝ }
-{
-    let entry = names::read_name(book, t, position);
-    let name = entry.name;
-    let len = entry.len;
-    let rule = trailer::rule(book);
-    let shared = symbols::shared_symbols(rule, question, &name[0..len]);
-    let symbol = symbols::symbol_at(rule, &name[0..len], 0, shared);
-    Met {
-        shared,
-        symbol,
-        entries: entry.read,
-    }
-}
-
-// The position that the question reaches, and the nodes that it visits on the way.
-fn reach(book: &[u8], stride: usize, step: usize, start: usize, question: &[u8]) -> Goal
-    requires { ⌜ Searchable (ruleIn (now book)) (now book) (tableMap (now book) stride step) × (start ≡ told (now book) 3) ⌝ }
-    ensures { λ r. ⌜ Reached (wordsIn (now (book .entry))) (askedIn (now (book .entry)) (now (question .entry))) (r .position) ⌝ }
-    ensures { λ r. ⌜ r .visits ≡ visits (askedIn (now (book .entry)) (now (question .entry))) (wordsIn (now (book .entry))) ⌝ }
-{
-    let way = paths::descend(book, stride, step, start, question);
-    Goal {
-        position: fields::first(book, way.last, step),
-        visits: way.len,
-    }
-}
-
-// The name that a question reaches, rebuilt and compared. Exact and nearest ask for no more: the node whose names share most, and the
-// path to it, are what place, range and width want (`locate`).
-fn meet(book: &[u8], t: trailer::Trailer, question: &[u8]) -> Near
-    requires { ⌜ Askable (now book) t ⌝ }
-    ensures { λ r. ⌜ NearSays (wordsIn (now (book .entry))) (askedIn (now (book .entry)) (now (question .entry))) (r .position) (r .shared) (r .len) ⌝ }
-    ensures { λ r. ⌜ Looked (now (book .entry)) (now (question .entry)) (r .visits) (r .entries) ⌝ }
-{
-    let start = numbers::wide16(t.nodes_at);
-    let stride = trailer::stride(book);
-    let step = trailer::step(book);
-    let goal = reach(book, stride, step, start, question);
-    let position = goal.position;
-    let entry = names::read_name(book, t, position);
-    let name = entry.name;
-    let len = entry.len;
-    let shared = symbols::shared_symbols(trailer::rule(book), question, &name[0..len]);
-    Near {
-        position,
-        shared,
-        len,
-        visits: goal.visits,
-        entries: entry.read,
-    }
-}
-
-// The node with the names that share most with the question.
-fn locate(book: &[u8], t: trailer::Trailer, question: &[u8]) -> Spot
-    requires { ⌜ Askable (now book) t ⌝ }
-    ensures { λ r. ⌜ SpotSays (now (book .entry)) (mapOf (now (book .entry))) (askedIn (now (book .entry)) (now (question .entry))) (r .node) (r .shared) (r .symbol) ⌝ }
-    ensures { λ r. ⌜ Looked (now (book .entry)) (now (question .entry)) (r .visits) (r .entries) ⌝ }
-{
-    let start = numbers::wide16(t.nodes_at);
-    let stride = trailer::stride(book);
-    let step = trailer::step(book);
-    let way = paths::descend(book, stride, step, start, question);
-    let position = fields::first(book, way.last, step);
-    let met = compare(book, t, position, question);
-    let visits = way.len;
-    let node = paths::highest(book, step, way, met.shared);
-    Spot {
-        node,
-        shared: met.shared,
-        symbol: met.symbol,
-        visits,
-        entries: met.entries,
-    }
 }
 
 // How many names are less than the question, once that node is known. Inside its edge the whole group lies to one side; at its fork the
@@ -165,7 +49,7 @@ fn ask_exact(book: &[u8], t: trailer::Trailer, question: &[u8]) -> Reply
     ensures { λ r. ⌜ pairOf r ≡ exact (askedIn (now (book .entry)) (now (question .entry))) (wordsIn (now (book .entry))) ⌝ }
     ensures { λ r. ⌜ Looked (now (book .entry)) (now (question .entry)) (r .visits) (r .entries) ⌝ }
 {
-    let met = meet(book, t, question);
+    let met = spots::meet(book, t, question);
     let visits = met.visits;
     let entries = met.entries;
     let missed = Reply {
@@ -194,7 +78,7 @@ fn ask_place(book: &[u8], t: trailer::Trailer, question: &[u8]) -> Reply
     ensures { λ r. ⌜ pairOf r ≡ (place (askedIn (now (book .entry)) (now (question .entry))) (wordsIn (now (book .entry))), 0) ⌝ }
     ensures { λ r. ⌜ Looked (now (book .entry)) (now (question .entry)) (r .visits) (r .entries) ⌝ }
 {
-    let spot = locate(book, t, question);
+    let spot = spots::locate(book, t, question);
     let stride = trailer::stride(book);
     let first = seat(book, stride, trailer::step(book), question, spot);
     let visits = spot.visits;
@@ -213,7 +97,7 @@ fn ask_range(book: &[u8], t: trailer::Trailer, question: &[u8]) -> Reply
     ensures { λ r. ⌜ Looked (now (book .entry)) (now (question .entry)) (r .visits) (r .entries) ⌝ }
 {
     let step = trailer::step(book);
-    let spot = locate(book, t, question);
+    let spot = spots::locate(book, t, question);
     let first = seat(book, trailer::stride(book), step, question, spot);
     if spot.shared < question.len() {
         return Reply {
@@ -238,7 +122,7 @@ fn ask_nearest(book: &[u8], t: trailer::Trailer, question: &[u8]) -> Reply
     ensures { λ r. ⌜ pairOf r ≡ nearest (askedIn (now (book .entry)) (now (question .entry))) (wordsIn (now (book .entry))) ⌝ }
     ensures { λ r. ⌜ Looked (now (book .entry)) (now (question .entry)) (r .visits) (r .entries) ⌝ }
 {
-    let met = meet(book, t, question);
+    let met = spots::meet(book, t, question);
     Reply {
         first: met.position,
         second: met.shared,
@@ -253,7 +137,7 @@ fn ask_width(book: &[u8], t: trailer::Trailer, question: &[u8]) -> Reply
     ensures { λ r. ⌜ pairOf r ≡ (width (askedIn (now (book .entry)) (now (question .entry))) (wordsIn (now (book .entry))), 0) ⌝ }
     ensures { λ r. ⌜ Looked (now (book .entry)) (now (question .entry)) (r .visits) (r .entries) ⌝ }
 {
-    let spot = locate(book, t, question);
+    let spot = spots::locate(book, t, question);
     if spot.shared != question.len() {
         return Reply {
             first: 0,

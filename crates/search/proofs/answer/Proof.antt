@@ -2,7 +2,7 @@
 -- Assumes nothing.
 use native.Mathlib.Omega.{arith}
 use borrow.Author.Needs.{needs}
-use Rattle.search.proofs.Spots.{by-exact, by-nearest, by-place, by-range, by-width}
+use Rattle.search.proofs.Seats.{by-exact, by-nearest, by-place, by-range, by-width}
 use Rattle.search.proofs.answer.Statement.{statement}
 use Rattle.search.proofs.answer.Tie as tie
 

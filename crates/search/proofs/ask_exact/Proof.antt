@@ -2,7 +2,7 @@
 -- Assumes nothing.
 use native.Mathlib.Omega.{arith}
 use borrow.Author.Needs.{needs}
-use Rattle.search.proofs.Spots.{exact-found, exact-longer, exact-short}
+use Rattle.search.proofs.Seats.{exact-found, exact-longer, exact-short}
 use Rattle.search.proofs.ask_exact.Statement.{statement}
 use Rattle.search.proofs.ask_exact.Tie as tie
 

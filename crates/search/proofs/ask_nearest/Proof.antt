@@ -1,7 +1,7 @@
 -- `search::ask_nearest` meets its contract: the position reached, and what its name shares.
 -- Assumes nothing.
 use borrow.Author.Needs.{needs}
-use Rattle.search.proofs.Spots.{nearest-is}
+use Rattle.search.proofs.Seats.{nearest-is}
 use Rattle.search.proofs.ask_nearest.Statement.{statement}
 use Rattle.search.proofs.ask_nearest.Tie as tie
 

@@ -3,7 +3,7 @@
 use Prim.Native.Nat.{ℕ}
 use mathlib.Core.Path.{ap}
 use borrow.Author.Needs.{needs}
-use Rattle.search.proofs.Spots.{spot-at}
+use Rattle.spots.proofs.Spots.{spot-at}
 use Rattle.search.proofs.ask_place.Statement.{statement}
 use Rattle.search.proofs.ask_place.Tie as tie
 

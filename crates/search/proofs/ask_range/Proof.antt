@@ -4,8 +4,9 @@ use native.Mathlib.Omega.{arith}
 use borrow.Author.Needs.{needs}
 use Rattle.paths.specs.Paths.{tableMap}
 use Rattle.paths.proofs.Ways.{at-here, here-room}
-use Rattle.search.specs.Asks.{AtSpot}
-use Rattle.search.proofs.Spots.{range-all, range-short, seat-node, spot-at}
+use Rattle.spots.specs.Spots.{AtSpot}
+use Rattle.spots.proofs.Spots.{spot-at}
+use Rattle.search.proofs.Seats.{range-all, range-short, seat-node}
 use Rattle.search.proofs.ask_range.Statement.{statement}
 use Rattle.search.proofs.ask_range.Tie as tie
 

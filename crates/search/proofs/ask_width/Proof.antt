@@ -5,8 +5,9 @@ use borrow.Author.Needs.{needs}
 use Rattle.standing.specs.Maps.{mapOf}
 use Rattle.paths.specs.Paths.{tableMap}
 use Rattle.paths.proofs.Ways.{at-here, here-room}
-use Rattle.search.specs.Asks.{AtSpot}
-use Rattle.search.proofs.Spots.{seat-node, spot-at, width-all, width-short}
+use Rattle.spots.specs.Spots.{AtSpot}
+use Rattle.spots.proofs.Spots.{spot-at}
+use Rattle.search.proofs.Seats.{seat-node, width-all, width-short}
 use Rattle.search.proofs.ask_width.Statement.{statement}
 use Rattle.search.proofs.ask_width.Tie as tie
 

@@ -4,7 +4,7 @@ use Prim.Native.Nat.{_<_}
 use native.Mathlib.Omega.{arith}
 use borrow.Author.Needs.{needs}
 use Rattle.paths.proofs.Ways.{at-here, end-fits, here-room, row-fits, row-here}
-use Rattle.search.proofs.Spots.{seat-after, seat-before, seat-child, seat-end, seat-fork, seat-node}
+use Rattle.search.proofs.Seats.{seat-after, seat-before, seat-child, seat-end, seat-fork, seat-node}
 use Rattle.search.proofs.seat.Statement.{statement}
 use Rattle.search.proofs.seat.Tie as tie
 

@@ -1,9 +1,9 @@
--- `search::compare` meets its contract: the front of the array is the name at the position. The question is named, so that a wrong rule shows.
+-- `spots::compare` meets its contract: the front of the array is the name at the position. The question is named, so that a wrong rule shows.
 -- Assumes nothing.
 use borrow.Author.Needs.{needs}
-use Rattle.search.proofs.Spots.{met}
-use Rattle.search.proofs.compare.Statement.{statement}
-use Rattle.search.proofs.compare.Tie as tie
+use Rattle.spots.proofs.Spots.{met}
+use Rattle.spots.proofs.compare.Statement.{statement}
+use Rattle.spots.proofs.compare.Tie as tie
 
 returns : tie.Need-returns
 returns c =

@@ -1,10 +1,10 @@
--- `search::reach` meets its contract: the first name of the last node on the path, and how many nodes that has.
+-- `spots::reach` meets its contract: the first name of the last node on the path, and how many nodes that has.
 -- Assumes nothing.
 use borrow.Author.Needs.{needs}
 use Rattle.paths.proofs.Ways.{here-room}
-use Rattle.search.proofs.Spots.{end-here, end-reached, end-visits}
-use Rattle.search.proofs.reach.Statement.{statement}
-use Rattle.search.proofs.reach.Tie as tie
+use Rattle.spots.proofs.Spots.{end-here, end-reached, end-visits}
+use Rattle.spots.proofs.reach.Statement.{statement}
+use Rattle.spots.proofs.reach.Tie as tie
 
 returns : tie.Need-returns
 returns c =

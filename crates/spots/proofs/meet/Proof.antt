@@ -1,9 +1,9 @@
--- `search::meet` meets its contract: the front of the array is the name that is reached. The question is named, so that a wrong rule shows.
+-- `spots::meet` meets its contract: the front of the array is the name that is reached. The question is named, so that a wrong rule shows.
 -- Assumes nothing.
 use borrow.Author.Needs.{needs}
-use Rattle.search.proofs.Spots.{looked, name-ask, near, starts}
-use Rattle.search.proofs.meet.Statement.{statement}
-use Rattle.search.proofs.meet.Tie as tie
+use Rattle.spots.proofs.Spots.{looked, name-ask, near, starts}
+use Rattle.spots.proofs.meet.Statement.{statement}
+use Rattle.spots.proofs.meet.Tie as tie
 
 returns : tie.Need-returns
 returns c =

@@ -1,13 +1,13 @@
--- `search::locate` meets its contract: the highest node of the path that is deep enough has the names that share most.
+-- `spots::locate` meets its contract: the highest node of the path that is deep enough has the names that share most.
 -- Assumes nothing.
 use borrow.Author.Needs.{needs}
 use Rattle.format.specs.Kinds.{ruleIn}
 use Rattle.descent.specs.Vocabulary.{Searchable}
 use Rattle.paths.specs.Paths.{tableMap}
 use Rattle.paths.proofs.Ways.{here-room}
-use Rattle.search.proofs.Spots.{end-here, end-path, end-reached, end-visits, looked, name-ask, own-searchable, spot, spot-in, starts}
-use Rattle.search.proofs.locate.Statement.{statement}
-use Rattle.search.proofs.locate.Tie as tie
+use Rattle.spots.proofs.Spots.{end-here, end-path, end-reached, end-visits, looked, name-ask, own-searchable, spot, spot-in, starts}
+use Rattle.spots.proofs.locate.Statement.{statement}
+use Rattle.spots.proofs.locate.Tie as tie
 
 -- the map that the trailer tells of
 own : (c : tie.After-step) → let b = c .before .before .before .before .before .args .book .now in Searchable (ruleIn b) b (tableMap b (c .before .stride .result) (c .step .result))
