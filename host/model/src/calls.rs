@@ -10,7 +10,7 @@ use crate::kinds::BookKind;
 use crate::layout::{book_of, LARGEST_BLOCK, LONGEST_BOOK};
 use crate::names::{read_list, Rule, LONGEST_NAME};
 use crate::open::open;
-use crate::questions::{exact, nearest, place, range, width, Kind};
+use crate::questions::{exact, look, nearest, place, range, width, Kind, Look};
 use crate::refusals::{
     BAD_BLOCK_SIZE, BAD_ROW, BAD_ROW_COUNT, BOOK_TOO_LONG, NEAREST_OF_NONE, NO_BOOK,
     NO_SUCH_POSITION, QUESTION_TOO_LONG, ROOM_TOO_SHORT,
@@ -21,7 +21,8 @@ pub const LONGEST_QUESTION: usize = LONGEST_NAME;
 /// A batch has 0 to 64 rows.
 pub const MOST_ROWS: usize = 64;
 
-/// What every call gives back, and what an answer row of a batch holds.
+/// What every call gives back but a single question, and what an answer row of a
+/// batch holds.
 #[derive(Clone, Copy, Debug, PartialEq, Eq, Default)]
 pub struct Answer {
     /// 0 where the call is accepted, else the number of the refusal.
@@ -30,6 +31,44 @@ pub struct Answer {
     pub first: usize,
     /// The second number of the answer.
     pub second: usize,
+}
+
+/// What a single question gives back: an answer's three numbers, and how far it
+/// looked.
+#[derive(Clone, Copy, Debug, PartialEq, Eq, Default)]
+pub struct Counted {
+    /// 0 where the question is accepted, else the number of the refusal.
+    pub code: usize,
+    /// The first number of the answer.
+    pub first: usize,
+    /// The second number of the answer.
+    pub second: usize,
+    /// How many nodes were visited going down, the root and the last one counted.
+    pub visits: usize,
+    /// How many entries were read to rebuild the one name that was compared.
+    pub entries: usize,
+}
+
+impl Counted {
+    /// The answer, for a question that looked so far.
+    pub fn of(answer: Answer, look: Look) -> Counted {
+        Counted {
+            code: answer.code,
+            first: answer.first,
+            second: answer.second,
+            visits: look.visits,
+            entries: look.entries,
+        }
+    }
+
+    /// The three numbers, as a batch row has them.
+    pub fn answer(self) -> Answer {
+        Answer {
+            code: self.code,
+            first: self.first,
+            second: self.second,
+        }
+    }
 }
 
 /// A question row of a batch: its kind and its span of the question buffer.
@@ -132,39 +171,47 @@ pub fn book_read(book: &[u8], position: usize, room: &mut [u8]) -> Answer {
 }
 
 /// Exact: (position, 1) where a name equals the question. Refusals: 2, 1.
-pub fn book_exact(book: &[u8], question: &[u8]) -> Answer {
+pub fn book_exact(book: &[u8], question: &[u8]) -> Counted {
     ask_book(book, Kind::Exact, question)
 }
 
 /// Place: how many names are less than the question. Refusals: 2, 1.
-pub fn book_place(book: &[u8], question: &[u8]) -> Answer {
+pub fn book_place(book: &[u8], question: &[u8]) -> Counted {
     ask_book(book, Kind::Place, question)
 }
 
 /// Range: the question's place and how many names begin with it. Refusals:
 /// 2, 1.
-pub fn book_range(book: &[u8], question: &[u8]) -> Answer {
+pub fn book_range(book: &[u8], question: &[u8]) -> Counted {
     ask_book(book, Kind::Range, question)
 }
 
 /// Nearest: a position and how many leading bytes of the question to light
 /// there. Refusals: 2, 1, 10.
-pub fn book_nearest(book: &[u8], question: &[u8]) -> Answer {
+pub fn book_nearest(book: &[u8], question: &[u8]) -> Counted {
     ask_book(book, Kind::Nearest, question)
 }
 
 /// Width: the greatest length among the names of the question's range, 0 where
 /// the range is empty. Refusals: 2, 1.
-pub fn book_width(book: &[u8], question: &[u8]) -> Answer {
+pub fn book_width(book: &[u8], question: &[u8]) -> Counted {
     ask_book(book, Kind::Width, question)
 }
 
-/// A single question. Refusals: 2, then those of `ask_names`.
-fn ask_book(book: &[u8], kind: Kind, question: &[u8]) -> Answer {
-    match open(book) {
-        None => refused(NO_BOOK),
-        Some((book_kind, _, names)) => ask_names(book_kind.rule(), &names, kind, question),
-    }
+/// A single question. Refusals: 2, then those of `ask_names`. An accepted one of any
+/// kind tells how far it looked; to open the book is no part of that. A refused one
+/// has looked at nothing.
+fn ask_book(book: &[u8], kind: Kind, question: &[u8]) -> Counted {
+    let Some((book_kind, block, names)) = open(book) else {
+        return Counted::of(refused(NO_BOOK), Look::default());
+    };
+    let rule = book_kind.rule();
+    let answer = ask_names(rule, &names, kind, question);
+    let looked = match answer.code {
+        0 => look(rule, block, &names, question),
+        _ => Look::default(),
+    };
+    Counted::of(answer, looked)
 }
 
 /// A question to the names of a book that was checked, by its rule. Refusals: 1,

@@ -1,11 +1,12 @@
 //! The second program of Mistrogu.
 //!
 //! Everything that document 01 asks for, with what document 02's change requests
-//! 1 (width), 2 (merging), 3 (nearest's number), 5 (worn cards) and 7 (folded
-//! books) add to it or change of it, done over a plain sorted list of byte strings. Nothing here is
-//! fast and nothing is meant to be. A reader with the documents in the other hand
-//! should be able to believe each function at sight, because test vectors for the
-//! proved library come from this crate. It shares no line with that library.
+//! 1 (width), 2 (merging), 3 (nearest's number), 5 (worn cards), 7 (folded books)
+//! and 8 (how far it looked) add to it or change of it, done over a plain sorted list
+//! of byte strings. Nothing here is fast and nothing is meant to be. A reader with the
+//! documents in the other hand should be able to believe each function at sight,
+//! because test vectors for the proved library come from this crate. It shares no line
+//! with that library.
 //!
 //! Where to look:
 //!
@@ -16,7 +17,7 @@
 //! | [`tree`] | which nodes a list of names has |
 //! | [`layout`] | the bytes of a book |
 //! | [`open`](mod@open) | which runs of bytes are a book |
-//! | [`questions`] | exact, place, range, nearest; width and nearest's number (document 02) |
+//! | [`questions`] | exact, place, range, nearest; width, nearest's number and how far a question looks (document 02) |
 //! | [`refusals`] | the numbers given back when a call says no |
 //! | [`calls`] | the public calls, each with its refusals in their order |
 //! | [`merging`] | the calls of two lists: merge, judge and step (document 02) |
@@ -42,7 +43,7 @@ pub mod tree;
 
 pub use calls::{
     book_batch, book_build, book_build_folded, book_check, book_exact, book_nearest, book_place,
-    book_range, book_read, book_width, build_kind, Answer, Row,
+    book_range, book_read, book_width, build_kind, Answer, Counted, Row,
 };
 pub use kinds::BookKind;
 pub use layout::book_of;

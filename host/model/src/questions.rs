@@ -1,10 +1,11 @@
 //! The five questions, asked of a plain sorted list.
 //!
-//! Renders document 01, "Questions", and of document 02 width and nearest's
-//! number, change requests 1 and 3. Exact, place, range and width go through all
-//! names. Only nearest needs the tree, because document 01 says by the tree which
-//! of several equally near names it gives. All of them go by symbols, so each takes
-//! the rule of the names' book (change request 7).
+//! Renders document 01, "Questions", and of document 02 width, nearest's number
+//! and how far a question looks, change requests 1, 3 and 8. Exact, place, range
+//! and width go through all names. Only nearest needs the tree, because document 01
+//! says by the tree which of several equally near names it gives; and how far a
+//! question of any kind looks is counted on nearest's way down in it. All of them go
+//! by symbols, so each takes the rule of the names' book (change request 7).
 
 use crate::names::{begins_with, is_less, is_same, shared_symbols, symbols, Rule};
 use crate::tree::{tree, Node};
@@ -115,14 +116,57 @@ fn is_outside(question: &[u8], place: usize) -> bool {
     byte.is_some_and(|byte| !(128..=191).contains(byte))
 }
 
-/// Goes down from the root for as long as a child fits the question.
+/// How far a question looks.
+#[derive(Clone, Copy, Debug, PartialEq, Eq, Default)]
+pub struct Look {
+    /// How many nodes are visited going down, the root and the last one counted.
+    pub visits: usize,
+    /// How many entries are read to rebuild the one name that is compared.
+    pub entries: usize,
+}
+
+/// How far a question of any kind looks where the names stand in blocks of so
+/// many: at nothing where there are no names.
+pub fn look(rule: Rule, block: usize, names: &[Vec<u8>], question: &[u8]) -> Look {
+    match tree(rule, names) {
+        None => Look::default(),
+        Some(root) => look_from(rule, block, &root, question),
+    }
+}
+
+/// The same where the root of the names' tree is at hand.
+pub fn look_from(rule: Rule, block: usize, root: &Node, question: &[u8]) -> Look {
+    let way = way_down(rule, root, question);
+    let reached = way[way.len() - 1];
+    Look {
+        visits: way.len(),
+        entries: entries_read(block, reached.first),
+    }
+}
+
+/// How many entries are read to rebuild the name at this position: those of its
+/// block, from the block's first up to its own.
+fn entries_read(block: usize, position: usize) -> usize {
+    position % block + 1
+}
+
+/// The node where the way down ends.
 pub fn node_reached<'tree>(rule: Rule, root: &'tree Node, question: &[u8]) -> &'tree Node {
+    let way = way_down(rule, root, question);
+    way[way.len() - 1]
+}
+
+/// Goes down from the root for as long as a child fits the question: every node
+/// on the way, the root first.
+pub fn way_down<'tree>(rule: Rule, root: &'tree Node, question: &[u8]) -> Vec<&'tree Node> {
     let wanted = symbols(rule, question);
+    let mut way = vec![root];
     let mut node = root;
     while let Some(child) = fitting_child(node, &wanted) {
+        way.push(child);
         node = child;
     }
-    node
+    way
 }
 
 /// The child whose symbol is the question's symbol number d, for depth d.

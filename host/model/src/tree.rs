@@ -3,7 +3,7 @@
 //! Renders the paragraph of document 01, "Layout of a book", that says which
 //! nodes there are and what their fields hold; the sixth field is document
 //! 02's. `layout` writes the tree down as a table; `questions` goes down in it
-//! for the nearest name.
+//! for the nearest name, and counts the nodes on the way.
 
 use crate::names::{leading_equal, symbols, Rule};
 

@@ -3,11 +3,9 @@
 
 mod common;
 
+use common::answers::{book_exact, book_nearest, book_place, book_range, book_width};
 use common::{mar_names, no, yes, Random, BOOK_BY_2, BOOK_BY_4, EMPTY_BOOK, UNSET};
-use model::{
-    book_batch, book_exact, book_nearest, book_place, book_range, book_read, book_width, Answer,
-    Row,
-};
+use model::{book_batch, book_read, Answer, Row};
 
 fn row(kind: usize, start: usize, length: usize) -> Row {
     Row {

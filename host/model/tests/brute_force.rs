@@ -8,13 +8,14 @@
 
 mod common;
 
+use common::answers::{book_exact, book_nearest, book_place, book_range, book_width};
 use common::{
     all_strings, built, built_as, marked_as, no_record, shared, whole_letters, yes, Random,
     FILLING, UNSET,
 };
 use model::{
-    book_batch, book_build_folded, book_check, book_exact, book_nearest, book_place, book_range,
-    book_read, book_width, build_kind, open, read_list, write_list, Answer, BookKind, Row,
+    book_batch, book_build_folded, book_check, book_read, build_kind, open, read_list, write_list,
+    Answer, BookKind, Row,
 };
 use std::collections::BTreeMap;
 

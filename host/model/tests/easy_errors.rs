@@ -2,8 +2,9 @@
 
 mod common;
 
+use common::answers::{book_exact, book_nearest, book_place, book_range};
 use common::{built, names, no, yes, BOOK_BY_2, BOOK_BY_4};
-use model::{book_check, book_exact, book_nearest, book_place, book_range};
+use model::book_check;
 
 #[test]
 fn a_leaf_reached_by_maxim_is_no_match() {

@@ -3,13 +3,14 @@
 
 mod common;
 
+use common::answers::{book_exact, book_nearest, book_place, book_range, book_width};
 use common::{
     assert_build_refused, built, many_names, names_for_book_length, no, no_record, yes, BOOK_BY_2,
     EMPTY_BOOK, FILLING, MAR_LIST,
 };
 use model::{
-    book_batch, book_build, book_check, book_exact, book_nearest, book_of, book_place, book_range,
-    book_read, book_width, read_list, write_list, Answer, BookKind, Row, Rule,
+    book_batch, book_build, book_check, book_of, book_read, read_list, write_list, Answer,
+    BookKind, Row, Rule,
 };
 
 #[test]

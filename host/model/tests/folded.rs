@@ -3,13 +3,13 @@
 
 mod common;
 
+use common::answers::{book_exact, book_nearest, book_place, book_range, book_width};
 use common::{answer, built, built_as, marked_as, names, no, no_record, yes, FILLING, UNSET};
 use model::names::{is_less, shared_symbols, symbols};
 use model::tree::tree;
 use model::{
-    book_batch, book_build, book_build_folded, book_check, book_exact, book_nearest, book_place,
-    book_range, book_read, book_salvage, book_width, listing, open, write_list, Answer, BookKind,
-    Kept, Row, Rule,
+    book_batch, book_build, book_build_folded, book_check, book_read, book_salvage, listing, open,
+    write_list, Answer, BookKind, Kept, Row, Rule,
 };
 
 /// The folded book of MAR and marina with k = 2, worked out by hand. As bytes the

@@ -4,10 +4,11 @@
 
 mod common;
 
+use common::answers::book_nearest;
 use common::{all_strings, built, names, shared, whole_letters, yes, UNSET};
 use model::questions::{lit, node_reached};
 use model::tree::tree;
-use model::{book_batch, book_nearest, Answer, Row, Rule};
+use model::{book_batch, Answer, Row, Rule};
 
 /// A letter, the two bytes of é, the two of an accent that stands behind its
 /// letter, and what is around 128 and 191: 127, 191 itself and 192.

@@ -1,11 +1,13 @@
-//! Document 01, "Questions", and width of document 02, asked one at a time.
+//! Document 01, "Questions", and width of document 02, asked one at a time. How far
+//! they look stands in `counts.rs`.
 
 mod common;
 
+use common::answers::{book_exact, book_nearest, book_place, book_range, book_width};
 use common::{built, many_names, mar_names, names, no, yes, BOOK_BY_2, EMPTY_BOOK};
 use model::questions::{node_reached, Kind};
 use model::tree::tree;
-use model::{book_exact, book_nearest, book_place, book_range, book_width, Answer, Rule};
+use model::{Answer, Rule};
 
 /// All five answers to one question, in the order of the kinds.
 fn all_five(book: &[u8], question: &[u8]) -> [Answer; 5] {

@@ -3,11 +3,9 @@
 
 mod common;
 
+use common::answers::{book_exact, book_nearest, book_place, book_range, book_width};
 use common::{built, mar_names, yes, BOOK_BY_2, BOOK_BY_4, EMPTY_BOOK, FILLING, MAR_LIST};
-use model::{
-    book_build, book_check, book_exact, book_nearest, book_of, book_place, book_range, book_read,
-    book_width, listing, open, BookKind, Rule,
-};
+use model::{book_build, book_check, book_of, book_read, listing, open, BookKind, Rule};
 
 // A book in full
 

@@ -4,7 +4,8 @@
 // Each test file is a program of its own and uses only some of these.
 #![allow(dead_code)]
 
-use model::{book_build, build_kind, write_list, Answer, BookKind, Head};
+use model::questions::Look;
+use model::{book_build, build_kind, write_list, Answer, BookKind, Counted, Head};
 
 /// The book of Mar, Marina, Market Square with k = 2. Not produced by any
 /// code: each byte is copied from document 01, "A book in full", but for each
@@ -96,6 +97,54 @@ pub fn answer(code: usize, first: usize, second: usize) -> Answer {
         code,
         first,
         second,
+    }
+}
+
+/// The answer of a single question that looked at nothing.
+pub fn unlooked(answer: Answer) -> Counted {
+    Counted::of(answer, Look::default())
+}
+
+/// A call that asks a single question.
+pub type Ask = fn(&[u8], &[u8]) -> Counted;
+
+/// The five calls that do, in the order of the kinds.
+pub const QUESTIONS: [Ask; 5] = [
+    model::book_exact,
+    model::book_place,
+    model::book_range,
+    model::book_nearest,
+    model::book_width,
+];
+
+/// The five questions by their three numbers alone, for tests about these. How far a
+/// question looks stands in `counts.rs`.
+pub mod answers {
+    use model::Answer;
+
+    /// The answer of exact.
+    pub fn book_exact(book: &[u8], question: &[u8]) -> Answer {
+        model::book_exact(book, question).answer()
+    }
+
+    /// That of place.
+    pub fn book_place(book: &[u8], question: &[u8]) -> Answer {
+        model::book_place(book, question).answer()
+    }
+
+    /// That of range.
+    pub fn book_range(book: &[u8], question: &[u8]) -> Answer {
+        model::book_range(book, question).answer()
+    }
+
+    /// That of nearest.
+    pub fn book_nearest(book: &[u8], question: &[u8]) -> Answer {
+        model::book_nearest(book, question).answer()
+    }
+
+    /// That of width.
+    pub fn book_width(book: &[u8], question: &[u8]) -> Answer {
+        model::book_width(book, question).answer()
     }
 }
 
