@@ -13,8 +13,8 @@
 //! # What to do with a case
 //!
 //! Ask the question in all five kinds. Then print, behind the number of the
-//! case: code, first and second of the answer of exact, then those of place, of
-//! range, of nearest and of width.
+//! case: code, first, second, visits and entries that exact gives, then those of
+//! place, of range, of nearest and of width.
 
 use crate::damage::{
     changed_bytes, gaps, old_books, other_counts, other_nodes, other_widths, spoil_book,
@@ -26,7 +26,7 @@ use crate::questions::{
     about_letters, all_short, any_question, around_all, extensions, misses, partings,
 };
 use crate::random::Random;
-use crate::rooms::printed_answer;
+use crate::rooms::printed_counted;
 use crate::sets::{length_bytes, Call, Case, Set};
 use crate::worst::{dearest_check, dearest_question};
 use model::{book_exact, book_nearest, book_of, book_place, book_range, book_width, BookKind};
@@ -89,7 +89,7 @@ impl Call for Ask {
         let kinds = [book_exact, book_place, book_range, book_nearest, book_width];
         let answers = kinds
             .iter()
-            .map(|ask| printed_answer(ask(book, &self.question)));
+            .map(|ask| printed_counted(ask(book, &self.question)));
         answers.collect::<Vec<String>>().join(" ")
     }
 }

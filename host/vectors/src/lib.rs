@@ -31,7 +31,7 @@
 //! | [`growth`] | lists of which one parameter doubles |
 //! | [`worst`] | lists and questions that cost most |
 //! | [`spelling`] | names and questions in capitals and in small letters |
-//! | [`rooms`] | rooms before and after a call |
+//! | [`rooms`] | rooms before and after a call, and the numbers that it gives |
 //! | [`random`] | numbers that look random |
 //!
 //! Another call is one more module with a type that is a

@@ -1,8 +1,8 @@
 //! Rooms that are lent to a call: what they hold before it, and how they are
-//! told of after it.
+//! told of after it, behind the numbers that the call gives.
 
 use crate::checksum::printed_checksum;
-use model::Answer;
+use model::{Answer, Counted};
 
 /// A room of this length as it is before the call: byte number i, from 0, is i
 /// modulo 251.
@@ -13,6 +13,12 @@ pub fn filled_room(length: usize) -> Vec<u8> {
 /// The answer's three numbers, as they are printed.
 pub fn printed_answer(answer: Answer) -> String {
     format!("{} {} {}", answer.code, answer.first, answer.second)
+}
+
+/// The five numbers that a question gives, as they are printed.
+pub fn printed_counted(counted: Counted) -> String {
+    let answer = printed_answer(counted.answer());
+    format!("{answer} {} {}", counted.visits, counted.entries)
 }
 
 /// The answer, the checksum of what was written to the front of the room, of no

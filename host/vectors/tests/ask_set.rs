@@ -3,7 +3,7 @@
 
 mod common;
 
-use common::hold_nearest;
+use common::{hold_nearest, look};
 use model::{book_exact, book_nearest, book_place, book_range, book_width, open, BookKind};
 use std::collections::BTreeSet;
 use std::sync::LazyLock;
@@ -48,9 +48,10 @@ fn read_file(mut file: &[u8]) -> Vec<Asked<'_>> {
 fn line(number: usize, case: &Asked) -> String {
     let mut line = number.to_string();
     for ask in [book_exact, book_place, book_range, book_nearest, book_width] {
-        let answer = ask(case.book, case.question);
-        let (code, first, second) = (answer.code, answer.first, answer.second);
-        line.push_str(&format!(" {code} {first} {second}"));
+        let given = ask(case.book, case.question);
+        let (code, first, second) = (given.code, given.first, given.second);
+        let (visits, entries) = (given.visits, given.entries);
+        line.push_str(&format!(" {code} {first} {second} {visits} {entries}"));
     }
     line + "\n"
 }
@@ -59,6 +60,24 @@ fn line(number: usize, case: &Asked) -> String {
 fn find<'cases>(cases: &'cases [Case<Ask>], purpose: &str) -> &'cases Case<Ask> {
     let found = cases.iter().find(|case| case.purpose() == purpose);
     found.unwrap_or_else(|| panic!("no case for {purpose}"))
+}
+
+/// The five numbers of each kind.
+fn numbers(outcome: &str) -> [[usize; 5]; 5] {
+    let mut words = outcome.split(' ').map(|word| word.parse().unwrap());
+    let five = std::array::from_fn(|_| std::array::from_fn(|_| words.next().unwrap()));
+    assert!(words.next().is_none(), "{outcome}");
+    five
+}
+
+/// An outcome of the three numbers of each kind, where all kinds look equally far.
+fn looked(answers: &str, [visits, entries]: [usize; 2]) -> String {
+    let words: Vec<&str> = answers.split(' ').collect();
+    let kinds = words.chunks(3).map(|answer| {
+        let answer = answer.join(" ");
+        format!("{answer} {visits} {entries}")
+    });
+    kinds.collect::<Vec<String>>().join(" ")
 }
 
 #[test]
@@ -86,8 +105,8 @@ fn every_refusal_of_a_question_is_among_the_cases() {
     // one where they differ.
     let mut codes = BTreeSet::new();
     for line in EXPECTED.lines() {
-        let numbers: Vec<usize> = line.split(' ').map(|word| word.parse().unwrap()).collect();
-        codes.insert([1, 4, 7, 10, 13].map(|at| numbers[at]));
+        let (_, outcome) = line.split_once(' ').unwrap();
+        codes.insert(numbers(outcome).map(|[code, ..]| code));
     }
     let expected = [[0; 5], [0, 0, 0, 10, 0], [1; 5], [2; 5]];
     assert_eq!(codes.into_iter().collect::<Vec<_>>(), expected);
@@ -96,26 +115,25 @@ fn every_refusal_of_a_question_is_among_the_cases() {
 #[test]
 fn the_twelve_rows_of_document_01_are_among_the_cases() {
     let cases = asking::SET.cases();
-    for (kind, question, pair) in [
-        (0, "Marina", "1 1"),
-        (0, "Marin", "0 0"),
-        (1, "", "0 0"),
-        (1, "Mark", "2 0"),
-        (1, "Maxim", "3 0"),
-        (2, "Mar", "0 3"),
-        (2, "Mark", "2 1"),
-        (2, "Mas", "3 0"),
-        (3, "Mango", "0 2"),
-        (3, "Maxim", "1 2"),
-        (3, "Zoo", "0 0"),
-        (3, "M", "0 1"),
+    // Beside the answer stand the visits, and the entries in blocks of 2 and of 4.
+    for (kind, question, [first, second], visits, entries) in [
+        (0, "Marina", [1, 1], 2, [2, 2]),
+        (0, "Marin", [0, 0], 2, [2, 2]),
+        (1, "", [0, 0], 1, [1, 1]),
+        (1, "Mark", [2, 0], 2, [1, 3]),
+        (1, "Maxim", [3, 0], 2, [2, 2]),
+        (2, "Mar", [0, 3], 2, [1, 1]),
+        (2, "Mark", [2, 1], 2, [1, 3]),
+        (2, "Mas", [3, 0], 2, [1, 1]),
+        (3, "Mango", [0, 2], 1, [1, 1]),
+        (3, "Maxim", [1, 2], 2, [2, 2]),
+        (3, "Zoo", [0, 0], 2, [1, 1]),
+        (3, "M", [0, 1], 1, [1, 1]),
     ] {
-        for book in [93, 88] {
+        for (book, entries) in [93, 88].into_iter().zip(entries) {
             let purpose = format!("rows: book {book}, question \"{question}\"");
-            let outcome = find(&cases, &purpose).outcome();
-            let words: Vec<&str> = outcome.split(' ').collect();
-            let answer = words[3 * kind..3 * kind + 3].join(" ");
-            assert_eq!(answer, format!("0 {pair}"), "{purpose}");
+            let given = numbers(&find(&cases, &purpose).outcome())[kind];
+            assert_eq!(given, [0, first, second, visits, entries], "{purpose}");
         }
     }
 }
@@ -123,56 +141,70 @@ fn the_twelve_rows_of_document_01_are_among_the_cases() {
 #[test]
 fn the_edges_of_document_01_are_among_the_cases() {
     let cases = asking::SET.cases();
-    for (purpose, outcome) in [
+    for (purpose, answers, look) in [
         (
             "empty input: book 0, question of 201 bytes",
             "2 0 0 2 0 0 2 0 0 2 0 0 2 0 0",
+            [0, 0],
         ),
         (
             "no names: book 16, question \"\"",
             "0 0 0 0 0 0 0 0 0 10 0 0 0 0 0",
+            [0, 0],
         ),
         (
             "no names: book 16, question of 200 bytes",
             "0 0 0 0 0 0 0 0 0 10 0 0 0 0 0",
+            [0, 0],
         ),
         (
             "no names: book 16, question of 201 bytes",
             "1 0 0 1 0 0 1 0 0 1 0 0 1 0 0",
+            [0, 0],
         ),
         (
             "one name of 200 bytes: book 232, question of 200 bytes",
             "0 0 1 0 0 0 0 0 1 0 0 200 0 200 0",
+            [1, 1],
         ),
         (
             "one name of 200 bytes: book 232, question of 201 bytes",
             "1 0 0 1 0 0 1 0 0 1 0 0 1 0 0",
+            [0, 0],
         ),
         (
             "longest question: book 88, question of 65539 bytes",
             "1 0 0 1 0 0 1 0 0 1 0 0 1 0 0",
+            [0, 0],
         ),
+        // 1,999 is 31 blocks of 64 and 15, and 1,750 is 27 of them and 22
         (
             "2,000 names: book 30227, question \"\\x07\\xf9\"",
             "0 1999 1 0 1999 0 0 1999 1 0 1999 2 0 2 0",
+            [3, 16],
         ),
         (
             "2,000 names: book 30227, question \"\\x07\\xfa\"",
             "0 0 0 0 2000 0 0 2000 0 0 1750 1 0 0 0",
+            [2, 23],
         ),
         (
             "2,001 names: book 30243, question \"\"",
             "2 0 0 2 0 0 2 0 0 2 0 0 2 0 0",
+            [0, 0],
         ),
         (
             "257 children: book 3902, question \"xy\\xff\"",
             "0 256 1 0 256 0 0 256 1 0 256 3 0 3 0",
+            [2, 1],
         ),
         (
             "255 alone: book 151, question \"\\xff\\xff\"",
             "0 1 1 0 1 0 0 1 4 0 1 2 0 5 0",
+            [3, 2],
         ),
     ] {
+        let outcome = looked(answers, look);
         assert_eq!(find(&cases, purpose).outcome(), outcome, "{purpose}");
     }
     let longest = cases
@@ -191,11 +223,12 @@ fn every_name_of_the_small_lists_is_asked_for() {
     ] {
         for (position, name) in names.iter().enumerate() {
             let purpose = format!("{purpose}, question \"{}\"", name.escape_ascii());
-            let outcome = find(&cases, &purpose).outcome();
-            let found = format!("0 {position} 1 0 {position} 0 0 {position} ");
-            assert!(outcome.starts_with(&found), "{purpose}: {outcome}");
-            let nearest = format!(" 0 {position} {} 0 ", name.len());
-            assert!(outcome.contains(&nearest), "{purpose}: {outcome}");
+            let kinds = numbers(&find(&cases, &purpose).outcome());
+            let [exact, place, range, nearest, _] = kinds.map(|given| [given[1], given[2]]);
+            assert!(kinds.iter().all(|&[code, ..]| code == 0), "{purpose}");
+            assert_eq!([exact, place], [[position, 1], [position, 0]], "{purpose}");
+            assert_eq!(range[0], position, "{purpose}");
+            assert_eq!(nearest, [position, name.len()], "{purpose}");
         }
     }
 }
@@ -216,9 +249,8 @@ fn the_width_of_a_range_is_among_the_cases_wherever_its_longest_name_stands() {
         ("last", "\\xff", 0),
     ] {
         let purpose = format!("longest {place}: book 162, question \"{question}\"");
-        let outcome = find(&cases, &purpose).outcome();
-        let ending = format!(" 0 {width} 0");
-        assert!(outcome.ends_with(&ending), "{purpose}: {outcome}");
+        let [.., given] = numbers(&find(&cases, &purpose).outcome());
+        assert_eq!(given[..3], [0, width, 0], "{purpose}");
     }
 }
 
@@ -235,8 +267,8 @@ fn held_nearest(set: &Set<Ask>, expected: &str) -> usize {
     let mut less = 0;
     let (mut book, mut kind, mut names) = (&[][..], BookKind::Plain, Vec::new());
     for (case, line) in read_file(&file).iter().zip(expected.lines()) {
-        let numbers: Vec<usize> = line.split(' ').map(|word| word.parse().unwrap()).collect();
-        let [code, position, number] = [10, 11, 12].map(|at| numbers[at]);
+        let (_, outcome) = line.split_once(' ').unwrap();
+        let [code, position, number, ..] = numbers(outcome)[3];
         if code != 0 {
             continue;
         }
@@ -291,84 +323,161 @@ fn letters_of_several_bytes_are_among_the_cases() {
         ("around 128 and 191: book 34", "ab\\xc0", "0 2"),
     ] {
         let purpose = format!("{letters}, question \"{question}\"");
-        let outcome = find(&cases, &purpose).outcome();
-        let words: Vec<&str> = outcome.split(' ').collect();
-        assert_eq!(words[9..12].join(" "), format!("0 {nearest}"), "{purpose}");
+        let [code, position, lit, ..] = numbers(&find(&cases, &purpose).outcome())[3];
+        assert_eq!(code, 0, "{purpose}");
+        assert_eq!(format!("{position} {lit}"), nearest, "{purpose}");
     }
     // From the last byte but one to the first, and not at all.
     let longest = "longest letter: book 232, question of 200 bytes";
     let longest = cases.iter().filter(|case| case.purpose() == longest);
     let outcomes: Vec<String> = longest.map(Case::outcome).collect();
-    assert!(outcomes[0].ends_with(" 0 0 0 0 0 0"), "{}", outcomes[0]);
-    assert!(outcomes[1].ends_with(" 0 0 200 0 200 0"), "{}", outcomes[1]);
+    let [none, all] = [&outcomes[0], &outcomes[1]].map(|outcome| numbers(outcome));
+    assert_eq!(none[3..], [[0, 0, 0, 1, 1], [0, 0, 0, 1, 1]]);
+    assert_eq!(all[3..], [[0, 0, 200, 1, 1], [0, 200, 0, 1, 1]]);
 }
 
 #[test]
 fn the_edges_of_folding_are_among_the_cases() {
     let cases = folded::ASK.cases();
-    for (about, question, outcome) in [
-        // exact, place, range, nearest, width
+    for (about, question, answers, look) in [
+        // exact, place, range, nearest, width; then visits and entries
         (
             "MAR, marina: book 67",
             "mar",
             "0 0 1 0 0 0 0 0 2 0 0 3 0 6 0",
+            [2, 1],
         ),
         (
             "MAR, marina: book 67",
             "MARINA",
             "0 1 1 0 1 0 0 1 1 0 1 6 0 6 0",
+            [2, 2],
         ),
         (
             "spelt example: book 93",
             "mark",
             "0 0 0 0 2 0 0 2 1 0 2 4 0 13 0",
+            [2, 3],
         ),
         (
             "all around the letters: book 755",
             "[",
             "0 7 1 0 7 0 0 7 7 0 7 1 0 2 0",
+            [3, 3],
         ),
         (
             "all around the letters: book 755",
             "A",
             "0 21 1 0 21 0 0 21 7 0 21 1 0 2 0",
+            [3, 2],
         ),
         (
             "all around the letters: book 755",
             "a",
             "0 21 1 0 21 0 0 21 7 0 21 1 0 2 0",
+            [3, 2],
         ),
-        ("no names: book 16", "MAR", "0 0 0 0 0 0 0 0 0 10 0 0 0 0 0"),
+        (
+            "no names: book 16",
+            "MAR",
+            "0 0 0 0 0 0 0 0 0 10 0 0 0 0 0",
+            [0, 0],
+        ),
         // CAFÈ to café: three letters and a byte are shared, and three are lit
         (
             "lit by symbols: book 68",
             "CAF\\xc3\\x88",
             "0 0 0 0 0 0 0 0 0 0 0 3 0 0 0",
+            [2, 1],
         ),
         (
             "lit by symbols: book 68",
             "CAF\\xc3\\xa9",
             "0 0 1 0 0 0 0 0 1 0 0 5 0 5 0",
+            [2, 1],
         ),
         (
             "lit by symbols: book 68",
             "k\\xc3\\xb6LN",
             "0 0 0 0 2 0 0 2 0 0 1 1 0 0 0",
+            [2, 2],
         ),
         (
             "lit by symbols: book 68",
             "k\\xc3\\x96LN",
             "0 1 1 0 1 0 0 1 1 0 1 5 0 5 0",
+            [2, 2],
         ),
         (
             "the other mark: book 67",
             "mar",
             "2 0 0 2 0 0 2 0 0 2 0 0 2 0 0",
+            [0, 0],
         ),
     ] {
         let purpose = format!("{about}, question \"{question}\"");
+        let outcome = looked(answers, look);
         assert_eq!(find(&cases, &purpose).outcome(), outcome, "{purpose}");
     }
+}
+
+#[test]
+fn every_kind_tells_how_far_nearest_looks_in_every_case() {
+    for (set, expected, most) in [
+        (&asking::SET, &**EXPECTED, [201, 64]),
+        (&folded::ASK, &**FOLDED_EXPECTED, [200, 64]),
+        (&asking::DEAREST, &asking::DEAREST.expected(), [200, 64]),
+    ] {
+        assert_eq!(held_looks(set, expected), most);
+    }
+}
+
+/// Holds what is told of how far each question looked to the names, in every case of
+/// a set: refused ones at nothing. Gives the most visits and the most entries.
+fn held_looks(set: &Set<Ask>, expected: &str) -> [usize; 2] {
+    let file = set.case_file();
+    let mut most = [0, 0];
+    let (mut book, mut opened) = (&[][..], None);
+    for (case, line) in read_file(&file).iter().zip(expected.lines()) {
+        let (number, outcome) = line.split_once(' ').unwrap();
+        if book != case.book {
+            book = case.book;
+            opened = open(book);
+        }
+        let told = numbers(outcome);
+        let expected = match &opened {
+            Some((kind, block, names)) if told[0][0] == 0 => {
+                look(*kind, *block, names, case.question)
+            }
+            _ => [0, 0],
+        };
+        assert_eq!(
+            told.map(|given| [given[3], given[4]]),
+            [expected; 5],
+            "{number}"
+        );
+        most = [most[0].max(expected[0]), most[1].max(expected[1])];
+    }
+    most
+}
+
+#[test]
+fn both_bounds_on_the_visits_are_met_in_many_cases() {
+    let (mut by_names, mut by_length) = (0, 0);
+    let file = asking::SET.case_file();
+    for (case, line) in read_file(&file).iter().zip(EXPECTED.lines()) {
+        let (_, outcome) = line.split_once(' ').unwrap();
+        let [code, .., visits, _] = numbers(outcome)[0];
+        if code == 0 {
+            let trailer = case.book.len() - 16;
+            let names = u16::from_le_bytes([case.book[trailer], case.book[trailer + 1]]);
+            let (names, length) = (usize::from(names), case.question.len());
+            assert!(visits <= names && visits <= length + 2);
+            by_names += usize::from(names > 0 && visits == names);
+            by_length += usize::from(visits == length + 2);
+        }
+    }
+    assert!(by_names > 100 && by_length > 100, "{by_names} {by_length}");
 }
 
 #[test]
@@ -390,18 +499,22 @@ fn the_dearest_books_are_a_file_of_the_same_kind() {
     // The paths have 4 levels with 250 names each, 32 bytes apart, and 199 with
     // nine; the names of the last fork stand behind those, and share the path
     // with the question.
-    for (purpose, outcome) in [
+    // Behind the levels the last fork is visited; the blocks are of 1 and of 64.
+    for (purpose, answers, look) in [
         (
             "dearest check: ",
             "0 0 0 0 1003 0 0 1003 0 0 1000 128 0 0 0",
+            [5, 1],
         ),
         (
             "dearest question: ",
             "0 0 0 0 2000 0 0 2000 0 0 1791 199 0 0 0",
+            [200, 64],
         ),
     ] {
         let mut cases = asking::DEAREST.cases().into_iter();
         let found = cases.find(|case| case.purpose().starts_with(purpose));
+        let outcome = looked(answers, look);
         assert_eq!(found.expect(purpose).outcome(), outcome, "{purpose}");
     }
 }

@@ -1,5 +1,5 @@
-//! What several test files need: nearest's number, found by another way than the
-//! second program's.
+//! What several test files need: nearest's number, and how far a question looks,
+//! found by another way than the second program's.
 
 // Each test file is a program of its own and uses only some of these.
 #![allow(dead_code)]
@@ -41,4 +41,33 @@ pub fn hold_nearest(
     assert_eq!(counts.max(), Some(count), "{question:?}");
     assert_eq!(number, lit(question, count), "{question:?}");
     number < count
+}
+
+/// Visits and entries of a question to the names of a book of this kind, with blocks
+/// of so many: no tree is there, but a run of names that gets shorter.
+pub fn look(kind: BookKind, block: usize, names: &[Vec<u8>], question: &[u8]) -> [usize; 2] {
+    let mut run = 0..names.len();
+    let mut visits = usize::from(!run.is_empty());
+    while run.len() > 1 {
+        // In order, all of them share what the first and the last share.
+        let depth = shared(kind, &names[run.start], &names[run.end - 1]);
+        let fits =
+            |&at: &usize| depth <= question.len() && goes_on(kind, &names[at], question, depth);
+        let fitting: Vec<usize> = run.clone().filter(fits).collect();
+        let [first, ..] = fitting[..] else { break };
+        run = first..first + fitting.len();
+        visits += 1;
+    }
+    match visits {
+        0 => [0, 0],
+        _ => [visits, run.start % block + 1],
+    }
+}
+
+/// Whether name and question have the same letter at this place, or both end there.
+fn goes_on(kind: BookKind, name: &[u8], question: &[u8], place: usize) -> bool {
+    match (name.get(place..=place), question.get(place..=place)) {
+        (Some(one), Some(other)) => shared(kind, one, other) == 1,
+        (one, other) => one == other,
+    }
 }
