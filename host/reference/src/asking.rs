@@ -1,4 +1,5 @@
-//! A name read back and the five questions, of a book that passed the check.
+//! A name read back and the five questions, of a book that passed the check. Each
+//! question counts how far it looked.
 
 use crate::bytes::{byte, leading_letters, part, put, two};
 use crate::checking::Parts;
@@ -15,10 +16,25 @@ pub struct Sound<'lent, R> {
     rule: PhantomData<R>,
 }
 
-/// A name that was rebuilt.
+/// A name that was rebuilt, from so many entries.
 struct Name {
     bytes: [u8; LONGEST_NAME],
     length: usize,
+    entries: usize,
+}
+
+/// The two numbers of an answer, and how far its question looked: so many nodes
+/// visited going down, and so many entries read for the one name that it compared.
+#[derive(Clone, Copy, Default)]
+pub struct Found {
+    /// The first number.
+    pub first: usize,
+    /// The second number.
+    pub second: usize,
+    /// How many nodes were visited, the root and the last one counted.
+    pub visits: usize,
+    /// How many entries were read.
+    pub entries: usize,
 }
 
 /// The numbers of a node.
@@ -32,12 +48,48 @@ enum Field {
     Width,
 }
 
+/// Where the way down ends: the position, its name, and how many nodes were visited.
+struct Reached {
+    position: usize,
+    name: Name,
+    visits: usize,
+}
+
 /// The node with the names that share most with a question, how many bytes
-/// they share as letters, and the next symbol of the name that was reached.
+/// they share as letters, and the next symbol of the name that was reached; and how
+/// far that looked.
 struct Spot {
     node: usize,
     shared: usize,
     symbol: usize,
+    visits: usize,
+    entries: usize,
+}
+
+impl Reached {
+    /// These two numbers, once they are known.
+    #[inline(always)]
+    fn found(&self, first: usize, second: usize) -> Found {
+        Found {
+            first,
+            second,
+            visits: self.visits,
+            entries: self.name.entries,
+        }
+    }
+}
+
+impl Spot {
+    /// These two numbers, once they are known.
+    #[inline(always)]
+    fn found(&self, first: usize, second: usize) -> Found {
+        Found {
+            first,
+            second,
+            visits: self.visits,
+            entries: self.entries,
+        }
+    }
 }
 
 /// Symbol number so and so of a name or a question; 0 at its end.
@@ -105,8 +157,9 @@ impl<'lent, R: Rule> Sound<'lent, R> {
         let mut name = Name {
             bytes: [0; LONGEST_NAME],
             length: 0,
+            entries: position - block * self.parts.block + 1,
         };
-        for _ in 0..=position - block * self.parts.block {
+        for _ in 0..name.entries {
             let (stored, rest) = (byte(self.book, at), byte(self.book, at + 1));
             put(&mut name.bytes, stored, part(self.book, at + 2, rest));
             name.length = stored + rest;
@@ -178,9 +231,15 @@ impl<'lent, R: Rule> Sound<'lent, R> {
     ///
     /// There are names.
     #[inline(always)]
-    unsafe fn reach(self, question: &[u8]) -> (usize, Name) {
-        let position = self.field(self.descend(question, |_| {}), Field::First);
-        (position, self.name(position))
+    unsafe fn reach(self, question: &[u8]) -> Reached {
+        let mut visits = 1;
+        let last = self.descend(question, |_| visits += 1);
+        let position = self.field(last, Field::First);
+        Reached {
+            position,
+            name: self.name(position),
+            visits,
+        }
     }
 
     /// The node with the names that share most with a question.
@@ -199,8 +258,8 @@ impl<'lent, R: Rule> Sound<'lent, R> {
             length += 1;
         });
         let noted = |at: usize| usize::from(path.get_unchecked(at).assume_init());
-        let name = self.name(self.field(last, Field::First));
-        let name = part(&name.bytes, 0, name.length);
+        let rebuilt = self.name(self.field(last, Field::First));
+        let name = part(&rebuilt.bytes, 0, rebuilt.length);
         let shared = leading_letters::<R>(question, name);
         let mut at = length - 1;
         while at > 0 {
@@ -213,6 +272,8 @@ impl<'lent, R: Rule> Sound<'lent, R> {
             node: noted(at),
             shared,
             symbol: symbol_at::<R>(name, shared),
+            visits: length,
+            entries: rebuilt.entries,
         }
     }
 
@@ -238,83 +299,80 @@ impl<'lent, R: Rule> Sound<'lent, R> {
     }
 
     /// (position, 1) where a name equals the question, else (0, 0).
-    pub fn exact(self, question: &[u8]) -> (usize, usize) {
+    pub fn exact(self, question: &[u8]) -> Found {
         if self.parts.names == 0 {
-            return (0, 0);
+            return Found::default();
         }
         // SAFETY: there are names.
-        let (position, name) = unsafe { self.reach(question) };
+        let reached = unsafe { self.reach(question) };
         // SAFETY: a name lies inside its room.
-        let name = unsafe { part(&name.bytes, 0, name.length) };
+        let name = unsafe { part(&reached.name.bytes, 0, reached.name.length) };
         let is_same =
             name.len() == question.len() && leading_letters::<R>(name, question) == question.len();
         if is_same {
-            (position, 1)
+            reached.found(reached.position, 1)
         } else {
-            (0, 0)
+            reached.found(0, 0)
         }
     }
 
     /// How many names are less than the question, and a 0.
-    pub fn place(self, question: &[u8]) -> (usize, usize) {
+    pub fn place(self, question: &[u8]) -> Found {
         if self.parts.names == 0 {
-            return (0, 0);
+            return Found::default();
         }
         // SAFETY: there are names.
-        let place = unsafe {
+        unsafe {
             let spot = self.locate(question);
-            self.seat(question, &spot)
-        };
-        (place, 0)
+            spot.found(self.seat(question, &spot), 0)
+        }
     }
 
     /// The question's place, and how many names begin with it.
-    pub fn range(self, question: &[u8]) -> (usize, usize) {
+    pub fn range(self, question: &[u8]) -> Found {
         if self.parts.names == 0 {
-            return (0, 0);
+            return Found::default();
         }
         // SAFETY: there are names.
         unsafe {
             let spot = self.locate(question);
             let place = self.seat(question, &spot);
             if spot.shared < question.len() {
-                (place, 0)
+                spot.found(place, 0)
             } else {
-                (place, self.field(spot.node, Field::Names))
+                spot.found(place, self.field(spot.node, Field::Names))
             }
         }
     }
 
     /// The greatest length of the names that begin with the question, and a 0.
-    pub fn width(self, question: &[u8]) -> (usize, usize) {
+    pub fn width(self, question: &[u8]) -> Found {
         if self.parts.names == 0 {
-            return (0, 0);
+            return Found::default();
         }
         // SAFETY: there are names.
         unsafe {
             let spot = self.locate(question);
             if spot.shared < question.len() {
-                (0, 0)
+                spot.found(0, 0)
             } else {
-                (self.field(spot.node, Field::Width), 0)
+                spot.found(self.field(spot.node, Field::Width), 0)
             }
         }
     }
 
     /// The position that the question reaches, and how many leading bytes of the
     /// question to light there; nothing where there are no names.
-    pub fn nearest(self, question: &[u8]) -> Option<(usize, usize)> {
+    pub fn nearest(self, question: &[u8]) -> Option<Found> {
         if self.parts.names == 0 {
             return None;
         }
         // SAFETY: there are names, and a name lies inside its room.
         unsafe {
-            let (position, name) = self.reach(question);
-            let name = part(&name.bytes, 0, name.length);
-            Some((
-                position,
-                lit(question, leading_letters::<R>(name, question)),
-            ))
+            let reached = self.reach(question);
+            let name = part(&reached.name.bytes, 0, reached.name.length);
+            let lit = lit(question, leading_letters::<R>(name, question));
+            Some(reached.found(reached.position, lit))
         }
     }
 }

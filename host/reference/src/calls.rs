@@ -8,7 +8,8 @@ use crate::rules::{Folded, Plain, Rule};
 use crate::salvaging::{self, Judged};
 use crate::{LARGEST_BLOCK, LONGEST_BOOK, LONGEST_NAME, MOST_NAMES};
 
-/// What every call gives back, and what an answer row of a batch holds.
+/// What every call gives back but a single question, and what an answer row of a
+/// batch holds.
 #[derive(Clone, Copy, Debug, PartialEq, Eq, Default)]
 #[repr(C)]
 pub struct Answer {
@@ -18,6 +19,35 @@ pub struct Answer {
     pub first: usize,
     /// The second number of the answer.
     pub second: usize,
+}
+
+/// What a single question gives back: an answer's three numbers, and how far it
+/// looked.
+#[derive(Clone, Copy, Debug, PartialEq, Eq, Default)]
+#[repr(C)]
+pub struct Counted {
+    /// 0 where the question is accepted, else the number of the refusal.
+    pub code: usize,
+    /// The first number of the answer.
+    pub first: usize,
+    /// The second number of the answer.
+    pub second: usize,
+    /// How many nodes were visited going down, the root and the last one counted.
+    pub visits: usize,
+    /// How many entries were read to rebuild the one name that was compared.
+    pub entries: usize,
+}
+
+impl Counted {
+    /// The three numbers, as a batch row has them.
+    #[inline(always)]
+    pub fn answer(self) -> Answer {
+        Answer {
+            code: self.code,
+            first: self.first,
+            second: self.second,
+        }
+    }
 }
 
 /// A question row of a batch: its kind and its span of the question buffer.
@@ -82,6 +112,14 @@ pub(crate) fn refused(code: usize, first: usize) -> Answer {
         code,
         first,
         second: 0,
+    }
+}
+
+/// A refused question, which has looked at nothing.
+fn unlooked(code: usize) -> Counted {
+    Counted {
+        code,
+        ..Counted::default()
     }
 }
 
@@ -157,7 +195,7 @@ fn sound_as<R: Rule>(book: &[u8]) -> Option<Sound<'_, R>> {
 impl Book<'_> {
     /// A question. Refusals: 1, 10.
     #[inline(always)]
-    fn ask(self, kind: usize, question: &[u8]) -> Answer {
+    fn ask(self, kind: usize, question: &[u8]) -> Counted {
         match self {
             Book::Plain(sound) => ask(sound, kind, question),
             Book::Folded(sound) => ask(sound, kind, question),
@@ -196,55 +234,61 @@ fn read<R: Rule>(sound: Sound<R>, position: usize, room: &mut [u8]) -> Answer {
 }
 
 /// Exact: (position, 1) where a name equals the question. Refusals: 2, 1.
-pub fn book_exact(book: &[u8], question: &[u8]) -> Answer {
+pub fn book_exact(book: &[u8], question: &[u8]) -> Counted {
     ask_book(book, 1, question)
 }
 
 /// Place: how many names are less than the question. Refusals: 2, 1.
-pub fn book_place(book: &[u8], question: &[u8]) -> Answer {
+pub fn book_place(book: &[u8], question: &[u8]) -> Counted {
     ask_book(book, 2, question)
 }
 
 /// Range: the question's place and how many names begin with it. Refusals:
 /// 2, 1.
-pub fn book_range(book: &[u8], question: &[u8]) -> Answer {
+pub fn book_range(book: &[u8], question: &[u8]) -> Counted {
     ask_book(book, 3, question)
 }
 
 /// Nearest: a position and how many leading bytes of the question to light there.
 /// Refusals: 2, 1, 10.
-pub fn book_nearest(book: &[u8], question: &[u8]) -> Answer {
+pub fn book_nearest(book: &[u8], question: &[u8]) -> Counted {
     ask_book(book, 4, question)
 }
 
 /// Width: the greatest length of a name of the range. Refusals: 2, 1.
-pub fn book_width(book: &[u8], question: &[u8]) -> Answer {
+pub fn book_width(book: &[u8], question: &[u8]) -> Counted {
     ask_book(book, 5, question)
 }
 
 /// A single question.
-fn ask_book(book: &[u8], kind: usize, question: &[u8]) -> Answer {
+fn ask_book(book: &[u8], kind: usize, question: &[u8]) -> Counted {
     match sound(book) {
-        None => refused(2, 0),
+        None => unlooked(2),
         Some(book) => book.ask(kind, question),
     }
 }
 
 /// A question to a book that was checked. Refusals: 1, 10.
-fn ask<R: Rule>(sound: Sound<R>, kind: usize, question: &[u8]) -> Answer {
+fn ask<R: Rule>(sound: Sound<R>, kind: usize, question: &[u8]) -> Counted {
     if question.len() > LONGEST_NAME {
-        return refused(1, 0);
+        return unlooked(1);
     }
-    let numbers = match kind {
+    let found = match kind {
         1 => Some(sound.exact(question)),
         2 => Some(sound.place(question)),
         3 => Some(sound.range(question)),
         4 => sound.nearest(question),
         _ => Some(sound.width(question)),
     };
-    match numbers {
-        None => refused(10, 0),
-        Some((first, second)) => accepted(first, second),
+    match found {
+        None => unlooked(10),
+        Some(found) => Counted {
+            code: 0,
+            first: found.first,
+            second: found.second,
+            visits: found.visits,
+            entries: found.entries,
+        },
     }
 }
 
@@ -261,7 +305,7 @@ pub fn book_batch(book: &[u8], questions: &[u8], rows: &[Row], answers: &mut [An
         let end = row.start.checked_add(row.length);
         let question = end.and_then(|end| questions.get(row.start..end));
         *answer = match question {
-            Some(question) if (1..=5).contains(&row.kind) => book.ask(row.kind, question),
+            Some(question) if (1..=5).contains(&row.kind) => book.ask(row.kind, question).answer(),
             _ => refused(11, 0),
         };
     }

@@ -2,7 +2,7 @@
 //! that measures that one measures this one as well. reference.sh makes the
 //! archive.
 
-use crate::{Answer, Head, Kept, Row};
+use crate::{Answer, Counted, Head, Kept, Row};
 use core::slice::{from_raw_parts, from_raw_parts_mut};
 
 #[no_mangle]
@@ -56,27 +56,27 @@ unsafe extern "C" fn book_read(
 }
 
 #[no_mangle]
-unsafe extern "C" fn book_exact(b: *const u8, n: usize, q: *const u8, m: usize) -> Answer {
+unsafe extern "C" fn book_exact(b: *const u8, n: usize, q: *const u8, m: usize) -> Counted {
     crate::book_exact(from_raw_parts(b, n), from_raw_parts(q, m))
 }
 
 #[no_mangle]
-unsafe extern "C" fn book_place(b: *const u8, n: usize, q: *const u8, m: usize) -> Answer {
+unsafe extern "C" fn book_place(b: *const u8, n: usize, q: *const u8, m: usize) -> Counted {
     crate::book_place(from_raw_parts(b, n), from_raw_parts(q, m))
 }
 
 #[no_mangle]
-unsafe extern "C" fn book_range(b: *const u8, n: usize, q: *const u8, m: usize) -> Answer {
+unsafe extern "C" fn book_range(b: *const u8, n: usize, q: *const u8, m: usize) -> Counted {
     crate::book_range(from_raw_parts(b, n), from_raw_parts(q, m))
 }
 
 #[no_mangle]
-unsafe extern "C" fn book_nearest(b: *const u8, n: usize, q: *const u8, m: usize) -> Answer {
+unsafe extern "C" fn book_nearest(b: *const u8, n: usize, q: *const u8, m: usize) -> Counted {
     crate::book_nearest(from_raw_parts(b, n), from_raw_parts(q, m))
 }
 
 #[no_mangle]
-unsafe extern "C" fn book_width(b: *const u8, n: usize, q: *const u8, m: usize) -> Answer {
+unsafe extern "C" fn book_width(b: *const u8, n: usize, q: *const u8, m: usize) -> Counted {
     crate::book_width(from_raw_parts(b, n), from_raw_parts(q, m))
 }
 

@@ -19,6 +19,14 @@ fn theirs(answer: model::Answer) -> Numbers {
     (answer.code, answer.first, answer.second)
 }
 
+fn ours_counted(given: reference::Counted) -> (Numbers, [usize; 2]) {
+    (ours(given.answer()), [given.visits, given.entries])
+}
+
+fn theirs_counted(given: model::Counted) -> (Numbers, [usize; 2]) {
+    (theirs(given.answer()), [given.visits, given.entries])
+}
+
 /// Any kind of book.
 fn any_kind(random: &mut Random) -> BookKind {
     *random.one_of(&BookKind::ALL)
@@ -74,28 +82,28 @@ fn same_answers(random: &mut Random, book: &[u8], names: &Names) {
     same_questions(book, &question);
 }
 
-/// A question in all five kinds.
+/// A question in all five kinds, with how far each of them looked.
 fn same_questions(book: &[u8], question: &[u8]) {
     let kinds = [
         (
-            ours(reference::book_exact(book, question)),
-            theirs(model::book_exact(book, question)),
+            ours_counted(reference::book_exact(book, question)),
+            theirs_counted(model::book_exact(book, question)),
         ),
         (
-            ours(reference::book_place(book, question)),
-            theirs(model::book_place(book, question)),
+            ours_counted(reference::book_place(book, question)),
+            theirs_counted(model::book_place(book, question)),
         ),
         (
-            ours(reference::book_range(book, question)),
-            theirs(model::book_range(book, question)),
+            ours_counted(reference::book_range(book, question)),
+            theirs_counted(model::book_range(book, question)),
         ),
         (
-            ours(reference::book_nearest(book, question)),
-            theirs(model::book_nearest(book, question)),
+            ours_counted(reference::book_nearest(book, question)),
+            theirs_counted(model::book_nearest(book, question)),
         ),
         (
-            ours(reference::book_width(book, question)),
-            theirs(model::book_width(book, question)),
+            ours_counted(reference::book_width(book, question)),
+            theirs_counted(model::book_width(book, question)),
         ),
     ];
     for (one, other) in kinds {
@@ -239,6 +247,24 @@ fn answers_all_around_every_name() {
             same_questions(&book, &vec![b'M'; length]);
         }
     }
+}
+
+#[test]
+fn looks_as_far_down_the_deepest_trees_whatever_the_block_size() {
+    let mut chain = lists::chain(b'a', 200);
+    chain.push(b"b".to_vec());
+    let mirror = lists::mirror(b'a', b'b', 200);
+    for (names, block) in [(&chain, 1), (&chain, 7), (&mirror, 64)] {
+        let book = book_of(BookKind::Plain, block, names);
+        for length in [0, 1, 2, 63, 64, 65, 198, 199] {
+            let stem = vec![b'a'; length];
+            for tail in [&b""[..], b"a", b"b", b"c"] {
+                same_questions(&book, &[&stem, tail].concat());
+            }
+        }
+    }
+    let deepest = reference::book_place(&book_of(BookKind::Plain, 64, &chain), &[b'a'; 200]);
+    assert_eq!((deepest.visits, deepest.entries), (201, 199 % 64 + 1));
 }
 
 #[test]
