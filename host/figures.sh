@@ -126,14 +126,14 @@ use() {
 }
 
 # Counts a call, whose words follow the key: its instructions, and under the key and `first` and `second` the numbers of its answer. A call
-# that was refused is not worth counting; of a head the first number is its list.
+# that was refused is not worth counting; of a head the first number is its list. What a question tells of how far it looked is left.
 count() {
     local key=$1 code=0 first=0 second=0
     shift
     "$host/measure.sh" "$@" >"$work/said" || fail "measure.sh $* failed"
     of[$who $key]=$(sed -n 's/^[a-z_]*: \([0-9]*\) instructions.*/\1/p' "$work/said")
     [ -n "${of[$who $key]}" ] || fail "measure.sh $* counted nothing"
-    read -r code first second < <(sed -n 's/^answer //p' "$work/said") || true
+    read -r code first second _ < <(sed -n 's/^answer //p' "$work/said") || true
     [ "$1" = step ] || [ "${code:-0}" = 0 ] || fail "measure.sh $* counted a refusal"
     of[$key first]=$first of[$key second]=$second
 }

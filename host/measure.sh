@@ -97,7 +97,7 @@ mixed_questions() {
     each_call asked "$@"
     cmp -s "$work/right" "$work/calls" || { echo "questions $*: other answers under the profiler" >&2 && exit 1; }
     awk "$counted"'
-        # instructions, kind, the word answer, its three numbers and a colon, the question
+        # instructions, kind, the word answer, its numbers and a colon, the question
         function count(kind, cost, question) {
             if (!calls[kind]++ || cost > most[kind]) { most[kind] = cost; dearest[kind] = question }
             sum[kind] += cost

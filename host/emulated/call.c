@@ -18,7 +18,8 @@
 #include "mistrogu.h"
 
 typedef struct mistrogu_answer answer;
-typedef answer ask(const uint8_t *, size_t, const uint8_t *, size_t);
+typedef struct mistrogu_counted counted;
+typedef counted ask(const uint8_t *, size_t, const uint8_t *, size_t);
 
 enum { MOST = 1 << 20, LONGEST = 200, QUESTIONS = 100 };
 
@@ -64,12 +65,12 @@ static void make_questions(size_t size, size_t names) {
     }
 }
 
-static answer ask_all(size_t size) {
+static counted ask_all(size_t size) {
     static ask *const calls[] = {book_exact, book_place, book_range, book_nearest, book_width};
-    answer given = book_check(input, size);
-    make_questions(size, given.first);
+    counted given = {0};
+    make_questions(size, book_check(input, size).first);
     mark();
-    given = book_check(input, size);
+    book_check(input, size);
     mark();
     for (size_t kind = 0; kind < 5; kind++)
         for (size_t i = 0; i < QUESTIONS; i++) {
@@ -97,9 +98,9 @@ static answer ask_batch(size_t size) {
 }
 
 /* What a passenger screen does when something is typed: a range, and the first ten names of it. */
-static answer show(size_t size, const char *typed) {
+static counted show(size_t size, const char *typed) {
     mark();
-    answer given = book_range(input, size, (const uint8_t *)typed, strlen(typed));
+    counted given = book_range(input, size, (const uint8_t *)typed, strlen(typed));
     for (size_t i = 0; i < given.second && i < 10; i++)
         book_read(input, size, given.first + i, room, MISTROGU_LONGEST_NAME);
     mark();
@@ -132,11 +133,14 @@ static size_t blocks_of(size_t size) {
     return block ? (names + block - 1) / block : 0;
 }
 
+static void tell(counted given) {
+    printf("answer %zu, %zu, %zu, %zu, %zu\n", given.code, given.first, given.second, given.visits, given.entries);
+}
+
 int main(int words, char **word) {
     if (words < 3)
         return 2;
     const char *call = word[1];
-    answer given;
     size_t size = read_file(word[2], input), second = 0;
     if (!strncmp(call, "build", 5) && words > 3)
         second = strtoul(word[3], NULL, 10);
@@ -146,14 +150,15 @@ int main(int words, char **word) {
         second = blocks_of(size);
     mark();
     mark();
-    if (!strcmp(call, "questions"))
-        given = ask_all(size);
-    else if (!strcmp(call, "batch"))
-        given = ask_batch(size);
-    else if (!strcmp(call, "screen") && words > 3)
-        given = show(size, word[3]);
-    else
-        given = make(call, size, second);
+    if (!strcmp(call, "questions")) {
+        tell(ask_all(size));
+        return 0;
+    }
+    if (!strcmp(call, "screen") && words > 3) {
+        tell(show(size, word[3]));
+        return 0;
+    }
+    answer given = strcmp(call, "batch") ? make(call, size, second) : ask_batch(size);
     if (!strncmp(call, "build", 5) && words > 4 && !given.code)
         write_file(word[4], given.first);
     printf("answer %zu, %zu, %zu\n", given.code, given.first, given.second);

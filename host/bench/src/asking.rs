@@ -4,10 +4,10 @@ use crate::{read_file, Ready};
 use format::Kind;
 
 /// A call that asks a question of a book.
-pub type Ask<Answer> = fn(&[u8], &[u8]) -> Answer;
+pub type Ask<Counted> = fn(&[u8], &[u8]) -> Counted;
 
 /// The measured calls, in the order of the kinds' numbers.
-const MEASURED: [Ask<proved::Answer>; 5] = [
+const MEASURED: [Ask<proved::Counted>; 5] = [
     measured_exact,
     measured_place,
     measured_range,
@@ -16,7 +16,7 @@ const MEASURED: [Ask<proved::Answer>; 5] = [
 ];
 
 /// The measured call of a question of this kind.
-pub fn call_of(kind: Kind) -> Ask<proved::Answer> {
+pub fn call_of(kind: Kind) -> Ask<proved::Counted> {
     MEASURED[kind.index()]
 }
 
@@ -48,8 +48,8 @@ pub fn width(words: &[String]) -> Result<Ready, String> {
 /// Makes a call ready from a file's name and a question.
 fn ready(
     words: &[String],
-    measured: Ask<proved::Answer>,
-    model: Ask<model::Answer>,
+    measured: Ask<proved::Counted>,
+    model: Ask<model::Counted>,
 ) -> Result<Ready, String> {
     let [file, question] = words else {
         return Err(
@@ -59,10 +59,7 @@ fn ready(
     let book = read_file(file)?;
     let question = read_question(question)?;
     let expected = model(&book, &question);
-    Ok(Ready {
-        measured: Box::new(move || measured(&book, &question)),
-        expected,
-    })
+    Ok(Ready::new(move || measured(&book, &question), expected))
 }
 
 /// What stands before a question in hex.
@@ -96,31 +93,31 @@ pub fn shown_question(question: &[u8]) -> String {
 
 /// The call that is measured, and nothing else.
 #[inline(never)]
-fn measured_exact(book: &[u8], question: &[u8]) -> proved::Answer {
+fn measured_exact(book: &[u8], question: &[u8]) -> proved::Counted {
     proved::book_exact(book, question)
 }
 
 /// The same for `book_place`.
 #[inline(never)]
-pub fn measured_place(book: &[u8], question: &[u8]) -> proved::Answer {
+pub fn measured_place(book: &[u8], question: &[u8]) -> proved::Counted {
     proved::book_place(book, question)
 }
 
 /// The same for `book_range`.
 #[inline(never)]
-fn measured_range(book: &[u8], question: &[u8]) -> proved::Answer {
+fn measured_range(book: &[u8], question: &[u8]) -> proved::Counted {
     proved::book_range(book, question)
 }
 
 /// The same for `book_nearest`.
 #[inline(never)]
-fn measured_nearest(book: &[u8], question: &[u8]) -> proved::Answer {
+fn measured_nearest(book: &[u8], question: &[u8]) -> proved::Counted {
     proved::book_nearest(book, question)
 }
 
 /// The same for `book_width`.
 #[inline(never)]
-fn measured_width(book: &[u8], question: &[u8]) -> proved::Answer {
+fn measured_width(book: &[u8], question: &[u8]) -> proved::Counted {
     proved::book_width(book, question)
 }
 

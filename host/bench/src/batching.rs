@@ -4,7 +4,9 @@
 use crate::asking::{call_of, shown_question};
 use crate::{mixed, read_file, shown, Ready};
 use format::{Kind, MOST_ROWS};
-use model::{book_batch, open, Answer};
+use model::questions::{look_from, Look};
+use model::tree::tree;
+use model::{book_batch, open, Answer, Counted};
 use proved::Row;
 use vectors::batches::Batch;
 use vectors::lists::Names;
@@ -45,23 +47,30 @@ pub fn ready(words: &[String]) -> Result<Ready, String> {
     let prepared = prepare(words)?;
     let expected = prepared.expected;
     let mut answers = prepared.unset_answers();
-    Ok(Ready {
-        measured: Box::new(move || {
+    Ok(Ready::new(
+        move || {
             let answer = prepared.ask(&mut answers);
             prepared.compare(&answers).expect("the second program's");
             answer
-        }),
+        },
         expected,
-    })
+    ))
 }
 
 /// Asks the batch, then each of its questions alone: a line for each call, in
-/// the order in which they are made.
+/// the order in which they are made. Alone each tells how far it looked, too.
 pub fn together(words: &[String]) -> Result<String, String> {
     let prepared = prepare(words)?;
-    if prepared.expected.code != 0 {
-        return Err(format!("{} is no book", words.join(" ")));
-    }
+    let opened = open(&prepared.book);
+    let (kind, block, names) = opened.ok_or_else(|| format!("{} is no book", words.join(" ")))?;
+    let (rule, root) = (kind.rule(), tree(kind.rule(), &names));
+    let alone = |answer: Answer, question: &[u8]| {
+        let look = match (answer.code, &root) {
+            (0, Some(root)) => look_from(rule, block, root, question),
+            _ => Look::default(),
+        };
+        Counted::of(answer, look)
+    };
     let mut answers = prepared.unset_answers();
     let answer = shown(prepared.ask(&mut answers), prepared.expected)?;
     prepared.compare(&answers)?;
@@ -69,7 +78,8 @@ pub fn together(words: &[String]) -> Result<String, String> {
     for (row, &expected) in prepared.rows.iter().zip(&prepared.expected_rows) {
         let question = &prepared.questions[row.start..row.start + row.length];
         let kind = Kind::from_number(row.kind).expect("every row has a kind");
-        let answer = shown(call_of(kind)(&prepared.book, question), expected)?;
+        let given = call_of(kind)(&prepared.book, question);
+        let answer = shown(given, alone(expected, question))?;
         let (kind, question) = (kind.name(), shown_question(question));
         lines.push(format!("{kind} {answer}: {question}"));
     }

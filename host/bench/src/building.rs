@@ -30,10 +30,10 @@ fn ready(kind: BookKind, words: &[String]) -> Result<Ready, String> {
     let block = read_number(block)?;
     let mut room = vec![0; LONGEST_BOOK];
     let expected = build_kind(kind, &list, block, &mut room);
-    Ok(Ready {
-        measured: Box::new(move || build(kind, &list, block, &mut room)),
+    Ok(Ready::new(
+        move || build(kind, &list, block, &mut room),
         expected,
-    })
+    ))
 }
 
 /// Builds a book of this kind, by the call that is measured.

@@ -9,10 +9,7 @@ pub fn ready(words: &[String]) -> Result<Ready, String> {
     };
     let book = read_file(file)?;
     let expected = model::book_check(&book);
-    Ok(Ready {
-        measured: Box::new(move || measured_check(&book)),
-        expected,
-    })
+    Ok(Ready::new(move || measured_check(&book), expected))
 }
 
 /// The call that is measured, and nothing else.

@@ -45,9 +45,65 @@ struct Call {
 /// A call with all that goes into it.
 pub struct Ready {
     /// Makes the call, in a function that is never inlined.
-    pub measured: Box<dyn FnMut() -> proved::Answer + Send>,
+    pub measured: Box<dyn FnMut() -> Given + Send>,
     /// What the second program answers.
-    pub expected: model::Answer,
+    pub expected: Given,
+}
+
+impl Ready {
+    /// A call, and what the second program answers.
+    pub fn new<G: Into<Given>>(
+        mut measured: impl FnMut() -> G + Send + 'static,
+        expected: impl Into<Given>,
+    ) -> Ready {
+        Ready {
+            measured: Box::new(move || measured().into()),
+            expected: expected.into(),
+        }
+    }
+}
+
+/// What a call gives: the three numbers of an answer, or the five of a question.
+#[derive(Clone, Copy, Debug, PartialEq)]
+pub enum Given {
+    /// Code, first and second.
+    Answer([usize; 3]),
+    /// The same, then visits and entries.
+    Counted([usize; 5]),
+}
+
+impl From<proved::Answer> for Given {
+    fn from(answer: proved::Answer) -> Given {
+        Given::Answer([answer.code, answer.first, answer.second])
+    }
+}
+
+impl From<model::Answer> for Given {
+    fn from(answer: model::Answer) -> Given {
+        Given::Answer([answer.code, answer.first, answer.second])
+    }
+}
+
+impl From<proved::Counted> for Given {
+    fn from(given: proved::Counted) -> Given {
+        let proved::Answer {
+            code,
+            first,
+            second,
+        } = given.answer();
+        Given::Counted([code, first, second, given.visits, given.entries])
+    }
+}
+
+impl From<model::Counted> for Given {
+    fn from(given: model::Counted) -> Given {
+        let model::Answer {
+            code,
+            first,
+            second,
+        } = given.answer();
+        Given::Counted([code, first, second, given.visits, given.entries])
+    }
 }
 
 /// Every call that can be measured.
@@ -185,19 +241,24 @@ pub fn read_number(word: &str) -> Result<usize, String> {
     word.parse().map_err(|error| format!("{word}: {error}"))
 }
 
-/// The answer as it is printed, if it is the expected one.
-fn shown(answer: proved::Answer, expected: model::Answer) -> Result<String, String> {
-    let numbers = (answer.code, answer.first, answer.second);
-    if numbers == (expected.code, expected.first, expected.second) {
-        Ok(told(answer))
+/// What a call gave as it is printed, if it is what was expected.
+fn shown(given: impl Into<Given>, expected: impl Into<Given>) -> Result<String, String> {
+    let (given, expected) = (given.into(), expected.into());
+    if given == expected {
+        Ok(told(given))
     } else {
-        Err(format!("WRONG: {answer:?}, expected {expected:?}"))
+        Err(format!("WRONG: {given:?}, expected {expected:?}"))
     }
 }
 
-/// The answer as it is printed.
-fn told(answer: proved::Answer) -> String {
-    format!("answer {} {} {}", answer.code, answer.first, answer.second)
+/// What a call gave as it is printed.
+fn told(given: Given) -> String {
+    let numbers = match &given {
+        Given::Answer(numbers) => &numbers[..],
+        Given::Counted(numbers) => numbers,
+    };
+    let numbers = numbers.iter().map(|number| format!(" {number}"));
+    format!("answer{}", numbers.collect::<String>())
 }
 
 /// What can be asked of this program.

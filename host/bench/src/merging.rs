@@ -1,7 +1,7 @@
 //! `list_merge`, `list_judge` and `list_head`, of the lists in two files; and a
 //! list parted into two, to merge them again.
 
-use crate::{read_file, read_number, Ready};
+use crate::{read_file, read_number, Given, Ready};
 use model::names::read_names;
 use model::{list_head, list_judge, list_merge, write_list, Rule};
 use std::fs;
@@ -12,20 +12,20 @@ pub fn merge(words: &[String]) -> Result<Ready, String> {
     let [first, second] = read_lists(words)?;
     let mut room = vec![0; first.len() + second.len()];
     let expected = list_merge(&first, &second, &mut room);
-    Ok(Ready {
-        measured: Box::new(move || measured_merge(&first, &second, &mut room)),
+    Ok(Ready::new(
+        move || measured_merge(&first, &second, &mut room),
         expected,
-    })
+    ))
 }
 
 /// Makes `list_judge` ready from two files' names.
 pub fn judge(words: &[String]) -> Result<Ready, String> {
     let [first, second] = read_lists(words)?;
     let expected = list_judge(&first, &second);
-    Ok(Ready {
-        measured: Box::new(move || measured_judge(&first, &second)),
+    Ok(Ready::new(
+        move || measured_judge(&first, &second),
         expected,
-    })
+    ))
 }
 
 /// Makes `list_head` ready from two files' names and how many records of each
@@ -38,21 +38,14 @@ pub fn step(words: &[String]) -> Result<Ready, String> {
     let [first, second] = read_lists(files)?;
     let (passed_first, passed_second) = (read_number(passed_first)?, read_number(passed_second)?);
     let expected = list_head(&first, &second, passed_first, passed_second);
-    Ok(Ready {
-        measured: Box::new(move || {
+    let expected = Given::Answer([expected.list, expected.start, expected.length]);
+    Ok(Ready::new(
+        move || {
             let head = measured_step(&first, &second, passed_first, passed_second);
-            proved::Answer {
-                code: head.list,
-                first: head.start,
-                second: head.length,
-            }
-        }),
-        expected: model::Answer {
-            code: expected.list,
-            first: expected.start,
-            second: expected.length,
+            Given::Answer([head.list, head.start, head.length])
         },
-    })
+        expected,
+    ))
 }
 
 /// The lists in two files.

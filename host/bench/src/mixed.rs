@@ -5,11 +5,11 @@
 //! one byte, and a fifth are strangers. Each is asked in all five kinds.
 
 use crate::asking::{call_of, shown_question};
-use crate::{checking, read_file, shown, told};
+use crate::{checking, read_file, shown, told, Given};
 use format::Kind;
-use model::questions::{exact, nearest_from, place, range, width};
+use model::questions::{exact, look_from, nearest_from, place, range, width};
 use model::tree::tree;
-use model::{book_check, open, Answer};
+use model::{book_check, open, Answer, Counted};
 use vectors::lists::Names;
 use vectors::questions::{of_shape, SHAPES};
 use vectors::random::Random;
@@ -22,9 +22,9 @@ const EACH: usize = 20;
 /// program's.
 pub fn run(words: &[String]) -> Result<String, String> {
     let (file, book) = read_book(words)?;
-    let (kind, _, names) = open(&book).ok_or_else(|| format!("{file} is no book"))?;
+    let (kind, block, names) = open(&book).ok_or_else(|| format!("{file} is no book"))?;
     // The second program's calls open the book each time, which takes long; so its
-    // questions are asked of the names, and the tree for nearest is made once.
+    // questions are asked of the names, and the tree to go down in is made once.
     let rule = kind.rule();
     let root = tree(rule, &names).ok_or_else(|| format!("{file} has no names"))?;
     let expected = |kind: Kind, question: &[u8]| {
@@ -35,11 +35,12 @@ pub fn run(words: &[String]) -> Result<String, String> {
             Kind::Nearest => nearest_from(rule, &root, &names, question),
             Kind::Width => width(rule, &names, question),
         };
-        Answer {
+        let answer = Answer {
             code: 0,
             first,
             second,
-        }
+        };
+        Counted::of(answer, look_from(rule, block, &root, question))
     };
     ask_all(&book, &names, |kind, question, answer| match kind {
         None => shown(answer, book_check(&book)),
@@ -63,18 +64,19 @@ fn read_book(words: &[String]) -> Result<(&str, Vec<u8>), String> {
     Ok((file, read_file(file)?))
 }
 
-/// Checks, then asks: a line for each call, with what `tell` makes of the answer
-/// to the check, which has no kind, or to a question.
+/// Checks, then asks: a line for each call, with what `tell` makes of what the
+/// check gives, which has no kind, or a question.
 fn ask_all(
     book: &[u8],
     names: &Names,
-    tell: impl Fn(Option<Kind>, &[u8], proved::Answer) -> Result<String, String>,
+    tell: impl Fn(Option<Kind>, &[u8], Given) -> Result<String, String>,
 ) -> Result<String, String> {
-    let checked = tell(None, &[], checking::measured_check(book))?;
+    let checked = tell(None, &[], checking::measured_check(book).into())?;
     let mut lines = vec![format!("check {checked}")];
     for question in questions(names) {
         for kind in Kind::ALL {
-            let answer = tell(Some(kind), &question, call_of(kind)(book, &question))?;
+            let given = call_of(kind)(book, &question);
+            let answer = tell(Some(kind), &question, given.into())?;
             let (kind, question) = (kind.name(), shown_question(&question));
             lines.push(format!("{kind} {answer}: {question}"));
         }

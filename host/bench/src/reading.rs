@@ -12,10 +12,10 @@ pub fn ready(words: &[String]) -> Result<Ready, String> {
     let position = read_number(position)?;
     let mut room = vec![0; LONGEST_NAME];
     let expected = model::book_read(&book, position, &mut room);
-    Ok(Ready {
-        measured: Box::new(move || measured_read(&book, position, &mut room)),
+    Ok(Ready::new(
+        move || measured_read(&book, position, &mut room),
         expected,
-    })
+    ))
 }
 
 /// The call that is measured, and nothing else.

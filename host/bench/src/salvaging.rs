@@ -21,10 +21,10 @@ pub fn ready(words: &[String]) -> Result<Ready, String> {
     let mut room = vec![0; MOST_SALVAGED];
     let expected = model::book_salvage(&data, &mut room, &mut vec![model::Kept::default(); blocks]);
     let mut report = vec![Kept::default(); blocks];
-    Ok(Ready {
-        measured: Box::new(move || measured_salvage(&data, &mut room, &mut report)),
+    Ok(Ready::new(
+        move || measured_salvage(&data, &mut room, &mut report),
         expected,
-    })
+    ))
 }
 
 /// How many blocks the trailer tells of; none where there is none, or a block has

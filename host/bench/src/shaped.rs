@@ -9,9 +9,11 @@ use crate::building::build;
 use crate::checking::measured_check;
 use crate::{asking, read_number, shown};
 use format::{LONGEST_BOOK, MOST_NAMES};
-use model::{write_list, Answer, BookKind};
+use model::names::leading_equal;
+use model::questions::Look;
+use model::{write_list, Answer, BookKind, Counted};
 use vectors::growth;
-use vectors::lists::compared_name;
+use vectors::lists::{compared, compared_name, Names};
 use vectors::random::Random;
 use vectors::worst::{self, fitting_chains, Comb, Worst};
 
@@ -27,22 +29,48 @@ fn lines(label: &str, list: &Worst, room: &mut [u8]) -> Result<Vec<String>, Stri
         return Ok(vec![format!("build {label}: too large")]);
     }
     let book = &room[..built.first];
-    let compared = |bytes: &[u8]| compared_name(list.kind, bytes);
-    let question = compared(&list.question);
-    let place = list.names.partition_point(|name| compared(name) < question);
+    let names = compared(list.kind, &list.names);
+    let question = compared_name(list.kind, &list.question);
+    let place = names.partition_point(|name| *name < question);
     let expected = |first, second| Answer {
         code: 0,
         first,
         second,
     };
-    shown(measured_check(book), expected(list.names.len(), list.block))?;
+    shown(measured_check(book), expected(names.len(), list.block))?;
     shown(
         asking::measured_place(book, &list.question),
-        expected(place, 0),
+        Counted::of(expected(place, 0), look(&names, list.block, &question)),
     )?;
     let bytes = built.first;
     let line = |call: &str| format!("{call} {label}: {bytes}");
     Ok(["build", "check", "place"].map(line).to_vec())
+}
+
+/// How far a question looks: it goes down in a run of names, of which those are left
+/// that have its next symbol behind what all of them share.
+fn look(names: &Names, block: usize, question: &[u8]) -> Look {
+    let (mut first, mut run) = (0, &names[..]);
+    let mut visits = 1;
+    while let [low, .., high] = run {
+        let depth = leading_equal(low, high);
+        if depth > question.len() {
+            break;
+        }
+        // No byte is the end, and it is below every byte.
+        let wanted = question.get(depth);
+        let from = run.partition_point(|name| name.get(depth) < wanted);
+        let fitting = run[from..].partition_point(|name| name.get(depth) == wanted);
+        if fitting == 0 {
+            break;
+        }
+        (first, run) = (first + from, &run[from..from + fitting]);
+        visits += 1;
+    }
+    Look {
+        visits,
+        entries: first % block + 1,
+    }
 }
 
 /// Lists of which one parameter doubles.

@@ -3,13 +3,13 @@
 use crate::loaded::Loaded;
 use crate::merging;
 use crate::salvaging;
-use crate::Numbers;
+use crate::{answered, Numbers};
 use compare::mix::{positions, questions, two_lists, EACH};
 use compare::sorted::Sorted;
 use compare::stations::{stations, BLOCK};
 use compare::steps::{Step, Subject, LIBRARY, MODEL, REFERENCE, ROWS, SORTED};
 use format::{Kind, LONGEST_BOOK, LONGEST_NAME, MOST_NAMES};
-use model::questions::nearest_from;
+use model::questions::{look_from, nearest_from, Look};
 use model::tree::tree;
 use model::{BookKind, Rule};
 use vectors::lists::{sorted_for, Names};
@@ -35,6 +35,8 @@ pub struct Data {
     pub questions: Names,
     /// The answers to all of them, for each kind.
     answers: [Vec<Numbers>; Kind::ALL.len()],
+    /// How far each of them looks, whatever its kind.
+    looks: Vec<Look>,
     /// The positions that are read back.
     positions: Vec<usize>,
     /// The questions of a batch, one behind the other.
@@ -78,6 +80,8 @@ impl Data {
             };
             questions.iter().map(answer).collect()
         });
+        let look = |question: &Vec<u8>| look_from(Rule::Plain, BLOCK, &root, question);
+        let looks = questions.iter().map(look).collect();
         let mut buffer = Vec::new();
         let mut rows = Vec::new();
         for row in 0..ROWS {
@@ -97,6 +101,7 @@ impl Data {
             names,
             questions,
             answers,
+            looks,
             buffer,
             rows,
         }))
@@ -113,22 +118,40 @@ impl Data {
 
 /// The numbers of an accepted call.
 fn accepted((first, second): (usize, usize)) -> Numbers {
-    [0, first, second]
+    answered([0, first, second])
 }
 
 /// The numbers of the library's answer.
 pub fn of_library(answer: proved::Answer) -> Numbers {
-    [answer.code, answer.first, answer.second]
+    answered([answer.code, answer.first, answer.second])
 }
 
 /// The numbers of the reference's answer.
 pub fn of_reference(answer: reference::Answer) -> Numbers {
-    [answer.code, answer.first, answer.second]
+    answered([answer.code, answer.first, answer.second])
 }
 
 /// The numbers of the second program's answer.
 pub fn of_model(answer: model::Answer) -> Numbers {
-    [answer.code, answer.first, answer.second]
+    answered([answer.code, answer.first, answer.second])
+}
+
+/// The numbers that a question to the library gives.
+fn counted_by_library(given: proved::Counted) -> Numbers {
+    let [code, first, second, ..] = of_library(given.answer());
+    [code, first, second, given.visits, given.entries]
+}
+
+/// The numbers that a question to the reference gives.
+fn counted_by_reference(given: reference::Counted) -> Numbers {
+    let [code, first, second, ..] = of_reference(given.answer());
+    [code, first, second, given.visits, given.entries]
+}
+
+/// The numbers that a question to the second program gives.
+fn counted_by_model(given: model::Counted) -> Numbers {
+    let [code, first, second, ..] = of_model(given.answer());
+    [code, first, second, given.visits, given.entries]
 }
 
 /// A question to the second program, with the names at hand.
@@ -202,6 +225,8 @@ struct Asking<F> {
     every: usize,
     /// Whether the first number is a position or a place, as it should be.
     whole: bool,
+    /// Whether it tells how far it looked.
+    counts: bool,
     ask: F,
 }
 
@@ -215,7 +240,12 @@ impl<F: FnMut(&[u8]) -> Numbers + Send> Call for Asking<F> {
     }
 
     fn is_right(&self, turn: usize, numbers: Numbers) -> bool {
-        let expected = self.data.answers[self.kind.index()][turn * self.every];
+        let question = turn * self.every;
+        let mut expected = self.data.answers[self.kind.index()][question];
+        if self.counts {
+            let look = self.data.looks[question];
+            (expected[3], expected[4]) = (look.visits, look.entries);
+        }
         numbers == expected || (!self.whole && numbers[2] == expected[2])
     }
 }
@@ -271,7 +301,7 @@ impl<A: Copy + Send, F: FnMut(&mut [A]) -> Numbers + Send> Call for Batching<A, 
     fn is_right(&self, _: usize, numbers: Numbers) -> bool {
         let rows = self.kinds.iter().zip(&self.data.rows);
         let expected = rows.map(|(&kind, &(number, _))| self.data.answers[kind.index()][number]);
-        numbers == [0, ROWS, 0] && self.answers.iter().copied().map(self.tell).eq(expected)
+        numbers == accepted((ROWS, 0)) && self.answers.iter().copied().map(self.tell).eq(expected)
     }
 }
 
@@ -326,24 +356,26 @@ type Ask<A> = fn(&[u8], &[u8]) -> A;
 type Batch<A, R> = fn(&[u8], &[u8], &[R], &mut [A]) -> A;
 
 /// The calls of a library that checks a book before it answers, with its own
-/// answers and rows.
+/// answers, what its questions give, and its rows.
 #[derive(Clone, Copy)]
-struct Checked<A, R> {
+struct Checked<A, C, R> {
     subject: usize,
     build: Build<A>,
     build_folded: Build<A>,
     check: fn(&[u8]) -> A,
     read: fn(&[u8], usize, &mut [u8]) -> A,
-    asks: [Ask<A>; Kind::ALL.len()],
+    asks: [Ask<C>; Kind::ALL.len()],
     batch: Batch<A, R>,
     /// A row of its own.
     row: fn(usize, usize, usize) -> R,
     /// The numbers of its answer.
     tell: fn(A) -> Numbers,
+    /// The numbers of what its question gives.
+    tell_counted: fn(C) -> Numbers,
 }
 
 /// The proved library.
-fn library() -> Checked<proved::Answer, proved::Row> {
+fn library() -> Checked<proved::Answer, proved::Counted, proved::Row> {
     Checked {
         subject: LIBRARY,
         build: proved::book_build,
@@ -364,11 +396,12 @@ fn library() -> Checked<proved::Answer, proved::Row> {
             length,
         },
         tell: of_library,
+        tell_counted: counted_by_library,
     }
 }
 
 /// Careful code without index tests.
-fn reference() -> Checked<reference::Answer, reference::Row> {
+fn reference() -> Checked<reference::Answer, reference::Counted, reference::Row> {
     Checked {
         subject: REFERENCE,
         build: reference::book_build,
@@ -389,16 +422,18 @@ fn reference() -> Checked<reference::Answer, reference::Row> {
             length,
         },
         tell: of_reference,
+        tell_counted: counted_by_reference,
     }
 }
 
 /// The calls of a library that checks.
-fn checked_items<A, R>(data: &'static Data, calls: Checked<A, R>) -> Vec<Item>
+fn checked_items<A, C, R>(data: &'static Data, calls: Checked<A, C, R>) -> Vec<Item>
 where
     A: Copy + Default + Send + 'static,
+    C: Copy + 'static,
     R: Copy + Send + 'static,
 {
-    let (own, tell) = (calls.subject, calls.tell);
+    let (own, tell, tell_counted) = (calls.subject, calls.tell, calls.tell_counted);
     let mut room = vec![0; LONGEST_BOOK];
     let length = tell((calls.build)(&data.list, BLOCK, &mut room))[1];
     assert_eq!(&room[..length], data.book, "the book");
@@ -409,11 +444,11 @@ where
     };
     let build = Once {
         make: move || tell((calls.build)(&data.list, BLOCK, &mut room)),
-        expected: [0, data.book.len(), 0],
+        expected: accepted((data.book.len(), 0)),
     };
     let check = Once {
         make: move || tell((calls.check)(&data.book)),
-        expected: [0, data.names.len(), BLOCK],
+        expected: accepted((data.names.len(), BLOCK)),
     };
     let read = Reading {
         data,
@@ -434,7 +469,8 @@ where
             kind,
             every: 1,
             whole: true,
-            ask: move |question: &[u8]| tell(ask_book(&data.book, question)),
+            counts: true,
+            ask: move |question: &[u8]| tell_counted(ask_book(&data.book, question)),
         };
         items.push(item(own, Step::Ask(kind), ask));
     }
@@ -461,11 +497,11 @@ fn folded_items<A: 'static>(
     let mut room = vec![0; LONGEST_BOOK];
     let build = Once {
         make: move || tell(build(&folded.list, BLOCK, &mut room)),
-        expected: [0, folded.book.len(), 0],
+        expected: accepted((folded.book.len(), 0)),
     };
     let check = Once {
         make: move || tell(check(&folded.book)),
-        expected: [0, folded.names, BLOCK],
+        expected: accepted((folded.names, BLOCK)),
     };
     vec![
         item(subject, Step::BuildFolded, build),
@@ -474,9 +510,10 @@ fn folded_items<A: 'static>(
 }
 
 /// The batches of a library that checks: a mixed one, and one of each kind.
-fn checked_batches<A, R>(data: &'static Data, calls: Checked<A, R>) -> Vec<Item>
+fn checked_batches<A, C, R>(data: &'static Data, calls: Checked<A, C, R>) -> Vec<Item>
 where
     A: Copy + Default + Send + 'static,
+    C: Copy + 'static,
     R: Copy + Send + 'static,
 {
     let tell = calls.tell;
@@ -504,18 +541,18 @@ fn mixed_kinds() -> Vec<Kind> {
 }
 
 /// A call of the second program that asks a question.
-type AskModel = fn(&[u8], &[u8]) -> model::Answer;
+type AskModel = fn(&[u8], &[u8]) -> model::Counted;
 
 /// The second program's calls: one question of each shape, and two names read.
 fn model_items(data: &'static Data) -> Vec<Item> {
     let mut room = vec![0; LONGEST_BOOK];
     let build = Once {
         make: move || of_model(model::book_build(&data.list, BLOCK, &mut room)),
-        expected: [0, data.book.len(), 0],
+        expected: accepted((data.book.len(), 0)),
     };
     let check = Once {
         make: || of_model(model::book_check(&data.book)),
-        expected: [0, data.names.len(), BLOCK],
+        expected: accepted((data.names.len(), BLOCK)),
     };
     let read = Reading {
         data,
@@ -532,7 +569,7 @@ fn model_items(data: &'static Data) -> Vec<Item> {
         read: |position: usize, room: &mut [u8]| {
             let name = &data.names[position];
             room[..name.len()].copy_from_slice(name);
-            [0, name.len(), 0]
+            accepted((name.len(), 0))
         },
     };
     let mut items = vec![
@@ -554,13 +591,15 @@ fn model_items(data: &'static Data) -> Vec<Item> {
             kind,
             every: EACH,
             whole: true,
-            ask: move |question: &[u8]| of_model(ask_book(&data.book, question)),
+            counts: true,
+            ask: move |question: &[u8]| counted_by_model(ask_book(&data.book, question)),
         };
         let held = Asking {
             data,
             kind,
             every: EACH,
             whole: true,
+            counts: false,
             ask: move |question: &[u8]| accepted(ask_names(&data.names, kind, question)),
         };
         items.push(item(MODEL, Step::Ask(kind), ask));
@@ -599,9 +638,9 @@ fn sorted_items(data: &'static Data, sorted: Sorted<'static>) -> Vec<Item> {
     let build = Once {
         make: move || {
             let built = Sorted::build(&data.list, &mut starts);
-            built.map_or([1, 0, 0], |built| [0, built.size(), 0])
+            answered(built.map_or([1, 0, 0], |built| [0, built.size(), 0]))
         },
-        expected: [0, sorted.size(), 0],
+        expected: accepted((sorted.size(), 0)),
     };
     let read = Reading {
         data,
@@ -610,7 +649,7 @@ fn sorted_items(data: &'static Data, sorted: Sorted<'static>) -> Vec<Item> {
         room: vec![0; LONGEST_NAME],
         read: move |position, room: &mut [u8]| {
             let length = sorted.read(position, room);
-            length.map_or([1, 0, 0], |length| [0, length, 0])
+            answered(length.map_or([1, 0, 0], |length| [0, length, 0]))
         },
     };
     let mut items = vec![
@@ -623,6 +662,7 @@ fn sorted_items(data: &'static Data, sorted: Sorted<'static>) -> Vec<Item> {
             kind,
             every: 1,
             whole: true,
+            counts: false,
             ask: move |question: &[u8]| ask_sorted(sorted, kind, question),
         };
         items.push(item(SORTED, Step::Ask(kind), ask));
@@ -638,7 +678,7 @@ fn sorted_items(data: &'static Data, sorted: Sorted<'static>) -> Vec<Item> {
                 let question = &data.buffer[start..start + length];
                 *answer = ask_sorted(sorted, Kind::ALL[kind - 1], question);
             }
-            [0, rows.len(), 0]
+            accepted((rows.len(), 0))
         },
         tell: |numbers| numbers,
     };
@@ -649,8 +689,8 @@ fn sorted_items(data: &'static Data, sorted: Sorted<'static>) -> Vec<Item> {
 /// The calls of a library that was loaded, as far as it has them.
 fn loaded_items(data: &'static Data, subject: usize, loaded: Loaded, size: usize) -> Vec<Item> {
     let build = Once {
-        make: move || [0, loaded.build(&data.list).size(), 0],
-        expected: [0, size, 0],
+        make: move || accepted((loaded.build(&data.list).size(), 0)),
+        expected: accepted((size, 0)),
     };
     let mut items = vec![item(subject, Step::Build, build)];
     // Who knows a place knows positions.
@@ -674,6 +714,7 @@ fn loaded_items(data: &'static Data, subject: usize, loaded: Loaded, size: usize
                 kind,
                 every: 1,
                 whole,
+                counts: false,
                 ask: move |question: &[u8]| names.ask(kind, question),
             };
             items.push(item(subject, Step::Ask(kind), ask));

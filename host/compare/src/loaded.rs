@@ -4,7 +4,7 @@
 //! peers/. Where such a library has nothing for a call, the function is not
 //! there.
 
-use crate::Numbers;
+use crate::{answered, Numbers};
 use format::Kind;
 use std::ffi::{c_char, c_int, c_void, CString};
 use std::mem::transmute;
@@ -18,11 +18,13 @@ extern "C" {
 /// All that a library needs is found at once, not at the first call.
 const RTLD_NOW: c_int = 2;
 
+/// What such a function writes: code, first and second number of an answer.
+type Written = [usize; 3];
 type Build = unsafe extern "C" fn(*const u8, usize) -> *mut c_void;
 type Free = unsafe extern "C" fn(*mut c_void);
 type Size = unsafe extern "C" fn(*const c_void) -> usize;
-type Read = unsafe extern "C" fn(*mut c_void, usize, *mut u8, usize, *mut Numbers);
-type Ask = unsafe extern "C" fn(*mut c_void, *const u8, usize, *mut Numbers);
+type Read = unsafe extern "C" fn(*mut c_void, usize, *mut u8, usize, *mut Written);
+type Ask = unsafe extern "C" fn(*mut c_void, *const u8, usize, *mut Written);
 
 /// A library that was loaded.
 #[derive(Clone, Copy)]
@@ -106,7 +108,7 @@ impl Dictionary {
 
     /// Reads the name of this number into the room.
     pub fn read(&mut self, number: usize, room: &mut [u8]) -> Numbers {
-        let mut numbers = Numbers::default();
+        let mut written = Written::default();
         if let Some(read) = self.library.read {
             // SAFETY: as for the size; the pointer comes with the length of its
             // own slice.
@@ -116,16 +118,16 @@ impl Dictionary {
                     number,
                     room.as_mut_ptr(),
                     room.len(),
-                    ptr::from_mut(&mut numbers),
+                    ptr::from_mut(&mut written),
                 )
             };
         }
-        numbers
+        answered(written)
     }
 
     /// Asks a question of this kind.
     pub fn ask(&mut self, kind: Kind, question: &[u8]) -> Numbers {
-        let mut numbers = Numbers::default();
+        let mut written = Written::default();
         if let Some(ask) = self.library.asks[kind.index()] {
             // SAFETY: as for the size; the pointer comes with the length of its
             // own slice.
@@ -134,11 +136,11 @@ impl Dictionary {
                     self.names,
                     question.as_ptr(),
                     question.len(),
-                    ptr::from_mut(&mut numbers),
+                    ptr::from_mut(&mut written),
                 )
             };
         }
-        numbers
+        answered(written)
     }
 }
 

@@ -27,8 +27,14 @@ use std::path::Path;
 use std::process::ExitCode;
 use std::{env, fs};
 
-/// Code, first and second number of an answer.
-pub type Numbers = [usize; 3];
+/// Code, first and second number of an answer; then how far a question looked that
+/// tells it, visits and entries, and two zeros behind every other answer.
+pub type Numbers = [usize; 5];
+
+/// The numbers of an answer that does not tell how far it looked.
+pub const fn answered([code, first, second]: [usize; 3]) -> Numbers {
+    [code, first, second, 0, 0]
+}
 
 fn main() -> ExitCode {
     let words: Vec<String> = env::args().skip(1).collect();

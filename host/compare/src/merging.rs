@@ -2,7 +2,7 @@
 
 use crate::counting::count_program;
 use crate::items::{item, of_library, of_model, of_reference, Call, Data, Item};
-use crate::Numbers;
+use crate::{answered, Numbers};
 use compare::steps::{Step, LIBRARY, MODEL, REFERENCE};
 use std::fs;
 use std::path::Path;
@@ -27,7 +27,7 @@ impl<F: FnMut(&[u8], &[u8], &mut [u8]) -> Numbers + Send> Call for Merging<F> {
 
     fn is_right(&self, _: usize, numbers: Numbers) -> bool {
         let list = &self.data.list;
-        numbers == [0, list.len(), 0] && self.room.starts_with(list)
+        numbers == answered([0, list.len(), 0]) && self.room.starts_with(list)
     }
 }
 

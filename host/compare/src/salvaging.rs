@@ -2,7 +2,7 @@
 //! can.
 
 use crate::items::{item, of_library, of_model, of_reference, Call, Data, Item};
-use crate::Numbers;
+use crate::{answered, Numbers};
 use compare::stations::BLOCK;
 use compare::steps::{Step, LIBRARY, MODEL, REFERENCE};
 
@@ -32,7 +32,7 @@ impl<K: Send> Call for Salvaging<K> {
     fn is_right(&self, _: usize, numbers: Numbers) -> bool {
         let blocks = self.data.names.chunks(BLOCK);
         let expected = blocks.map(|names| (1, names.len()));
-        numbers == [0, self.data.list.len(), 0]
+        numbers == answered([0, self.data.list.len(), 0])
             && self.room == self.data.list
             && self.report.iter().map(self.tell).eq(expected)
     }

@@ -10,9 +10,23 @@ pub fn same_answer(expected: model::Answer, found: proved::Answer) -> bool {
     (expected.code, expected.first, expected.second) == (found.code, found.first, found.second)
 }
 
+/// Whether a question to both programs gave the same, and looked equally far.
+pub fn same_counted(expected: model::Counted, found: proved::Counted) -> bool {
+    let same_look = (expected.visits, expected.entries) == (found.visits, found.entries);
+    same_answer(expected.answer(), found.answer()) && same_look
+}
+
 /// The code of both answers, or the two of them.
 pub fn on_answer(expected: model::Answer, found: proved::Answer) -> Result<usize, String> {
     if same_answer(expected, found) {
+        return Ok(expected.code);
+    }
+    Err(format!("expected {expected:?}\nfound    {found:?}"))
+}
+
+/// The same of a question, with how far it looked.
+pub fn on_counted(expected: model::Counted, found: proved::Counted) -> Result<usize, String> {
+    if same_counted(expected, found) {
         return Ok(expected.code);
     }
     Err(format!("expected {expected:?}\nfound    {found:?}"))

@@ -36,13 +36,13 @@ pub fn width(random: &mut Random) -> Result<usize, String> {
 }
 
 /// A call that asks a question of a book.
-type Ask<Answer> = fn(&[u8], &[u8]) -> Answer;
+type Ask<Counted> = fn(&[u8], &[u8]) -> Counted;
 
 /// Asks a question near the book's names of both programs.
 fn run(
     random: &mut Random,
-    model: Ask<model::Answer>,
-    proved: Ask<proved::Answer>,
+    model: Ask<model::Counted>,
+    proved: Ask<proved::Counted>,
 ) -> Result<usize, String> {
     let (book, names) = any_book(random);
     let question = any_question(random, &names);
@@ -54,7 +54,7 @@ fn run(
     let question = lend(random, &question);
     let expected = model(&book, &question);
     let found = on_stack(STACK, || proved(&book, &question));
-    agreeing::on_answer(expected, found).map_err(|answers| {
+    agreeing::on_counted(expected, found).map_err(|answers| {
         let (question, book) = (hex(&question), hex(&book));
         format!("question {question}\nbook {book}\n{answers}")
     })

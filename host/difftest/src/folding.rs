@@ -1,6 +1,6 @@
 //! What folding is, by the proved library alone: a folded book answers as the plain
-//! book of its names in small letters does, to the question in small letters, and
-//! gives its names back as they were spelt.
+//! book of its names in small letters does, to the question in small letters, looks
+//! as far as that one, and gives its names back as they were spelt.
 
 use crate::books::any_block;
 use crate::lent::{hex, lend};
@@ -9,7 +9,7 @@ use fenced::{on_stack, Fenced};
 use format::{LONGEST_BOOK, LONGEST_NAME};
 use mistrogu::{BUILD_STACK, STACK};
 use model::{write_list, BookKind};
-use proved::Answer;
+use proved::{Answer, Counted};
 use vectors::lists::{compared, compared_name, Names};
 use vectors::questions::any_question;
 use vectors::random::Random;
@@ -19,7 +19,7 @@ use vectors::spelling::respelt;
 type Build = fn(&[u8], usize, &mut [u8]) -> Answer;
 
 /// A call that asks a question of a book.
-type Ask = fn(&[u8], &[u8]) -> Answer;
+type Ask = fn(&[u8], &[u8]) -> Counted;
 
 /// The five questions.
 const ASKS: [(&str, Ask); 5] = [
@@ -78,7 +78,7 @@ fn built(
 }
 
 /// The folded book answers a question as the plain one of the same names in small
-/// letters answers it in small letters.
+/// letters answers it in small letters, and both look equally far.
 fn alike(random: &mut Random, books: [&[u8]; 2], question: &[u8]) -> Result<(), String> {
     let small = compared_name(BookKind::Folded, question);
     let questions = [lend(random, question), lend(random, &small)];

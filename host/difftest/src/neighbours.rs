@@ -9,7 +9,7 @@ use fenced::{on_stack, Fenced};
 use format::{LONGEST_BOOK, LONGEST_NAME, LONGEST_QUESTION, MOST_NAMES};
 use mistrogu::{Refusal, STACK};
 use model::{book_of, BookKind};
-use proved::Answer;
+use proved::Counted;
 use vectors::lists::{self, compared_name, Names};
 use vectors::questions::any_question;
 use vectors::random::Random;
@@ -133,7 +133,7 @@ fn nested(random: &mut Random, book: &[u8], question: &[u8]) -> Result<(), Strin
 }
 
 /// Asks the proved library what it may not refuse.
-fn ask(call: fn(&[u8], &[u8]) -> Answer, book: &[u8], question: &[u8]) -> Result<Answer, String> {
+fn ask(call: fn(&[u8], &[u8]) -> Counted, book: &[u8], question: &[u8]) -> Result<Counted, String> {
     let answer = on_stack(STACK, || call(book, question));
     match answer.code {
         0 => Ok(answer),

@@ -169,9 +169,9 @@ fn all_kinds_look_equally_far() {
 
 #[test]
 fn the_twelve_checked_rows_say_how_far_they_looked() {
-    type Row = (common::Ask, &'static str, [usize; 2], usize, [usize; 2]);
+    type Asked = (common::Ask, &'static str, [usize; 2], usize, [usize; 2]);
     // first and second, visits, entries in blocks of 2 and of 4
-    let rows: [Row; 12] = [
+    let rows: [Asked; 12] = [
         (book_exact, "Marina", [1, 1], 2, [2, 2]),
         (book_exact, "Marin", [0, 0], 2, [2, 2]),
         (book_place, "", [0, 0], 1, [1, 1]),

@@ -3,7 +3,7 @@
 
 use proved::{
     book_batch, book_build, book_check, book_exact, book_nearest, book_place, book_range,
-    book_read, book_width, Answer, Row,
+    book_read, book_width, Answer, Counted, Row,
 };
 
 const LIST: &[u8] = b"\x03Mar\x06Marina\x0DMarket Square";
@@ -14,6 +14,25 @@ fn answer(code: usize, first: usize, second: usize) -> Answer {
         code,
         first,
         second,
+    }
+}
+
+/// What an accepted question gives: its answer, and how far it looked.
+fn looked([first, second]: [usize; 2], visits: usize, entries: usize) -> Counted {
+    Counted {
+        code: 0,
+        first,
+        second,
+        visits,
+        entries,
+    }
+}
+
+/// A refused question, which has looked at nothing.
+fn unlooked(code: usize) -> Counted {
+    Counted {
+        code,
+        ..Counted::default()
     }
 }
 
@@ -73,7 +92,7 @@ fn a_wrong_width_and_the_old_mark_are_refused() {
         let mut spoilt = book();
         spoilt[at] = wrong;
         assert_eq!(book_check(&spoilt), answer(2, 0, 0), "{wrong} at {at}");
-        assert_eq!(book_width(&spoilt, b"Mar"), answer(2, 0, 0));
+        assert_eq!(book_width(&spoilt, b"Mar"), unlooked(2));
     }
 }
 
@@ -99,46 +118,95 @@ fn a_refused_reading_leaves_the_room_as_it_was() {
 }
 
 /// A call that asks a question.
-type Ask = fn(&[u8], &[u8]) -> Answer;
+type Ask = fn(&[u8], &[u8]) -> Counted;
+
+/// All of them, in the order of the kinds.
+const ASKS: [Ask; 5] = [book_exact, book_place, book_range, book_nearest, book_width];
 
 #[test]
-fn the_twelve_rows_of_document_01_are_answered() {
-    let rows: [(Ask, &str, usize, usize); 12] = [
-        (book_exact, "Marina", 1, 1),
-        (book_exact, "Marin", 0, 0),
-        (book_place, "", 0, 0),
-        (book_place, "Mark", 2, 0),
-        (book_place, "Maxim", 3, 0),
-        (book_range, "Mar", 0, 3),
-        (book_range, "Mark", 2, 1),
-        (book_range, "Mas", 3, 0),
-        (book_nearest, "Mango", 0, 2),
-        (book_nearest, "Maxim", 1, 2),
-        (book_nearest, "Zoo", 0, 0),
-        (book_nearest, "M", 0, 1),
+fn the_twelve_rows_of_document_01_are_answered_and_tell_how_far_they_looked() {
+    // the answer, then the visits, and the entries in blocks of 2 and of 4
+    type Asked = (Ask, &'static str, [usize; 2], usize, [usize; 2]);
+    let rows: [Asked; 12] = [
+        (book_exact, "Marina", [1, 1], 2, [2, 2]),
+        (book_exact, "Marin", [0, 0], 2, [2, 2]),
+        (book_place, "", [0, 0], 1, [1, 1]),
+        (book_place, "Mark", [2, 0], 2, [1, 3]),
+        (book_place, "Maxim", [3, 0], 2, [2, 2]),
+        (book_range, "Mar", [0, 3], 2, [1, 1]),
+        (book_range, "Mark", [2, 1], 2, [1, 3]),
+        (book_range, "Mas", [3, 0], 2, [1, 1]),
+        (book_nearest, "Mango", [0, 2], 1, [1, 1]),
+        (book_nearest, "Maxim", [1, 2], 2, [2, 2]),
+        (book_nearest, "Zoo", [0, 0], 2, [1, 1]),
+        (book_nearest, "M", [0, 1], 1, [1, 1]),
     ];
-    for (number, (ask, question, first, second)) in rows.into_iter().enumerate() {
-        for book in [&book()[..], &book_by_4()] {
+    for (number, (ask, question, pair, visits, entries)) in rows.into_iter().enumerate() {
+        for (book, entries) in [&book()[..], &book_by_4()].into_iter().zip(entries) {
             let answered = ask(book, question.as_bytes());
-            assert_eq!(answered, answer(0, first, second), "row {}", number + 1);
+            assert_eq!(
+                answered,
+                looked(pair, visits, entries),
+                "row {}",
+                number + 1
+            );
         }
     }
 }
 
 #[test]
 fn the_width_of_a_range_is_its_longest_name() {
+    // the width, then the visits, and the entries in blocks of 2 and of 4
     let rows = [
-        ("", 13),
-        ("Mar", 13),
-        ("Mari", 6),
-        ("Marina", 6),
-        ("Mas", 0),
+        ("", 13, 1, [1, 1]),
+        ("Mar", 13, 2, [1, 1]),
+        ("Mari", 6, 2, [2, 2]),
+        ("Marina", 6, 2, [2, 2]),
+        ("Market", 13, 2, [1, 3]),
+        ("Mas", 0, 2, [1, 1]),
     ];
-    for (question, width) in rows {
-        for book in [&book()[..], &book_by_4()] {
+    for (question, width, visits, entries) in rows {
+        for (book, entries) in [&book()[..], &book_by_4()].into_iter().zip(entries) {
             let answered = book_width(book, question.as_bytes());
-            assert_eq!(answered, answer(0, width, 0), "{question}");
+            assert_eq!(answered, looked([width, 0], visits, entries), "{question}");
         }
+    }
+}
+
+#[test]
+fn all_kinds_look_equally_far_and_both_bounds_on_the_visits_are_met() {
+    // a, ab, b: three names, and three visits for a question of one byte
+    let mut book = [0; 16 + 5 * 12 + 2 + 3 + 3 + 3];
+    let length = book.len();
+    assert_eq!(
+        book_build(b"\x01a\x02ab\x01b", 4, &mut book),
+        answer(0, length, 0)
+    );
+    for (question, visits, entries) in [("a", 3, 1), ("ab", 3, 2), ("b", 2, 3), ("", 1, 1)] {
+        for ask in ASKS {
+            let given = ask(&book, question.as_bytes());
+            assert_eq!(given.code, 0);
+            assert_eq!(
+                [given.visits, given.entries],
+                [visits, entries],
+                "{question}"
+            );
+        }
+    }
+}
+
+#[test]
+fn one_name_gives_one_visit_and_one_entry() {
+    let mut book = [0; 16 + 12 + 2 + 5];
+    let length = book.len();
+    assert_eq!(book_build(b"\x03Mar", 64, &mut book), answer(0, length, 0));
+    for (question, answers) in [
+        ("Mar", [[0, 1], [0, 0], [0, 1], [0, 3], [3, 0]]),
+        ("", [[0, 0], [0, 0], [0, 1], [0, 0], [3, 0]]),
+        ("Zoo", [[0, 0], [1, 0], [1, 0], [0, 0], [0, 0]]),
+    ] {
+        let given = ASKS.map(|ask| ask(&book, question.as_bytes()));
+        assert_eq!(given, answers.map(|pair| looked(pair, 1, 1)), "{question}");
     }
 }
 
@@ -161,7 +229,7 @@ fn nearest_lights_no_half_letter_alone_and_in_a_batch() {
     assert_eq!(book_build(list, 1, &mut book), answer(0, 37, 0));
     let mut start = 0;
     let rows = LIT.map(|(question, lit)| {
-        assert_eq!(book_nearest(&book, question), answer(0, 0, lit));
+        assert_eq!(book_nearest(&book, question), looked([0, lit], 1, 1));
         start += question.len();
         row(4, start - question.len(), question.len())
     });
@@ -174,20 +242,18 @@ fn nearest_lights_no_half_letter_alone_and_in_a_batch() {
 
 #[test]
 fn a_question_is_refused_with_2_then_1_then_10() {
-    let asks: [Ask; 5] = [book_exact, book_place, book_range, book_width, book_nearest];
     let mut no_names = [0; 16];
     assert_eq!(book_build(&[], 2, &mut no_names), answer(0, 16, 0));
     let long = [b'M'; 201];
-    for ask in asks {
-        assert_eq!(ask(&book()[1..], &long), answer(2, 0, 0));
-        assert_eq!(ask(&book(), &long), answer(1, 0, 0));
+    for ask in ASKS {
+        assert_eq!(ask(&book()[1..], &long), unlooked(2));
+        assert_eq!(ask(&book(), &long), unlooked(1));
         assert_eq!(ask(&book(), &long[1..]).code, 0);
-        assert_eq!(ask(&no_names, &long), answer(1, 0, 0));
+        assert_eq!(ask(&no_names, &long), unlooked(1));
     }
-    for ask in &asks[..4] {
-        assert_eq!(ask(&no_names, b"Mar"), answer(0, 0, 0));
-    }
-    assert_eq!(book_nearest(&no_names, b"Mar"), answer(10, 0, 0));
+    // Without names nothing is looked at, whether the question is refused or not.
+    let given = ASKS.map(|ask| ask(&no_names, b"Mar"));
+    assert_eq!(given, [0, 0, 0, 10, 0].map(unlooked));
 }
 
 /// A row of a batch.

@@ -3,7 +3,7 @@
 
 use proved::{
     book_batch, book_build, book_build_folded, book_check, book_exact, book_nearest, book_place,
-    book_range, book_read, book_salvage, book_width, Answer, Kept, Row,
+    book_range, book_read, book_salvage, book_width, Answer, Counted, Kept, Row,
 };
 
 /// The folded book of MAR and marina with blocks of 2. As bytes the two share
@@ -25,6 +25,17 @@ fn answer(code: usize, first: usize, second: usize) -> Answer {
         code,
         first,
         second,
+    }
+}
+
+/// What an accepted question gives: its answer, and how far it looked.
+fn looked([first, second]: [usize; 2], visits: usize, entries: usize) -> Counted {
+    Counted {
+        code: 0,
+        first,
+        second,
+        visits,
+        entries,
     }
 }
 
@@ -55,19 +66,21 @@ fn the_book_is_checked_and_read_as_it_was_spelt() {
 
 #[test]
 fn questions_find_any_case() {
+    // Two visits where a leaf is reached, one at the root alone; one entry for MAR,
+    // and two for marina behind it.
     for (question, expected) in [
-        (&b"mar"[..], answer(0, 0, 1)),
-        (b"MARINA", answer(0, 1, 1)),
-        (b"Marin", answer(0, 0, 0)),
+        (&b"mar"[..], looked([0, 1], 2, 1)),
+        (b"MARINA", looked([1, 1], 2, 2)),
+        (b"Marin", looked([0, 0], 2, 2)),
     ] {
         assert_eq!(book_exact(MAR_MARINA, question), expected);
     }
-    assert_eq!(book_place(MAR_MARINA, b"MARI"), answer(0, 1, 0));
-    assert_eq!(book_range(MAR_MARINA, b"mAR"), answer(0, 0, 2));
-    assert_eq!(book_range(MAR_MARINA, b"["), answer(0, 0, 0));
-    assert_eq!(book_width(MAR_MARINA, b"M"), answer(0, 6, 0));
-    assert_eq!(book_nearest(MAR_MARINA, b"MARINE"), answer(0, 1, 5));
-    assert_eq!(book_nearest(MAR_MARINA, b"mango"), answer(0, 0, 2));
+    assert_eq!(book_place(MAR_MARINA, b"MARI"), looked([1, 0], 2, 2));
+    assert_eq!(book_range(MAR_MARINA, b"mAR"), looked([0, 2], 2, 1));
+    assert_eq!(book_range(MAR_MARINA, b"["), looked([0, 0], 1, 1));
+    assert_eq!(book_width(MAR_MARINA, b"M"), looked([6, 0], 1, 1));
+    assert_eq!(book_nearest(MAR_MARINA, b"MARINE"), looked([1, 5], 2, 2));
+    assert_eq!(book_nearest(MAR_MARINA, b"mango"), looked([0, 2], 1, 1));
 }
 
 #[test]
@@ -103,7 +116,11 @@ fn a_refused_build_leaves_the_room_as_it_was() {
 fn under_the_plain_mark_it_is_no_book() {
     let book = with_plain_mark();
     assert_eq!(book_check(&book), answer(2, 0, 0));
-    assert_eq!(book_exact(&book, b"mar"), answer(2, 0, 0));
+    let refused = Counted {
+        code: 2,
+        ..Counted::default()
+    };
+    assert_eq!(book_exact(&book, b"mar"), refused);
 }
 
 #[test]
