@@ -373,8 +373,9 @@ struct mistrogu_counted MISTROGU_CALL(book_width)(
 /*
  * Asks up to 64 questions of one book, which is checked once. Each row's
  * question is a span of the buffer `questions`; spans may overlap. There are as
- * many answer rows as rows, and each gets what its question alone would get: no
- * other row counts, and of the buffer outside its span only the length.
+ * many answer rows as rows, and each gets the code and the two numbers that its
+ * question alone would get: no other row counts, and of the buffer outside its
+ * span only the length.
  *
  * Accepted: (0, number of rows, 0), and every answer row is written.
  * Refused: 12, 2.

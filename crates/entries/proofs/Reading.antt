@@ -9,8 +9,6 @@ use mathlib.Core.Path.{_≡_, refl, sym, ap, _∙_, subst}
 use mathlib.Core.List.{List, [], _∷_, _++_}
 use lib.ListN.{length, getD, take, drop, length-append, length-take, length-drop}
 use lib.Seq.{drop-drop, getD-drop, length-take-le, take-at, take-take}
-use mir.Syntax.{w64}
-use mir.Val.{Fits}
 use Rattle.words.specs.Words.{Bytes}
 use Rattle.format.specs.Outcomes.{over}
 use Rattle.numbers.proofs.Parts.{Copied, copied-behind, over-length, part-length}
@@ -83,9 +81,6 @@ module _ {b : Bytes} {start count o : ℕ} {name : Bytes} {len i : ℕ} (w : Rea
     upto = omega arith;
     others = λ xs s h. rw (r .name-is, r .next-is, ← drop-drop 1 i xs) (next-of xs s h .2);
   }
-
-  pub reached-few : Fits w64 (i + 1)
-  reached-few = omega (arith, w .upto, w .ask .few)
 
   pub reached-all : count ≤ i → i + 1 ≡ count + 1
   reached-all l = omega (arith, w .upto)

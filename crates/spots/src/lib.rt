@@ -71,9 +71,10 @@ fn reach(book: &[u8], stride: usize, step: usize, start: usize, question: &[u8])
     ensures { λ r. ⌜ r .visits ≡ visits (askedIn (now (book .entry)) (now (question .entry))) (wordsIn (now (book .entry))) ⌝ }
 {
     let way = paths::descend(book, stride, step, start, question);
+    let passed = way.len;
     Goal {
         position: fields::first(book, way.last, step),
-        visits: way.len,
+        visits: passed,
     }
 }
 

@@ -185,9 +185,9 @@ pub fn book_width(book: &[u8], question: &[u8]) -> Counted {
     unsafe { raw::book_width(book.as_ptr(), book.len(), question.as_ptr(), question.len()) }
 }
 
-/// Asks a batch: (0, how many rows it has, 0), and each answer row is what its
-/// row's question alone would get, or refusal 11; or refusal 12 or 2, and then
-/// the answer rows are as they were.
+/// Asks a batch: (0, how many rows it has, 0), and each answer row has the three
+/// numbers that its row's question alone would get, or refusal 11; or refusal 12
+/// or 2, and then the answer rows are as they were.
 pub fn book_batch(book: &[u8], questions: &[u8], rows: &[Row], answers: &mut [Answer]) -> Answer {
     // SAFETY: each pointer comes with the length of its own slice, and both
     // structs are laid out as the archive's. The answers are borrowed for this

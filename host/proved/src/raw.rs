@@ -2,10 +2,9 @@
 //! a length.
 //!
 //! An answer and a head are structs of three words, and what a single question
-//! gives one of five, which C hands over in a way of its own on each processor, and
-//! Rust in the same. On x86-64 the library is
-//! compiled so; where it is compiled for another processor, for tests and
-//! benchmarks, `native.c` stands between.
+//! gives is one of five, which C hands over in a way of its own on each processor,
+//! and Rust in the same. On x86-64 the library is compiled so; where it is compiled
+//! for another processor, for tests and benchmarks, `native.c` stands between.
 //!
 //! # Safety
 //!
