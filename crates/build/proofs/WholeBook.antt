@@ -37,7 +37,7 @@ use Rattle.records.proofs.Starts.{ready-rises, words-length}
 use Rattle.symbols.specs.Rules.{ruleBy}
 use Rattle.symbols.specs.declared.Rule.{Rule as ByRule}
 use Rattle.nodes.specs.Writing.{NodesAsk, NodesPut}
-use Rattle.nodes.specs.Counting.{NodeCount}
+use Rattle.counting.specs.Counting.{NodeCount}
 use Rattle.blocks.specs.Writing.{LengthsAre, SumsAre}
 use Rattle.build.specs.Whole.{builtOf, BuildAsk, RecordCount, Sized, TablePut}
 

@@ -11,7 +11,7 @@ ghost use Rattle.answers.specs.Calls.{build};
 ghost use Rattle.format.specs.Kinds.{ruleOf};
 ghost use Rattle.kinds.specs.Known.{kindBy};
 ghost use Rattle.records.specs.Lists.{names};
-ghost use Rattle.nodes.specs.Counting.{CountAsk};
+ghost use Rattle.counting.specs.Counting.{CountAsk};
 ghost use Rattle.nodes.specs.Writing.{NodesAsk};
 ghost use Rattle.shapes.specs.Shapes.{written};
 ghost use Rattle.build.specs.Whole.{BuildAsk, RecordCount, Sized, TablePut, builtOf, shownBuilt};
@@ -33,7 +33,7 @@ fn count_records(kind: Kind, n: usize, shares: &[u8]) -> usize
 {
     let form = kinds::form_of(kind);
     match form {
-        Form::Rows => nodes::count_nodes(n, shares),
+        Form::Rows => counting::count_nodes(n, shares),
     }
 }
 

@@ -1,4 +1,3 @@
--- Laws of the writer of the node table, and of counting the nodes. No contract cites them.
-pub mod Frames
+-- Laws of the writer of the node table. No contract cites them.
+pub mod Open
 pub mod Writing
-pub mod Counting

@@ -26,10 +26,12 @@ use Rattle.format.proofs.Numbers.{numbers-append, numbers-length}
 use Rattle.format.proofs.Widths.{widest-low}
 use Rattle.records.specs.Lists.{Ready, names, startOf, words}
 use Rattle.records.proofs.Starts.{ready-rises, ready-size, ready-word, start-all, start-fits, start-name, start-next, words-length}
-use Rattle.nodes.specs.declared.LeftOpen.{LeftOpen}
-use Rattle.nodes.specs.Frames.{Cur, FramesStand, Tail, depthIn, endIn, frameCount, frameSize, leftOf, markIn, none, raised, sharesAt, symbolOf, widthIn, withFrame}
-use Rattle.nodes.specs.Writing.{Behind, Closing, RecordsDone, LeafPut, NameAsk, NameAt, NamePut, CloseAsk, NodePut, NodesPut, Onward, Passing, PushAsk, PutBack, RaiseAsk, Rowing}
-use Rattle.nodes.proofs.Frames.{Closes, cur-all, cur-close, cur-few, cur-keep, cur-leaf, cur-push, framed-raised, framed-with, nodeBy, open-depth, open-few, open-within}
+use Rattle.frames.specs.declared.LeftOpen.{LeftOpen}
+use Rattle.frames.specs.Frames.{FramesStand, PushAsk, RaiseAsk, depthIn, endIn, frameCount, frameSize, markIn, raised, widthIn, withFrame}
+use Rattle.frames.proofs.Frames.{framed-raised, framed-with}
+use Rattle.nodes.specs.Open.{Cur, Tail, leftOf, none, sharesAt, symbolOf}
+use Rattle.nodes.specs.Writing.{Behind, Closing, RecordsDone, LeafPut, NameAsk, NameAt, NamePut, CloseAsk, NodePut, NodesPut, Onward, Passing, PutBack, Rowing}
+use Rattle.nodes.proofs.Open.{Closes, cur-all, cur-close, cur-few, cur-keep, cur-leaf, cur-push, nodeBy, open-depth, open-few, open-within}
 
 -- ---- one record more, in front of those at the end of a room
 

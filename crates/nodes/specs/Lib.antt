@@ -1,3 +1,2 @@
-pub mod Frames
+pub mod Open
 pub mod Writing
-pub mod Counting

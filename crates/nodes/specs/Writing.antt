@@ -5,7 +5,6 @@
 --     NameAt            a piece of name j; Behind: the names behind j; Closing: the name, and nodes that begin with it
 --     NameAsk           what is asked of a name; Passing: its leaf, and nodes in front of it; LeafPut, NamePut: none, and all of them
 --     CloseAsk, NodePut  the same of the node of one frame; Onward: of those of several
---     PushAsk, RaiseAsk what one frame more asks, and names more in a frame
 --     NodesAsk          what is asked of all names; Rowing: the walk over them; NodesPut: the whole table
 -- The laws are in proofs/. Assumes nothing: these are definitions.
 use Prim.Native.Nat.{ℕ, suc, pred, _+_, _*_, _≤_, _<_}
@@ -17,8 +16,9 @@ use Rattle.words.specs.Words.{Bytes, Rule, Words, word}
 use Rattle.format.specs.Nodes.{Node, table, nodeSize}
 use Rattle.format.specs.Spans.{nodePart}
 use Rattle.records.specs.Lists.{Ready, startOf, words}
-use Rattle.nodes.specs.Frames.{Cur, FramesStand, Open, Tail, depthIn, frameCount, frameSize}
-use Rattle.nodes.specs.declared.LeftOpen.{LeftOpen}
+use Rattle.frames.specs.Frames.{FramesStand, depthIn}
+use Rattle.frames.specs.declared.LeftOpen.{LeftOpen}
+use Rattle.nodes.specs.Open.{Cur, Open, Tail}
 
 pub record PutBack (room₀ room : Bytes) (w : ℕ) (node : Node) : Type 0 where
   pub kept : length room ≡ length room₀
@@ -95,20 +95,6 @@ pub record NodePut (ρ : Rule) (rest : Bytes) (skip j left : ℕ) (frames : List
   pub fewer : q .top < p .top
 
 -- ---- all names
-
--- one frame more has a slot, and its numbers fit
-pub record PushAsk (frames : List ℕ) (depth : ℕ) (p : LeftOpen) : Type 0 where
-  pub slots : length frames ≡ frameSize * frameCount
-  pub slot : p .top + 1 < frameCount
-  pub depth-fits : depth < 256
-  pub width-fits : p .width < 256
-  pub end-fits : p .end < 65536
-  pub mark-fits : p .mark < 65536
-
-pub record RaiseAsk (frames : List ℕ) (t width : ℕ) : Type 0 where
-  pub slots : length frames ≡ frameSize * frameCount
-  pub slot : t < frameCount
-  pub width-fits : width < 256
 
 -- a judged list
 pub record NodesAsk (ρ : Rule) (s : Bytes) (n : ℕ) (lens shares : List ℕ) : Type 0 where

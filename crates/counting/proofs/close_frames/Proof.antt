@@ -1,11 +1,11 @@
--- `nodes::close_frames` meets its contract. The loop's invariant is `Deeper`: the frames above the one at hand are deeper. The measure is its number.
+-- `counting::close_frames` meets its contract. The loop's invariant is `Deeper`: the frames above the one at hand are deeper. The measure is its number.
 -- Assumes nothing.
 use native.Mathlib.Omega.{arith}
 use borrow.Author.Needs.{needs}
-use Rattle.nodes.specs.Counting.{Deeper}
-use Rattle.nodes.proofs.Counting.{deeper-start, deeper-some, deeper-less, deeper-more, deeper-done}
-use Rattle.nodes.proofs.close_frames.Statement.{statement}
-use Rattle.nodes.proofs.close_frames.Tie as tie
+use Rattle.counting.specs.Counting.{Deeper}
+use Rattle.counting.proofs.Counting.{deeper-start, deeper-some, deeper-less, deeper-more, deeper-done}
+use Rattle.counting.proofs.close_frames.Statement.{statement}
+use Rattle.counting.proofs.close_frames.Tie as tie
 
 abbrev Inv-loop : tie.InvT-loop
 Inv-loop depths left top frame₀ frame = Deeper depths left top frame

@@ -1,9 +1,9 @@
--- `nodes::raise_frame` meets its contract.
+-- `frames::raise_frame` meets its contract.
 -- Assumes nothing.
 use borrow.Author.Needs.{needs}
-use Rattle.nodes.proofs.Frames.{raised-stored}
-use Rattle.nodes.proofs.raise_frame.Statement.{statement}
-use Rattle.nodes.proofs.raise_frame.Tie as tie
+use Rattle.frames.proofs.Frames.{raised-stored}
+use Rattle.frames.proofs.raise_frame.Statement.{statement}
+use Rattle.frames.proofs.raise_frame.Tie as tie
 
 returns : tie.Need-returns
 returns c = raised-stored _ _ _ _ _ (c .before .width-in .ensures .0) (c .greater .ensures)

@@ -17,12 +17,13 @@ use mir.Syntax.{w8}
 use Rattle.words.specs.Words.{Bytes, Rule}
 use Rattle.records.specs.Lists.{Ready, words}
 use Rattle.records.proofs.Starts.{ready-rises}
-use Rattle.nodes.specs.declared.LeftOpen.{LeftOpen}
-use Rattle.nodes.specs.Frames.{depthIn, frameCount, frameSize, raised, withFrame}
+use Rattle.frames.specs.declared.LeftOpen.{LeftOpen}
+use Rattle.frames.specs.Frames.{depthIn, frameCount, frameSize, raised, withFrame}
+use Rattle.frames.proofs.Frames.{frame-below, frame-raised, with-depth}
 use Rattle.nodes.specs.Writing.{NameAsk, NamePut, Passing, Rowing}
-use Rattle.nodes.specs.Counting.{CountAsk, Deeper, NodeCount, StaysOpen}
-use Rattle.nodes.proofs.Frames.{frame-below, frame-raised, open-depth, with-depth}
+use Rattle.nodes.proofs.Open.{open-depth}
 use Rattle.nodes.proofs.Writing.{all-words, back-full, leaf-put, node-put, passing-deeper, passing-on, rowing-all, rowing-closing, rowing-keep, rowing-left, rowing-name, rowing-push, rowing-room, rowing-start}
+use Rattle.counting.specs.Counting.{CountAsk, Deeper, NodeCount, StaysOpen}
 
 -- ---- frame after frame
 

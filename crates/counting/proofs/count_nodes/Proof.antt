@@ -1,10 +1,10 @@
--- `nodes::count_nodes` meets its contract. The loop's invariant is `Counting`: the names from j on are counted. The measure is j.
+-- `counting::count_nodes` meets its contract. The loop's invariant is `Counting`: the names from j on are counted. The measure is j.
 -- Assumes nothing.
 use native.Mathlib.Omega.{arith}
 use borrow.Author.Needs.{needs}
-use Rattle.nodes.proofs.Counting.{Counting, counting-start, counting-narrow, counting-slot, counting-keep, counting-push, counting-all}
-use Rattle.nodes.proofs.count_nodes.Statement.{statement}
-use Rattle.nodes.proofs.count_nodes.Tie as tie
+use Rattle.counting.proofs.Counting.{Counting, counting-start, counting-narrow, counting-slot, counting-keep, counting-push, counting-all}
+use Rattle.counting.proofs.count_nodes.Statement.{statement}
+use Rattle.counting.proofs.count_nodes.Tie as tie
 
 abbrev Inv-loop : tie.InvT-loop
 Inv-loop n shares depths₀ top₀ count₀ j₀ depths top count j = Counting n shares depths top count j

@@ -1,11 +1,11 @@
--- `nodes::push_frame` meets its contract: the frame's numbers, stored one by one.
+-- `frames::push_frame` meets its contract: the frame's numbers, stored one by one.
 -- Assumes nothing.
-use Rattle.nodes.proofs.Frames.{with-stored}
+use Rattle.frames.proofs.Frames.{with-stored}
 use native.Mathlib.Omega.{arith}
 use lib.ListN.{length-set}
 use borrow.Author.Needs.{needs}
-use Rattle.nodes.proofs.push_frame.Statement.{statement}
-use Rattle.nodes.proofs.push_frame.Tie as tie
+use Rattle.frames.proofs.push_frame.Statement.{statement}
+use Rattle.frames.proofs.push_frame.Tie as tie
 
 pub push-frame-spec : {M : Type 1} → statement M
 push-frame-spec =

@@ -1,0 +1,2 @@
+-- Laws of counting the nodes. No contract cites them.
+pub mod Counting
