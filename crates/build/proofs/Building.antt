@@ -22,7 +22,8 @@ use Rattle.symbols.specs.Rules.{ruleBy}
 use Rattle.symbols.specs.declared.Rule.{Rule as ByRule}
 use Rattle.records.specs.Lists.{Judged, Noted, names, namesIn, verdictNumbers, readingOf}
 use Rattle.records.proofs.Names.{names-are}
-use Rattle.build.specs.Whole.{BuildAsk, builtOf, shownBuilt}
+use Rattle.assembly.specs.Whole.{BuildAsk}
+use Rattle.build.specs.Ends.{builtOf, shownBuilt}
 use Rattle.build.specs.declared.Built.{Built}
 use Rattle.build.specs.declared.Built.the-variants.{Refused as Stopped, Written as Wrote}
 use Rattle.records.specs.declared.Verdict.{Verdict}

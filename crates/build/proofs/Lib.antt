@@ -1,3 +1,3 @@
--- Laws of the whole book. No contract cites them.
-pub mod WholeBook
+-- Laws of how a build ends. No contract cites them.
+pub mod Ends
 pub mod Building

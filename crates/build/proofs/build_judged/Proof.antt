@@ -1,6 +1,6 @@
 -- `build::build_judged` meets its contract: each way out is one law.
 -- Assumes nothing.
-use Rattle.build.proofs.WholeBook.{ends-nine, ends-four, ends-done}
+use Rattle.build.proofs.Ends.{ends-nine, ends-four, ends-done}
 use native.Mathlib.Omega.{arith}
 use borrow.Author.Needs.{needs}
 use Rattle.build.proofs.build_judged.Statement.{statement}

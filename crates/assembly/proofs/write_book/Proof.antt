@@ -1,10 +1,10 @@
--- `build::write_book` meets its contract: one law puts the three parts together.
+-- `assembly::write_book` meets its contract: one law puts the three parts together.
 -- Assumes nothing.
-use Rattle.build.proofs.WholeBook.{blocks-part, book-lent, lengths-are}
+use Rattle.assembly.proofs.WholeBook.{blocks-part, book-lent, lengths-are}
 use native.Mathlib.Omega.{arith}
 use borrow.Author.Needs.{needs}
-use Rattle.build.proofs.write_book.Statement.{statement}
-use Rattle.build.proofs.write_book.Tie as tie
+use Rattle.assembly.proofs.write_book.Statement.{statement}
+use Rattle.assembly.proofs.write_book.Tie as tie
 
 returns : tie.Need-returns
 returns c =

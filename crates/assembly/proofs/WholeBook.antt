@@ -3,34 +3,28 @@
 --     lengths-are                     the lengths that were noted
 --     sizes-are, table-fits, ..       the sizes, by counting
 --     trailer-is                      the trailer as eight numbers
---     sized-..                        how the parts lie in a room that is large enough
+--     book-size                       the length, by the sizes
 --     put, blocks-part, table-part, book-lent      three parts, each from where the one before ended, are the book
---     ends-nine, ends-four, ends-done how a build ends
 -- Assumes nothing.
-use Prim.Native.Nat.{ℕ, zero, suc, _+_, _-_, _*_, _≤_, _<_}
+use Prim.Native.Nat.{ℕ, zero, suc, _+_, _-_, _*_, _≤_}
 use native.Mathlib.Nat.{mul-le-mul}
 use native.Mathlib.Omega.{arith}
 use mathlib.Core.Path.{_≡_, refl, sym, ap, ap₂, _∙_, subst}
-use mathlib.Core.Bool.{Bool, true, false}
 use mathlib.Core.List.{List, [], _∷_, _++_, map, append-assoc}
-use lib.Dec.{leb}
 use lib.ListN.{length, take, drop, length-append}
 use mir.Val.{Fits}
 use mir.Syntax.{w64}
-use borrow.Author.Tests.{le-leb, lt-leb}
-use Rattle.words.specs.Words.{Bytes, Rule, Words, pick, word}
+use Rattle.words.specs.Words.{Bytes, Rule, Words, word}
 use Rattle.format.specs.Kinds.{BookKind, countIn, formOf, markOf, recordSize, ruleOf, tableIn}
-use Rattle.format.specs.Book.{blockPart, book, entryPart, longestBook, numbers, trailer}
+use Rattle.format.specs.Book.{blockPart, book, entryPart, numbers, trailer}
 use Rattle.format.specs.Spans.{nodePart}
 use Rattle.format.specs.Nodes.{table, nodeSize}
-use Rattle.format.specs.Records.{mostNames, readList}
 use Rattle.format.proofs.BookKinds.{kind-layout, mark-length}
 use Rattle.format.proofs.Book.{book-length, book-parts, full-length, full-nodes, full-number, table-length, trailerAt, trailerNumbers}
 use Rattle.format.proofs.Numbers.{numbers-length}
 use Rattle.format.proofs.Groups.{table-empty}
 use Rattle.format.proofs.Spans.{table-few}
-use Rattle.format.specs.Outcomes.{given, over, refused}
-use Rattle.answers.specs.Calls.{builtFrom}
+use Rattle.format.specs.Outcomes.{over}
 use Rattle.numbers.proofs.Parts.{lent, over-length, part-length}
 use Rattle.records.specs.Lists.{names, words}
 use Rattle.records.proofs.Starts.{ready-rises, words-length}
@@ -39,7 +33,7 @@ use Rattle.symbols.specs.declared.Rule.{Rule as ByRule}
 use Rattle.nodes.specs.Writing.{NodesAsk, NodesPut}
 use Rattle.counting.specs.Counting.{NodeCount}
 use Rattle.blocks.specs.Writing.{LengthsAre, SumsAre}
-use Rattle.build.specs.Whole.{builtOf, BuildAsk, RecordCount, Sized, TablePut}
+use Rattle.assembly.specs.Whole.{BuildAsk, RecordCount, Sized, TablePut}
 
 -- a room with a part of it lent and filled
 abbrev pub put : Bytes → ℕ → ℕ → Bytes → Bytes
@@ -187,26 +181,3 @@ module _ {κ : BookKind} {s : Bytes} {n : ℕ} {lens counts shares : List ℕ} {
             lent (x ++ w) room r₂ v (total - 16) (total - (total - 16)) p₂ (length-append x w ∙ omega (arith, l₁, l₂, z .whole)) (omega (arith, z .whole))
             (l₃ ∙ omega (arith, z .whole))
             ∙ ap (λ (i : Bytes). over i room) parts
-
-    -- ---- how it ends
-
-    module _ (room : Bytes) where
-      chosen : (f d : Bool) → leb (length (book κ k (names s))) longestBook ≡ f → leb (length (book κ k (names s))) (length room) ≡ d
-          → builtOf κ k room (readList (ruleOf κ) mostNames s)
-          ≡ pick f (pick d (record { answer = given (length (book κ k (names s))) 0; room = over (book κ k (names s)) room }) (record { answer = refused 4; room = room }))
-          (record { answer = refused 9; room = room })
-      unfolding builtFrom
-      chosen f d p q = ap (builtOf κ k room) (a .read) ∙ rw (p, q) refl
-
-      pub ends-nine : 65535 < total → record { answer = refused 9; room = room } ≡ builtOf κ k room (readList (ruleOf κ) mostNames s)
-      ends-nine h = sym (chosen false _ (lt-leb (length (book κ k (names s))) longestBook (omega (arith, book-size))) refl)
-
-      pub ends-four : total ≤ 65535 → length room < total → record { answer = refused 4; room = room } ≡ builtOf κ k room (readList (ruleOf κ) mostNames s)
-      ends-four h l =
-          sym (chosen true false (le-leb (length (book κ k (names s))) longestBook (omega (arith, book-size))) (lt-leb (length (book κ k (names s))) (length room) (omega (arith, book-size))))
-
-      pub ends-done : (new : Bytes) → total ≤ 65535 → total ≤ length room → new ≡ over (book κ k (names s)) room
-          → record { answer = given total 0; room = new } ≡ builtOf κ k room (readList (ruleOf κ) mostNames s)
-      ends-done new h l w =
-          ap₂ (λ (i : ℕ) (r : Bytes). record { answer = given i 0; room = r }) (sym book-size) w
-          ∙ sym (chosen true true (le-leb (length (book κ k (names s))) longestBook (omega (arith, book-size))) (le-leb (length (book κ k (names s))) (length room) (omega (arith, book-size))))

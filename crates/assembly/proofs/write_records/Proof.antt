@@ -1,11 +1,11 @@
--- `build::write_records` meets its contract: every form of table has its arm.
+-- `assembly::write_records` meets its contract: every form of table has its arm.
 -- Assumes nothing.
 use borrow.Author.Needs.{needs}
 use Rattle.kinds.specs.Known.{kindBy}
 use Rattle.kinds.proofs.Telling.{rule-told}
-use Rattle.build.proofs.WholeBook.{rows-ask, rows-put}
-use Rattle.build.proofs.write_records.Statement.{statement}
-use Rattle.build.proofs.write_records.Tie as tie
+use Rattle.assembly.proofs.WholeBook.{rows-ask, rows-put}
+use Rattle.assembly.proofs.write_records.Statement.{statement}
+use Rattle.assembly.proofs.write_records.Tie as tie
 
 pub write-records-spec : {M : Type 1} → statement M
 write-records-spec =

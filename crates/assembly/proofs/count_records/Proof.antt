@@ -1,10 +1,10 @@
--- `build::count_records` meets its contract: every form of table has its arm.
+-- `assembly::count_records` meets its contract: every form of table has its arm.
 -- Assumes nothing.
 use borrow.Author.Needs.{needs}
 use Rattle.kinds.specs.Known.{kindBy}
-use Rattle.build.proofs.WholeBook.{rows-counted}
-use Rattle.build.proofs.count_records.Statement.{statement}
-use Rattle.build.proofs.count_records.Tie as tie
+use Rattle.assembly.proofs.WholeBook.{rows-counted}
+use Rattle.assembly.proofs.count_records.Statement.{statement}
+use Rattle.assembly.proofs.count_records.Tie as tie
 
 pub count-records-spec : {M : Type 1} → statement M
 count-records-spec =

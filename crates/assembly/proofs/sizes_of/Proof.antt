@@ -1,12 +1,12 @@
--- `build::sizes_of` meets its contract: what is counted are the sizes.
+-- `assembly::sizes_of` meets its contract: what is counted are the sizes.
 -- Assumes nothing.
 use mathlib.Core.Path.{_≡_, _∙_, ap}
 use borrow.Author.Needs.{needs}
 use Rattle.format.specs.Kinds.{formOf, recordSize}
 use Rattle.kinds.specs.Known.{kindBy}
-use Rattle.build.proofs.WholeBook.{book-fits, sizes-are, table-fits, tables-fit}
-use Rattle.build.proofs.sizes_of.Statement.{statement}
-use Rattle.build.proofs.sizes_of.Tie as tie
+use Rattle.assembly.proofs.WholeBook.{book-fits, sizes-are, table-fits, tables-fit}
+use Rattle.assembly.proofs.sizes_of.Statement.{statement}
+use Rattle.assembly.proofs.sizes_of.Tie as tie
 
 -- the size of a record is that of the kind's form
 size : (c : tie.After-record-size) → c .record-size .result ≡ recordSize (formOf (kindBy (c .before .before .before .before .before .before .before .before .args .kind)))

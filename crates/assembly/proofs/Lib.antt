@@ -1,0 +1,2 @@
+-- Laws of the whole book. No contract cites them.
+pub mod WholeBook
