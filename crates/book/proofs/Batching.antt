@@ -1,4 +1,4 @@
--- How a batch goes, by the ways that its parts go. How it opens and what a row gets is in the crate questions.
+-- How a batch goes, by the ways that its parts go. How it opens and what a row gets is in the crate batches.
 --     noRow, turned              what stands for a row past the last; what turn number i stores
 --     opening-accepts            what an opening that refuses nothing has shown
 --     batch-refused, batch-answered      the call's equation, where the opening refuses and where it doesn't
@@ -21,8 +21,8 @@ use Rattle.shapes.specs.Shapes.{answered, rowOf, batched}
 use Rattle.shapes.specs.declared.Answer.{Answer}
 use Rattle.shapes.specs.declared.Row.{Row}
 use Rattle.shapes.proofs.Shapes.{answerOf}
-use Rattle.questions.specs.Asking.{Accepted, openingOf, takesRows}
-use Rattle.questions.specs.declared.Opening.{Opening}
+use Rattle.batches.specs.Batches.{Accepted, openingOf, takesRows}
+use Rattle.batches.specs.declared.Opening.{Opening}
 use Rattle.book.proofs.Filling.{filled, filled-all}
 
 -- ---- the rows

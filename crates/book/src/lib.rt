@@ -127,13 +127,13 @@ pub extern "C" fn book_batch(
 ) -> Answer
     ensures { λ r. ⌜ batched r (now (answers .exit)) ≡ batch (now (book .entry)) (now (questions .entry)) (map rowOf (now (rows .entry))) (map answered (now (answers .entry))) ⌝ }
 {
-    let opening = questions::open_batch(book, rows.len(), answers.len());
+    let opening = batches::open_batch(book, rows.len(), answers.len());
     if opening.answer.code != 0 {
         return opening.answer;
     }
     let mut i = 0;
     while i < rows.len() {
-        answers[i] = questions::answer_row(book, opening, questions, rows[i]);
+        answers[i] = batches::answer_row(book, opening, questions, rows[i]);
         i += 1;
     }
     opening.answer

@@ -33,7 +33,8 @@ use Rattle.accept.specs.Parts.{checkOn}
 use Rattle.accept.specs.declared.Checked.{Checked}
 use Rattle.accept.specs.declared.Checked.the-variants.{Unsound}
 use Rattle.accept.proofs.Judging.{SoundBook, sound-book}
-use Rattle.search.specs.Asks.{KindAsk, Looked}
+use Rattle.search.specs.Asks.{KindAsk}
+use Rattle.spots.specs.Spots.{Looked}
 use Rattle.shapes.specs.Shapes.{counted}
 use Rattle.shapes.specs.declared.Counted.{Counted}
 use Rattle.questions.specs.Asking.{Asking, KindNumber, Looking}

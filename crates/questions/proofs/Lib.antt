@@ -1,4 +1,3 @@
--- Laws of the questions and of the rows of a batch.
+-- Laws of how a check ends, and of the questions.
 pub mod Checks
 pub mod Asking
-pub mod Rows

@@ -1,5 +1,5 @@
 -- `book::book_batch` meets its contract: a walk of its MIR, by hand, with one loop. What it calls, `open_batch` and `answer_row`
--- of the crate questions, it knows by their contracts; what it says of lists is in proofs/Batching.antt.
+-- of the crate batches, it knows by their contracts; what it says of lists is in proofs/Batching.antt.
 --     the invariant     after i turns the answer rows are `filled .. i`; the question rows, the buffer and the book are lent as they were
 --     the measure       how many rows are left
 -- The answer rows are opened once, before the loop, and closed once, after it: between the two they are the function's own. A turn
@@ -66,18 +66,18 @@ use Rattle.shapes.proofs.Answer as P
 use Rattle.shapes.proofs.Answer.Laws as P′
 use Rattle.kinds.specs.declared.Kind.{Kind}
 use Rattle.kinds.specs.declared.Kind.the-variants.{Folded, Plain}
-use Rattle.questions.specs.Asking.{Accepted}
-use Rattle.questions.specs.declared.Opening.{Opening}
-use Rattle.questions.proofs.Opening as O
-use Rattle.questions.proofs.Opening.Laws as O′
-use Rattle.questions.proofs.open_batch as opens
-use Rattle.questions.proofs.open_batch.Symbol as opens-def
-use Rattle.questions.proofs.open_batch.Symbol.{name as #open-batch}
-use Rattle.questions.proofs.open_batch.Met as opens-thm
-use Rattle.questions.proofs.answer_row as answers
-use Rattle.questions.proofs.answer_row.Symbol as answers-def
-use Rattle.questions.proofs.answer_row.Symbol.{name as #answer-row}
-use Rattle.questions.proofs.answer_row.Met as answers-thm
+use Rattle.batches.specs.Batches.{Accepted}
+use Rattle.batches.specs.declared.Opening.{Opening}
+use Rattle.batches.proofs.Opening as O
+use Rattle.batches.proofs.Opening.Laws as O′
+use Rattle.batches.proofs.open_batch as opens
+use Rattle.batches.proofs.open_batch.Symbol as opens-def
+use Rattle.batches.proofs.open_batch.Symbol.{name as #open-batch}
+use Rattle.batches.proofs.open_batch.Met as opens-thm
+use Rattle.batches.proofs.answer_row as answers
+use Rattle.batches.proofs.answer_row.Symbol as answers-def
+use Rattle.batches.proofs.answer_row.Symbol.{name as #answer-row}
+use Rattle.batches.proofs.answer_row.Met as answers-thm
 use Rattle.book.proofs.Batching.{batch-answered, batch-refused, gets, noRow, opening, opening-accepts, turned}
 use Rattle.book.proofs.Filling.{filled, length-filled}
 use Rattle.book.proofs.Walking.{guards, not-not, tests, zero-holds}
@@ -394,5 +394,5 @@ book-batch-spec 𝓤 H 𝓜 𝓖 𝓡 =
     entered 𝓤 H (tripleOf 𝓤 H (𝓖 .A) f.signature (f.spec 𝓤 H (𝓖 .A) (𝓜 .mem) (𝓡 .run)))
     (tables 𝓤 H 𝓜 𝓡 code.env .C) (tables 𝓤 H 𝓜 𝓡 code.env .Λ) #book-batch code.function (code.unfolded 𝓤 H 𝓜 𝓡)
     (meets 𝓤 H (𝓖 .A) (givenOf 𝓤 H 𝓜 𝓖) (𝓜 .mem) (𝓡 .run) (tablesOf 𝓤 H 𝓜 (tables 𝓤 H 𝓜 𝓡 code.env))
-    (cited 𝓤 H (Opens 𝓤 H (𝓖 .A) (𝓜 .mem) (𝓡 .run)) 𝓜 𝓡 code.env #open-batch opens-def.routine code.calls-questions·open-batch (opens-thm.met 𝓤 H 𝓜 𝓖 𝓡))
-    (cited 𝓤 H (Answers 𝓤 H (𝓖 .A) (𝓜 .mem) (𝓡 .run)) 𝓜 𝓡 code.env #answer-row answers-def.routine code.calls-questions·answer-row (answers-thm.met 𝓤 H 𝓜 𝓖 𝓡)))
+    (cited 𝓤 H (Opens 𝓤 H (𝓖 .A) (𝓜 .mem) (𝓡 .run)) 𝓜 𝓡 code.env #open-batch opens-def.routine code.calls-batches·open-batch (opens-thm.met 𝓤 H 𝓜 𝓖 𝓡))
+    (cited 𝓤 H (Answers 𝓤 H (𝓖 .A) (𝓜 .mem) (𝓡 .run)) 𝓜 𝓡 code.env #answer-row answers-def.routine code.calls-batches·answer-row (answers-thm.met 𝓤 H 𝓜 𝓖 𝓡)))

@@ -1,4 +1,4 @@
--- `questions::ask` meets its contract: a law for each way out. Those of nearest are given their places, so that another test or number shows.
+-- `questions::ask` meets its contract: a law for each way out. All but the last are given their places, so that another test or number shows.
 -- Assumes nothing.
 use Prim.Native.Nat.{_≤_}
 use native.Mathlib.Omega.{arith}
@@ -12,6 +12,12 @@ use Rattle.questions.proofs.ask.Tie as tie
 short : (c : tie.Else1) → length (c .before .before .before .args .question .now) ≤ 200
 short c = omega arith
 
+-- the question is too long
+returns : tie.Need-returns
+returns c =
+    let known = c .before .before .before in
+    ask-long _ (known .before .args .question .now) _ _ (known .shared-slice-known .given) (known .before .pre) _ (c .look-at-nothing .ensures) (c .before .if1 .taken)
+
 -- nearest is asked of a book without names
 returns-2 : tie.Need-returns-2
 returns-2 c =
@@ -19,6 +25,14 @@ returns-2 c =
     let shorter = none .before .before in
     let known = shorter .before .before in
     nearest-none _ _ _ _ (known .shared-slice-known .given) (known .before .pre) (short shorter) _ (c .look-at-nothing2 .ensures) (none .if2 .taken) (c .before .if3 .taken)
+
+-- another kind is asked of a book without names
+returns-3 : tie.Need-returns-3
+returns-3 c =
+    let none = c .before .before in
+    let shorter = none .before .before in
+    let known = shorter .before .before in
+    ask-none _ (known .before .args .question .now) _ _ (known .shared-slice-known .given) (known .before .pre) (short shorter) _ (c .look-at-nothing3 .ensures) (none .if2 .taken) (c .before .if3 .left)
 
 -- nearest is answered
 returns-4 : tie.Need-returns-4
@@ -34,11 +48,11 @@ ask-spec =
     tie.close
     (tie.spec
     (λ c κs. search needs)
-    (λ c. search ask-long)
+    returns
     (λ c κs. search needs)
     returns-2
     (λ c κs. search needs)
-    (λ c. search ask-none)
+    returns-3
     (λ c κs. search needs)
     (λ c κs. search needs)
     returns-4

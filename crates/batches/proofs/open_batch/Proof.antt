@@ -1,12 +1,12 @@
--- `questions::open_batch` meets its contract: each way out is one law.
+-- `batches::open_batch` meets its contract: each way out is one law.
 -- Assumes nothing.
 use Prim.Native.Nat.{_≤_}
 use native.Mathlib.Omega.{arith}
 use mathlib.Core.Path.{_≡_}
 use borrow.Author.Needs.{needs}
-use Rattle.questions.proofs.Rows.{crowded, sound-opens, unsound-opens}
-use Rattle.questions.proofs.open_batch.Statement.{statement}
-use Rattle.questions.proofs.open_batch.Tie as tie
+use Rattle.batches.proofs.Rows.{crowded, sound-opens, unsound-opens}
+use Rattle.batches.proofs.open_batch.Statement.{statement}
+use Rattle.batches.proofs.open_batch.Tie as tie
 
 -- the rows are taken
 taken : (c : tie.Else2) → let a = c .before .before .before .args in (a .rows ≤ 64) × (a .rows ≡ a .places)

@@ -25,9 +25,9 @@ use Rattle.accept.proofs.Judging.{sound≠unsound}
 use Rattle.shapes.specs.Shapes.{answered}
 use Rattle.shapes.specs.declared.Answer.{Answer}
 use Rattle.shapes.proofs.Shapes.{answerOf}
-use Rattle.questions.specs.Asking.{closedBy, noTrailer, openingOf, takesRows}
-use Rattle.questions.specs.declared.Opening.{Opening}
+use Rattle.batches.specs.Batches.{closedBy, noTrailer, openingOf, takesRows}
+use Rattle.batches.specs.declared.Opening.{Opening}
 use Rattle.questions.proofs.Checks.{no-book}
 
 -- ---- how a batch opens
 

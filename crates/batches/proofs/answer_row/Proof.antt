@@ -1,4 +1,4 @@
--- `questions::answer_row` meets its contract: the tests say that the row is good, or that it is not.
+-- `batches::answer_row` meets its contract: the tests say that the row is good, or that it is not.
 -- Assumes nothing.
 use Prim.Native.Nat.{_+_, _-_}
 use native.Mathlib.Omega.{arith}
@@ -9,9 +9,9 @@ use Rattle.answers.specs.Calls.{question}
 use Rattle.answers.specs.Counts.{Counted as Looked}
 use Rattle.answers.proofs.Counts.{counted-answer}
 use Rattle.shapes.specs.Shapes.{counted, rowOf}
-use Rattle.questions.proofs.Rows.{row-answered, row-refused}
-use Rattle.questions.proofs.answer_row.Statement.{statement}
-use Rattle.questions.proofs.answer_row.Tie as tie
+use Rattle.batches.proofs.Rows.{row-answered, row-refused}
+use Rattle.batches.proofs.answer_row.Statement.{statement}
+use Rattle.batches.proofs.answer_row.Tie as tie
 
 -- the row's own bytes were asked for
 asked : (c : tie.After-ask) → let a = c .before .before .before .before .before .before .before .before .before .before .before .before .before .before .args in

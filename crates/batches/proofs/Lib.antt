@@ -1,0 +1,2 @@
+-- Laws of how a batch opens and of its rows.
+pub mod Rows
