@@ -1,7 +1,7 @@
 -- A name that is read back and put into a room.
 --     position-..       an accepting check lets each position be asked
 --     block-none        the block of a position where k is 0
---     BlockFound, found, found-asks, found-name      where the block of a position starts, and what streams from there
+--     BlockFound, found, place-ask, found-asks, found-name      where the block of a position starts, and what streams from there
 --     found-entries     how many entries are read from there on
 --     put-short, put-all            the room is too short; it holds the name
 -- Assumes nothing.
@@ -28,7 +28,7 @@ use Rattle.accept.specs.Parts.{checkOn}
 use Rattle.accept.specs.declared.Checked.{Checked}
 use Rattle.accept.specs.declared.Checked.the-variants.{Sound}
 use Rattle.accept.proofs.Judging.{SoundBook, checked-sound}
-use Rattle.names.specs.Names.{Named, PositionAsk, Put, entriesTo}
+use Rattle.names.specs.Names.{Named, PlaceAsk, PositionAsk, Put, entriesTo}
 
 -- ---- what can be asked
 
@@ -36,7 +36,7 @@ pub position-sound : {b : Bytes} {t : Trailer} {position : ℕ} → SoundBook b 
 position-sound f h = record {
   framed = f .parts .framed;
   block = ap (λ (x : Trailer). x .block) (f .told);
-  table = ap (λ (x : Trailer). x .«blocks_at») (f .told);
+  blocks = ap (λ (x : Trailer). x .«blocks_at») (f .told);
   within = omega (arith, f .count);
 }
 
@@ -59,9 +59,8 @@ pub record BlockFound (b : Bytes) (k position table block : ℕ) : Type 0 where
   pub gives : (name : Bytes) (len : ℕ) → NameIs b (number b (table + 2 * block)) (position - block * k) name len
       → Named (getD (namesOf b) position []) len name
 
-found-told : (b : Bytes) (t : Trailer) (position : ℕ) → PositionAsk b t position → BlockFound b (t .block) position (told b 2) (position / t .block)
-found-told b t position a =
-    let k : ℕ = t .block in
+found-told : (b : Bytes) (k table position : ℕ) → PlaceAsk b k table position → BlockFound b k position (told b 2) (position / k)
+found-told b k table position a =
     let p = a .framed in
     let has = p .entries in
     let inside : told b 2 ≤ length b = omega (arith, p .trail .total, p .trail .order) in
@@ -88,11 +87,14 @@ found-told b t position a =
       };
     }
 
-pub found : {b : Bytes} {t : Trailer} {k position table block : ℕ} → PositionAsk b t position → k ≡ t .block → table ≡ t .«blocks_at» → block ≡ position / k → BlockFound b k position table block
-found {b} {t} {k} {position} {table} a ke te f =
+pub found : {b : Bytes} {k position table block : ℕ} → PlaceAsk b k table position → block ≡ position / k → BlockFound b k position table block
+found {b} {k} {position} {table} a f =
     subst (BlockFound b k position table) (sym f)
-    (subst (λ (n : ℕ). BlockFound b n position table (position / n)) (sym ke)
-    (subst (λ (o : ℕ). BlockFound b (t .block) position o (position / t .block)) (sym (te ∙ a .table)) (found-told b t position a)))
+    (subst (λ (o : ℕ). BlockFound b k position o (position / k)) (sym (a .blocks)) (found-told b k table position a))
+
+-- by what was read out of the trailer
+pub place-ask : {b : Bytes} {x y k table position : ℕ} → PlaceAsk b x y position → k ≡ x → table ≡ y → PlaceAsk b k table position
+place-ask a ke te = record { framed = a .framed; block = ke ∙ a .block; blocks = te ∙ a .blocks; within = a .within }
 
 -- with the offset that the code has read
 module _ {b : Bytes} {k position table block start : ℕ} (f : BlockFound b k position table block) (e : start ≡ number b (table + 2 * block)) where
@@ -103,9 +105,8 @@ module _ {b : Bytes} {k position table block start : ℕ} (f : BlockFound b k po
   found-name name len n = f .gives name len (subst (λ (o : ℕ). NameIs b o (position - block * k) name len) e n)
 
 -- from the block's first entry on
-pub found-entries : {b : Bytes} {t : Trailer} {k position block : ℕ} → PositionAsk b t position → k ≡ t .block → block ≡ position / k → (r : ℕ) → r ≡ position - block * k + 1 → r ≡ entriesTo (told b 1) position
-found-entries {b} {t} {k} {position} {block} a ke f r e =
-    e ∙ omega (arith, ap (λ (n : ℕ). n * k) f, div-add-mod' position k, ap (λ (n : ℕ). position % n) (ke ∙ a .block))
+pub found-entries : {b : Bytes} {k position table block : ℕ} → PlaceAsk b k table position → block ≡ position / k → (r : ℕ) → r ≡ position - block * k + 1 → r ≡ entriesTo (told b 1) position
+found-entries {b} {k} {position} a f r e = e ∙ omega (arith, ap (λ (n : ℕ). n * k) f, div-add-mod' position k, ap (λ (n : ℕ). position % n) (a .block))
 
 -- ---- at the front of a room
 

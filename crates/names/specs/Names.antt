@@ -1,5 +1,6 @@
 -- What reading a name back asks of the bytes, and what it gives.
---     PositionAsk       the parts of a book have passed, its trailer was read, and it has a name at the position
+--     PlaceAsk, PositionAsk     the parts of a book have passed, its block size and its block table's start are known, and it has a name at the position; the
+--                       same by its trailer
 --     Named             the front of an array of 200 bytes is the name
 --     entriesTo         how many entries its block has up to the one at a position
 --     Put               the name stands at the front of the room, where it fits
@@ -15,11 +16,14 @@ use Rattle.format.specs.Book.{namesOf, told}
 use Rattle.trailer.specs.declared.Trailer.{Trailer}
 use Rattle.accept.specs.Parts.{Framed}
 
-pub record PositionAsk (b : Bytes) (t : Trailer) (position : ℕ) : Type 0 where
+pub record PlaceAsk (b : Bytes) (k table position : ℕ) : Type 0 where
   pub framed : Framed b
-  pub block : t .block ≡ told b 1
-  pub table : t .«blocks_at» ≡ told b 2
+  pub block : k ≡ told b 1
+  pub blocks : table ≡ told b 2
   pub within : position < length (namesOf b)
+
+abbrev pub PositionAsk : Bytes → Trailer → ℕ → Type 0
+PositionAsk b t position = PlaceAsk b (t .block) (t .«blocks_at») position
 
 pub record Named (x : Bytes) (len : ℕ) (name : Bytes) : Type 0 where
   pub name-is : take len name ≡ x

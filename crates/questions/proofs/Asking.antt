@@ -64,9 +64,9 @@ askable b t kind held l =
       askable = record {
         parts = f .parts;
         block = ap (λ (x : Trailer). x .block) (f .told);
-        table = ap (λ (x : Trailer). x .«blocks_at») (f .told);
+        blocks = ap (λ (x : Trailer). x .«blocks_at») (f .told);
         nodes = ap (λ (x : Trailer). x .«nodes_at») (f .told);
-        start = rw (full-rows (kindOf b)) refl;
+        root = rw (full-rows (kindOf b)) refl;
         searchable = rw (full-rows (kindOf b)) (opened-searchable (kindOf b) (full-rows (kindOf b)) b (t .block) (namesOf b) (f .book) (held-bytes b held) (omega (arith, f .count, l .some)));
       };
       low = l .asking .number .low;

@@ -11,7 +11,7 @@ use Rattle.spots.specs.Spots.{Askable}
 use Rattle.search.specs.declared.Reply.{Reply}
 
 pub record KindAsk (b : Bytes) (t : Trailer) (kind : ℕ) : Type 0 where
-  pub askable : Askable b t
+  pub askable : Askable b (t .block) (t .«blocks_at») (t .«nodes_at»)
   pub low : 1 ≤ kind
   pub high : kind ≤ lastKind
 

@@ -44,12 +44,12 @@ fn seat(book: &[u8], stride: usize, step: usize, question: &[u8], spot: Spot) ->
 }
 
 // (position, 1) where a name equals the question, else (0, 0).
-fn ask_exact(book: &[u8], t: trailer::Trailer, question: &[u8]) -> Reply
-    requires { ⌜ Askable (now book) t ⌝ }
+fn ask_exact(book: &[u8], k: usize, table: usize, start: usize, question: &[u8]) -> Reply
+    requires { ⌜ Askable (now book) k table start ⌝ }
     ensures { λ r. ⌜ pairOf r ≡ exact (askedIn (now (book .entry)) (now (question .entry))) (wordsIn (now (book .entry))) ⌝ }
     ensures { λ r. ⌜ Looked (now (book .entry)) (now (question .entry)) (r .visits) (r .entries) ⌝ }
 {
-    let met = spots::meet(book, t, question);
+    let met = spots::meet(book, k, table, start, question);
     let visits = met.visits;
     let entries = met.entries;
     let missed = Reply {
@@ -73,12 +73,12 @@ fn ask_exact(book: &[u8], t: trailer::Trailer, question: &[u8]) -> Reply
 }
 
 // (how many names are less, 0).
-fn ask_place(book: &[u8], t: trailer::Trailer, question: &[u8]) -> Reply
-    requires { ⌜ Askable (now book) t ⌝ }
+fn ask_place(book: &[u8], k: usize, table: usize, start: usize, question: &[u8]) -> Reply
+    requires { ⌜ Askable (now book) k table start ⌝ }
     ensures { λ r. ⌜ pairOf r ≡ (place (askedIn (now (book .entry)) (now (question .entry))) (wordsIn (now (book .entry))), 0) ⌝ }
     ensures { λ r. ⌜ Looked (now (book .entry)) (now (question .entry)) (r .visits) (r .entries) ⌝ }
 {
-    let spot = spots::locate(book, t, question);
+    let spot = spots::locate(book, k, table, start, question);
     let stride = trailer::stride(book);
     let first = seat(book, stride, trailer::step(book), question, spot);
     let visits = spot.visits;
@@ -91,13 +91,13 @@ fn ask_place(book: &[u8], t: trailer::Trailer, question: &[u8]) -> Reply
 }
 
 // (the question's place, how many names begin with it).
-fn ask_range(book: &[u8], t: trailer::Trailer, question: &[u8]) -> Reply
-    requires { ⌜ Askable (now book) t ⌝ }
+fn ask_range(book: &[u8], k: usize, table: usize, start: usize, question: &[u8]) -> Reply
+    requires { ⌜ Askable (now book) k table start ⌝ }
     ensures { λ r. ⌜ pairOf r ≡ range (askedIn (now (book .entry)) (now (question .entry))) (wordsIn (now (book .entry))) ⌝ }
     ensures { λ r. ⌜ Looked (now (book .entry)) (now (question .entry)) (r .visits) (r .entries) ⌝ }
 {
     let step = trailer::step(book);
-    let spot = spots::locate(book, t, question);
+    let spot = spots::locate(book, k, table, start, question);
     let first = seat(book, trailer::stride(book), step, question, spot);
     if spot.shared < question.len() {
         return Reply {
@@ -117,12 +117,12 @@ fn ask_range(book: &[u8], t: trailer::Trailer, question: &[u8]) -> Reply
 }
 
 // (the position reached, the symbols that its name and the question share).
-fn ask_nearest(book: &[u8], t: trailer::Trailer, question: &[u8]) -> Reply
-    requires { ⌜ Askable (now book) t ⌝ }
+fn ask_nearest(book: &[u8], k: usize, table: usize, start: usize, question: &[u8]) -> Reply
+    requires { ⌜ Askable (now book) k table start ⌝ }
     ensures { λ r. ⌜ pairOf r ≡ nearest (askedIn (now (book .entry)) (now (question .entry))) (wordsIn (now (book .entry))) ⌝ }
     ensures { λ r. ⌜ Looked (now (book .entry)) (now (question .entry)) (r .visits) (r .entries) ⌝ }
 {
-    let met = spots::meet(book, t, question);
+    let met = spots::meet(book, k, table, start, question);
     Reply {
         first: met.position,
         second: met.shared,
@@ -132,12 +132,12 @@ fn ask_nearest(book: &[u8], t: trailer::Trailer, question: &[u8]) -> Reply
 }
 
 // (the greatest length of the names that begin with the question, 0): of those the node tells it, and no name of the range is read.
-fn ask_width(book: &[u8], t: trailer::Trailer, question: &[u8]) -> Reply
-    requires { ⌜ Askable (now book) t ⌝ }
+fn ask_width(book: &[u8], k: usize, table: usize, start: usize, question: &[u8]) -> Reply
+    requires { ⌜ Askable (now book) k table start ⌝ }
     ensures { λ r. ⌜ pairOf r ≡ (width (askedIn (now (book .entry)) (now (question .entry))) (wordsIn (now (book .entry))), 0) ⌝ }
     ensures { λ r. ⌜ Looked (now (book .entry)) (now (question .entry)) (r .visits) (r .entries) ⌝ }
 {
-    let spot = spots::locate(book, t, question);
+    let spot = spots::locate(book, k, table, start, question);
     if spot.shared != question.len() {
         return Reply {
             first: 0,
@@ -161,17 +161,20 @@ pub fn answer(book: &[u8], t: trailer::Trailer, kind: usize, question: &[u8]) ->
     ensures { λ r. ⌜ pairOf r ≡ ask kind (askedIn (now (book .entry)) (now (question .entry))) (wordsIn (now (book .entry))) ⌝ }
     ensures { λ r. ⌜ Looked (now (book .entry)) (now (question .entry)) (r .visits) (r .entries) ⌝ }
 {
+    let k = numbers::wide16(t.block);
+    let table = numbers::wide16(t.blocks_at);
+    let start = numbers::wide16(t.nodes_at);
     if kind < 3 {
         if kind == 1 {
-            return ask_exact(book, t, question);
+            return ask_exact(book, k, table, start, question);
         }
-        return ask_place(book, t, question);
+        return ask_place(book, k, table, start, question);
     }
     if kind == 3 {
-        return ask_range(book, t, question);
+        return ask_range(book, k, table, start, question);
     }
     if kind == 4 {
-        return ask_nearest(book, t, question);
+        return ask_nearest(book, k, table, start, question);
     }
-    ask_width(book, t, question)
+    ask_width(book, k, table, start, question)
 }

@@ -27,8 +27,7 @@ use Rattle.standing.specs.Maps.{Map, Placed, mapOf, numberIn, recordAt}
 use Rattle.descent.proofs.Paths.{found, only-reached, passed-deepens, passed-sits, reached-is, visits-are}
 use Rattle.format.specs.Spans.{wordsIn, wordsOf}
 use Rattle.format.specs.Book.{namesOf, told}
-use Rattle.trailer.specs.declared.Trailer.{Trailer}
-use Rattle.names.specs.Names.{Named, PositionAsk, entriesTo}
+use Rattle.names.specs.Names.{Named, PlaceAsk, entriesTo}
 use Rattle.paths.specs.Paths.{DescentSays, HighestAt, OnPath, tableMap}
 use Rattle.paths.proofs.Ways.{AtOffset, here-room, here-told, own-rule, path-at}
 use Rattle.spots.specs.Spots.{Askable, AtSpot, Looked, MetSays, NearSays, SpotSays}
@@ -127,9 +126,9 @@ pub looked : {b q : Bytes} {r seen read : ℕ} → Reached (wordsIn b) (askedIn 
 looked {b} o e f = record { nodes = e; name = f ∙ ap (entriesTo (told b 1)) (o .is) }
 
 -- the trailer tells of the map: x bytes from a node to the next, y from a number of a node to its next
-module _ {b : Bytes} {t : Trailer} {x y : ℕ} (a : Askable b t) (xe : x ≡ mapOf b .stride) (ye : y ≡ mapOf b .step) where
+module _ {b : Bytes} {k table start x y : ℕ} (a : Askable b k table start) (xe : x ≡ mapOf b .stride) (ye : y ≡ mapOf b .step) where
   own-map : mapOf b ≡ tableMap b x y
-  own-map = ap (λ (s : ℕ). at-start s) (a .start) ∙ ap₂ (λ (u v : ℕ). tableMap b u v) (sym xe) (sym ye)
+  own-map = ap (λ (s : ℕ). at-start s) (a .root) ∙ ap₂ (λ (u v : ℕ). tableMap b u v) (sym xe) (sym ye)
     where
       at-start : ℕ → Map
       at-start s = record { start = s; stride = mapOf b .stride; step = mapOf b .step }
@@ -138,8 +137,8 @@ module _ {b : Bytes} {t : Trailer} {x y : ℕ} (a : Askable b t) (xe : x ≡ map
   own-searchable = subst (λ (μ : Map). Searchable (ruleIn b) b μ) own-map (a .searchable)
 
   -- the table starts where the trailer tells
-  pub starts : {start : ℕ} → start ≡ t .«nodes_at» → Searchable (ruleIn b) b (tableMap b x y) × (start ≡ told b 3)
-  starts e = (own-searchable, e ∙ a .nodes)
+  pub starts : Searchable (ruleIn b) b (tableMap b x y) × (start ≡ told b 3)
+  starts = (own-searchable, a .nodes)
 
   pub spot-in : {q : List ℕ} {o m s : ℕ} → SpotSays b (tableMap b x y) q o m s → SpotSays b (mapOf b) q o m s
   spot-in {q} {o} {m} {s} = subst (λ (μ : Map). SpotSays b μ q o m s) (sym own-map)
@@ -151,11 +150,15 @@ module _ {b : Bytes} {t : Trailer} {x y : ℕ} (a : Askable b t) (xe : x ≡ map
   }
 
 -- the name that is reached can be read
-pub name-ask : {b : Bytes} {t : Trailer} {r : ℕ} (q : List ℕ) → Askable b t → Reached (wordsIn b) q r → PositionAsk b t r
+pub name-ask : {b : Bytes} {k table start r : ℕ} (q : List ℕ) → Askable b k table start → Reached (wordsIn b) q r → PlaceAsk b k table r
 unfolding wordsOf
 name-ask {b} q a o = record {
   framed = a .parts .framed;
   block = a .block;
-  table = a .table;
+  blocks = a .blocks;
   within = omega (arith, o .within, length-map (namesOf b) (word (ruleIn b)));
 }
+
+-- by what was read out of the trailer
+pub askable-by : {b : Bytes} {x y z k table start : ℕ} → Askable b x y z → k ≡ x → table ≡ y → start ≡ z → Askable b k table start
+askable-by a ke te se = record { parts = a .parts; block = ke ∙ a .block; blocks = te ∙ a .blocks; nodes = se ∙ a .nodes; root = a .root; searchable = a .searchable }

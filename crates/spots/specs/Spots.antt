@@ -18,7 +18,6 @@ use Rattle.descent.specs.Vocabulary.{Located, Reached, Searchable, askedIn}
 use Rattle.format.specs.Spans.{wordsIn}
 use Rattle.format.specs.Book.{told}
 use Rattle.standing.specs.Maps.{Map, Placed, mapOf, numberIn}
-use Rattle.trailer.specs.declared.Trailer.{Trailer}
 use Rattle.accept.specs.Parts.{Parts}
 use Rattle.names.specs.Names.{entriesTo}
 
@@ -47,12 +46,12 @@ pub record AtSpot (b : Bytes) (μ : Map) (q : Bytes) (o m s : ℕ) : Type 0 wher
 
 -- ---- the questions
 
-pub record Askable (b : Bytes) (t : Trailer) : Type 0 where
+pub record Askable (b : Bytes) (k table start : ℕ) : Type 0 where
   pub parts : Parts b
-  pub block : t .block ≡ told b 1
-  pub table : t .«blocks_at» ≡ told b 2
-  pub nodes : t .«nodes_at» ≡ told b 3
-  pub start : mapOf b .start ≡ told b 3
+  pub block : k ≡ told b 1
+  pub blocks : table ≡ told b 2
+  pub nodes : start ≡ told b 3
+  pub root : mapOf b .start ≡ told b 3
   pub searchable : Searchable (ruleIn b) b (mapOf b)
 
 -- the nodes on its way down, and the entries up to the name that it reached

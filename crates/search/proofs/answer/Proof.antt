@@ -2,9 +2,15 @@
 -- Assumes nothing.
 use native.Mathlib.Omega.{arith}
 use borrow.Author.Needs.{needs}
+use Rattle.spots.specs.Spots.{Askable}
+use Rattle.spots.proofs.Spots.{askable-by}
 use Rattle.search.proofs.Seats.{by-exact, by-nearest, by-place, by-range, by-width}
 use Rattle.search.proofs.answer.Statement.{statement}
 use Rattle.search.proofs.answer.Tie as tie
+
+-- what the trailer tells, as numbers
+known : (c : tie.After-wide163) → let b = c .before .before .before .before .before .args .book .now in Askable b (c .before .before .wide16 .result) (c .before .wide162 .result) (c .wide163 .result)
+known c = askable-by (c .before .before .before .before .before .pre .askable) (c .before .before .wide16 .ensures .0) (c .before .wide162 .ensures .0) (c .wide163 .ensures .0)
 
 returns : tie.Need-returns
 returns c = (by-exact _ _ _ (omega arith) (c .ask-exact .ensures .0), c .ask-exact .ensures .1)
@@ -26,12 +32,15 @@ answer-spec =
     tie.close
     (tie.spec
     (λ c κs. search needs)
+    (λ c κs. search needs)
+    (λ c κs. search needs)
+    (λ c κs. known (c .before .before))
     returns
-    (λ c κs. search needs)
+    (λ c κs. known (c .before .before))
     returns-2
-    (λ c κs. search needs)
+    (λ c κs. known (c .before .before))
     returns-3
-    (λ c κs. search needs)
+    (λ c κs. known (c .before .before .before))
     returns-4
-    (λ c κs. search needs)
+    (λ c κs. known (c .before .before .before))
     returns-5)

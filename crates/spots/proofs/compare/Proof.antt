@@ -11,7 +11,7 @@ returns c =
     let ruled = counted .before .before .before in
     let named = ruled .before .before in
     let start = named .before .before .before in
-    (met _ _ (ruled .rule .result) (ruled .rule .ensures) (start .args .question .now) _ (named .read-name .ensures .0) (counted .shared-symbols .ensures) (c .symbol-at .ensures), named .read-name .ensures .1)
+    (met _ _ (ruled .rule .result) (ruled .rule .ensures) (start .args .question .now) _ (named .read-at .ensures .0) (counted .shared-symbols .ensures) (c .symbol-at .ensures), named .read-at .ensures .1)
 
 pub compare-spec : {M : Type 1} → statement M
 compare-spec =
