@@ -5,6 +5,7 @@
 --     sits-..          a node's depth, its number, its size
 --     kids             a node of several names: after it stands its row
 --     Kid, row-kid     the next child of a row, by its record; row-end: there is none
+--     one-node, one-name    a leaf by its names and by its nodes
 --     seek-..          the walk along a row to the first symbol that is not below s
 -- Assumes nothing.
 use Prim.Native.Nat.{ℕ, zero, suc, pred, _+_, _-_, _≤_, _<_}
@@ -214,6 +215,17 @@ module _ (ws : Words) where
               length-append (nodeTable mid (at (nth ws mid) d) (span ws mid (n .0))) (rowTable (n .0) d (span ws (n .0) hi)),
               table-some (at (nth ws mid) d) mid (n .0) (n .1 .past) (omega (arith, n .1 .upon, f .within)),
             )))
+
+    -- a leaf is the node of one name, and a node alone
+    pub one-node : {v : ℕ} → Sits ws v → node ws v .names ≡ 1 → node ws v .nodes ≡ 1
+    one-node s e = sits-told s .lone (omega arith)
+
+    pub one-name : {v : ℕ} → Sits ws v → node ws v .nodes < 2 → node ws v .names ≡ 1
+    one-name {v} s h = go (eq-or-lt-of-le (s .some))
+      where
+        go : (suc (from ws v) ≡ upto ws v) ⊎ (suc (from ws v) < upto ws v) → node ws v .names ≡ 1
+        go (inl e) = omega arith
+        go (inr a) = absurd (lt-irrefl (upto ws v) (omega (arith, row-end (kids s a) (omega arith))))
 
     pub row-kid : {d c mid hi stop : ℕ} → RowFrom ws d c mid hi stop → c < stop → Kid d c mid hi stop
     row-kid {d} {c} {mid} {hi} {stop} f h = go (eq-or-lt-of-le (f .order))

@@ -31,7 +31,7 @@ use Rattle.descent.specs.Vocabulary.{Halts, Passed, Searchable, Seeking, Sought
 use Rattle.standing.specs.Maps.{Map, Paced, Placed, Roomy, numberIn, recordAt}
 use Rattle.standing.proofs.Maps.{number-before, number-first, number-on, number-past, placed-on}
 use Rattle.descent.proofs.Paths.{halt-end, halt-leaf, halt-other, halt-short, passed-few, passed-on, passed-room, passed-sits, passed-start, taken}
-use Rattle.descent.proofs.Rows.{root-sits, seek-end, seek-found, seek-more, seek-some, seek-start}
+use Rattle.descent.proofs.Rows.{one-name, one-node, root-sits, seek-end, seek-found, seek-more, seek-some, seek-start}
 use Rattle.paths.specs.Paths.{AtFork, AtNode, DescentSays, SoughtAt, WayOf}
 use Rattle.paths.specs.declared.Way.{Way}
 use Rattle.paths.specs.declared.Way.the-variants.{Down, Stay}
@@ -152,33 +152,27 @@ module _ {b : Bytes} {μ : Map} {o s c : ℕ} (a : AtNode b μ o) {x : ℕ} (xe 
 
 -- ---- `child`
 
--- x is the node's number of names, d its depth, y its number of nodes, t the question's symbol there, c the child that was sought, u that one's symbol
-module _ {b : Bytes} {μ : Map} {o : ℕ} (a : AtNode b μ o) {x : ℕ} (xe : x ≡ recordAt (μ .step) b o .names) where
-  told : recordAt (μ .step) b o ≡ node (wordsIn b) (numberIn μ o)
-  told = here-told (at-here a)
+-- x is the node's number of nodes, d its depth, t the question's symbol there, c the child that was sought, u that one's symbol
+module _ {b : Bytes} {μ : Map} {o : ℕ} (a : AtNode b μ o) {x : ℕ} (xe : x ≡ recordAt (μ .step) b o .nodes) where
+  pub stay-leaf : (q : Bytes) → x < 2 → Halts (wordsIn b) (askedIn b q) (numberIn μ o)
+  stay-leaf q h =
+      halt-leaf (wordsIn b) (a .searchable .rises) (askedIn b q) (a .sits) (one-name (wordsIn b) (a .searchable .rises) (a .sits) (omega (arith, nodes-are a xe)))
 
-  names-are : x ≡ node (wordsIn b) (numberIn μ o) .names
-  names-are = xe ∙ ap (λ (n : Node). n .names) told
-
-  pub stay-leaf : (q : Bytes) → x ≡ 1 → Halts (wordsIn b) (askedIn b q) (numberIn μ o)
-  stay-leaf q e = halt-leaf (wordsIn b) (a .searchable .rises) (askedIn b q) (a .sits) (omega (arith, names-are))
-
-  module _ (n : x ≡ 1 → ⊥) where
+  module _ (n : 2 ≤ x) where
     several : node (wordsIn b) (numberIn μ o) .names ≡ 1 → ⊥
-    several i = n (names-are ∙ i)
+    several i = lt-irrefl x (omega (arith, nodes-are a xe, one-node (wordsIn b) (a .searchable .rises) (a .sits) i))
 
     pub fork-at : AtFork b μ o
     fork-at = record { at-node = a; several = several }
 
     module _ (q : Bytes) {d : ℕ} (de : d ≡ recordAt (μ .step) b o .depth) where
       depth-is : d ≡ node (wordsIn b) (numberIn μ o) .depth
-      depth-is = de ∙ ap (λ (n : Node). n .depth) told
+      depth-is = de ∙ ap (λ (n : Node). n .depth) (here-told (at-here a))
 
       pub stay-short : length q < d → Halts (wordsIn b) (askedIn b q) (numberIn μ o)
       stay-short h = halt-short (wordsIn b) (a .searchable .rises) (askedIn b q) (a .sits) several (omega (arith, depth-is, asked-length b q))
 
-      module _ (h : d ≤ length q) {t c y : ℕ} (rule : ByRule) (own : rule ≡ byKind (kindOf b)) (e : t ≡ at (word (ruleBy rule) q) (d - 0)) (k : SoughtAt b μ o t c)
-          (ye : y ≡ recordAt (μ .step) b o .nodes) where
+      module _ (h : d ≤ length q) {t c : ℕ} (rule : ByRule) (own : rule ≡ byKind (kindOf b)) (e : t ≡ at (word (ruleBy rule) q) (d - 0)) (k : SoughtAt b μ o t c) where
         symbol : t ≡ at (askedIn b q) (node (wordsIn b) (numberIn μ o) .depth)
         symbol = asked-at b q d rule own e ∙ ap (at (askedIn b q)) depth-is
 
@@ -188,21 +182,21 @@ module _ {b : Bytes} {μ : Map} {o : ℕ} (a : AtNode b μ o) {x : ℕ} (xe : x 
         sought : Sought (wordsIn b) (numberIn μ o) (at (askedIn b q) (node (wordsIn b) (numberIn μ o) .depth)) (numberIn μ c)
         sought = subst (λ (i : ℕ). Sought (wordsIn b) (numberIn μ o) i (numberIn μ c)) symbol (k .sought)
 
-        pub stay-end : o + y * μ .stride ≤ c → Halts (wordsIn b) (askedIn b q) (numberIn μ o)
-        stay-end g = halt-end (wordsIn b) (a .searchable .rises) (askedIn b q) (a .sits) several long sought (row-past a ye (k .placed) g)
+        pub stay-end : o + x * μ .stride ≤ c → Halts (wordsIn b) (askedIn b q) (numberIn μ o)
+        stay-end g = halt-end (wordsIn b) (a .searchable .rises) (askedIn b q) (a .sits) several long sought (row-past a xe (k .placed) g)
 
-        module _ (g : c < o + y * μ .stride) {u : ℕ} (ue : u ≡ recordAt (μ .step) b c .symbol) where
+        module _ (g : c < o + x * μ .stride) {u : ℕ} (ue : u ≡ recordAt (μ .step) b c .symbol) where
           child-symbol : u ≡ node (wordsIn b) (numberIn μ c) .symbol
-          child-symbol = ue ∙ ap (λ (n : Node). n .symbol) (here-told (row-here a ye (k .placed) g))
+          child-symbol = ue ∙ ap (λ (n : Node). n .symbol) (here-told (row-here a xe (k .placed) g))
 
           pub stay-other : (u ≡ t → ⊥) → Halts (wordsIn b) (askedIn b q) (numberIn μ o)
           stay-other f =
-              halt-other (wordsIn b) (a .searchable .rises) (askedIn b q) (a .sits) several long sought (row-before a ye (k .placed) g) (λ j. f (child-symbol ∙ j ∙ sym symbol))
+              halt-other (wordsIn b) (a .searchable .rises) (askedIn b q) (a .sits) several long sought (row-before a xe (k .placed) g) (λ j. f (child-symbol ∙ j ∙ sym symbol))
 
           pub go-down : u ≡ t → Placed μ c × Taken (wordsIn b) (askedIn b q) (numberIn μ o) (numberIn μ c)
           go-down f = (
             k .placed,
-            taken (wordsIn b) (a .searchable .rises) (askedIn b q) (a .sits) several long sought (row-before a ye (k .placed) g) (sym child-symbol ∙ f ∙ symbol),
+            taken (wordsIn b) (a .searchable .rises) (askedIn b q) (a .sits) several long sought (row-before a xe (k .placed) g) (sym child-symbol ∙ f ∙ symbol),
           )
 
 -- ---- `descend`

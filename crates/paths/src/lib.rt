@@ -37,12 +37,14 @@ pub fn seek(book: &[u8], stride: usize, step: usize, o: usize, s: usize) -> usiz
 }
 
 // Where the question goes from the node at o: to the child with its symbol at that node's depth. It stays at a leaf, where the depth
-// exceeds its length, and where no child fits.
+// exceeds its length, and where no child fits. A leaf is told by its nodes and not by its names: `seek` reads them too, and `nodes < 2`
+// is what its loop asks first, so the compiler makes one test of the two.
 fn child(book: &[u8], stride: usize, step: usize, question: &[u8], o: usize) -> Way
     requires { ⌜ AtNode (now book) (tableMap (now book) stride step) o ⌝ }
     ensures { λ r. ⌜ WayOf (now (book .entry)) (tableMap (now (book .entry)) stride step) (askedIn (now (book .entry)) (now (question .entry))) o r ⌝ }
 {
-    if fields::names(book, o, step) == 1 {
+    let nodes = fields::nodes(book, o, step);
+    if nodes < 2 {
         return Way::Stay;
     }
     let d = fields::depth(book, o, step);
@@ -51,7 +53,7 @@ fn child(book: &[u8], stride: usize, step: usize, question: &[u8], o: usize) -> 
     }
     let s = symbols::symbol_at(trailer::rule(book), question, 0, d);
     let c = seek(book, stride, step, o, s);
-    if o + fields::nodes(book, o, step) * stride <= c {
+    if o + nodes * stride <= c {
         return Way::Stay;
     }
     if fields::symbol(book, c, step) != s {
