@@ -26,6 +26,7 @@ use borrow.Author.Tests.{eq-eqb, eqb-true, le-leb, leb-true, lt-ltb, ltb-true, n
 use Rattle.words.specs.Words.{Bytes, InBytes, both, plain, same}
 use Rattle.words.proofs.Words.{apart, both-true, false≠true, same-refl, same-true}
 use Rattle.format.specs.Book.{number, numbers, told, trailerSize}
+use Rattle.format.specs.Full.{isFull}
 use Rattle.format.specs.Kinds.{BookKind, FoldedBook, PlainBook, formOf, kindOf, markOf, recordSize}
 use Rattle.format.specs.Nodes.{nodeSize}
 use Rattle.format.specs.Salvage.{Block, Broken, Whole, blockCount, bounds, climbs, fromZero, judgedAlone, mapped, spans}
@@ -36,7 +37,7 @@ use Rattle.answers.proofs.Salvage.{Mapped, block-at, blocks-many, mapped-parts}
 use Rattle.numbers.proofs.Parts.{Held, held-bytes}
 use Rattle.symbols.specs.Rules.{byKind}
 use Rattle.symbols.proofs.Symbols.{rules-differ}
-use Rattle.kinds.specs.Known.{isFull, kindBy, markBack, markFront}
+use Rattle.kinds.specs.Known.{kindBy, markBack, markFront}
 use Rattle.kinds.proofs.Telling.{kind-told}
 use Rattle.symbols.specs.declared.Rule.{Rule as ByRule}
 use Rattle.symbols.specs.declared.Rule.the-variants.{Folded, Plain}

@@ -8,8 +8,9 @@
 --     read-field                 what the trailer says: names, block size, starts, nodes, length
 --     read-names                 the names, out of a book's bytes
 --     book-is, is-book           the book of what fits is a book, and a book is that of the block size and the names that it tells
---     kind-of-book               a book's mark tells its kind
+--     third-of-book, kind-of-book    a book's mark tells its kind, by the third byte
 --     opened-book, book-opened, opened-kind    `opened` gives κ, k and xs just where those fit and the bytes are their book
+--     opened-third, opened-long      such bytes have that third byte, and a whole trailer
 -- Assumes nothing.
 use Prim.Native.Nat.{ℕ, _+_, _-_, _*_, _≤_, _<_}
 use native.Mathlib.Omega.{arith}
@@ -186,17 +187,15 @@ is-book {ρ} {f} {mark} y s e =
 
 -- ---- the mark
 
-pub kind-of-book : (κ : BookKind) (k : ℕ) (xs : List Bytes) → kindOf (book κ k xs) ≡ κ
-kind-of-book κ k xs = ap (λ (b : ℕ). markedAs b allKinds) third ∙ third-tells κ
-  where
-    y : Layout (ruleOf κ) (formOf κ) (markOf κ)
-    y = kind-layout κ
+-- its third byte
+pub third-of-book : (κ : BookKind) (k : ℕ) (xs : List Bytes) → getD (book κ k xs) (length (book κ k xs) - 2) 0 ≡ getD (markOf κ) 2 0
+third-of-book κ k xs =
+    let y : Layout (ruleOf κ) (formOf κ) (markOf κ) = kind-layout κ in
+    let there : length (book κ k xs) - 2 ≡ length (book κ k xs) - 4 + 2 = omega (arith, book-length y k xs) in
+    ap (λ (i : ℕ). getD (book κ k xs) i 0) there ∙ sym (getD-drop (length (book κ k xs) - 4) (book κ k xs) 2 0) ∙ ap (λ (s : Bytes). getD s 2 0) (from-mark y k xs)
 
-    -- the mark's third byte
-    third : getD (book κ k xs) (length (book κ k xs) - 2) 0 ≡ getD (markOf κ) 2 0
-    third =
-        let there : length (book κ k xs) - 2 ≡ length (book κ k xs) - 4 + 2 = omega (arith, book-length y k xs) in
-        ap (λ (i : ℕ). getD (book κ k xs) i 0) there ∙ sym (getD-drop (length (book κ k xs) - 4) (book κ k xs) 2 0) ∙ ap (λ (s : Bytes). getD s 2 0) (from-mark y k xs)
+pub kind-of-book : (κ : BookKind) (k : ℕ) (xs : List Bytes) → kindOf (book κ k xs) ≡ κ
+kind-of-book κ k xs = ap (λ (b : ℕ). markedAs b allKinds) (third-of-book κ k xs) ∙ third-tells κ
 
 -- ---- by the bytes' own mark
 
@@ -225,3 +224,10 @@ book-opened κ s k xs e = go (isBook (kindOf s) s) refl e
 -- a book opens as the kind that its mark tells
 pub opened-kind : (κ : BookKind) (s : Bytes) (k : ℕ) (xs : List Bytes) → opened s ≡ Book κ k xs → kindOf s ≡ κ
 opened-kind κ s k xs e = subst (λ (t : Bytes). kindOf t ≡ κ) (book-opened κ s k xs e .1) (kind-of-book κ k xs)
+
+-- so the third byte of the mark stands in its place, and the trailer before it
+pub opened-third : (κ : BookKind) (s : Bytes) (k : ℕ) (xs : List Bytes) → opened s ≡ Book κ k xs → getD s (length s - 2) 0 ≡ getD (markOf κ) 2 0
+opened-third κ s k xs e = subst (λ (t : Bytes). getD t (length t - 2) 0 ≡ getD (markOf κ) 2 0) (book-opened κ s k xs e .1) (third-of-book κ k xs)
+
+pub opened-long : (κ : BookKind) (s : Bytes) (k : ℕ) (xs : List Bytes) → opened s ≡ Book κ k xs → trailerSize ≤ length s
+opened-long κ s k xs e = omega (arith, ap length (book-opened κ s k xs e .1), book-length (kind-layout κ) k xs)

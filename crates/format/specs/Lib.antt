@@ -7,6 +7,7 @@ pub mod Widths
 pub mod Nodes
 pub mod Folded
 pub mod Kinds
+pub mod Full
 pub mod Layout
 pub mod Book
 pub mod Outcomes

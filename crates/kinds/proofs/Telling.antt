@@ -12,11 +12,12 @@ use mathlib.Core.Bool.{Bool, true, false}
 use lib.Dec.{eqb}
 use borrow.Author.Tests.{eqb-false, eqb-true, ne-eqb}
 use Rattle.words.specs.Words.{pick}
+use Rattle.format.specs.Full.{isFull}
 use Rattle.format.specs.Kinds.{BookKind, FoldedBook, PlainBook, allKinds, markedAs, recordSize, ruleOf}
 use Rattle.symbols.specs.Rules.{byKind, ruleBy}
 use Rattle.symbols.specs.declared.Rule.{Rule}
 use Rattle.symbols.proofs.Symbols.{rule-by}
-use Rattle.kinds.specs.Known.{MarkSays, formBy, isFull, kindBy, kindFor, markBack}
+use Rattle.kinds.specs.Known.{MarkSays, formBy, kindBy, kindFor, markBack}
 use Rattle.kinds.specs.declared.Form.{Form}
 use Rattle.kinds.specs.declared.Form.the-variants.{Rows}
 use Rattle.kinds.specs.declared.Kind.{Kind}

@@ -3,12 +3,11 @@
 --     kindFor           a kind of book, as the code has it
 --     markFront, markBack     a mark as two numbers: 4E 42 stands in front of every one, 4B 32 or 46 32 at the back
 --     IsMark, MarkSays  a number is the back of some kind's mark; whether it is
---     isFull            a full book: its table is rows of node records
 -- The laws are in proofs/Telling.antt. Assumes nothing: these are definitions.
 use Prim.Native.Nat.{ℕ}
 use mathlib.Core.Path.{_≡_}
 use mathlib.Core.Bool.{Bool, false, true}
-use Rattle.format.specs.Kinds.{BookKind, FoldedBook, Form, PlainBook, Rows, formOf}
+use Rattle.format.specs.Kinds.{BookKind, FoldedBook, Form, PlainBook, Rows}
 use Rattle.kinds.specs.declared.Form.{Form as CodeForm}
 use Rattle.kinds.specs.declared.Form.the-variants.{Rows as InRows}
 use Rattle.kinds.specs.declared.Kind.{Kind}
@@ -40,9 +39,3 @@ pub record IsMark (back : ℕ) : Type 0 where
 abbrev pub MarkSays : ℕ → Bool → Type 0
 MarkSays back true = IsMark back
 MarkSays back false = (κ : BookKind) → back ≡ markBack κ → ⊥
-
-abbrev pub byRows : Form → Bool
-byRows Rows = true
-
-abbrev pub isFull : BookKind → Bool
-isFull κ = byRows (formOf κ)

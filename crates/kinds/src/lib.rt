@@ -2,10 +2,11 @@
 // here, so a new kind is one arm more in each of these functions, and a new form one arm where tables are checked, written and searched.
 ghost use mathlib.Core.Path.{_≡_};
 ghost use Prim.Native.Nat.{_≤_};
+ghost use Rattle.format.specs.Full.{isFull};
 ghost use Rattle.format.specs.Kinds.{allKinds, formOf, markedAs, recordSize};
 ghost use Rattle.format.specs.Nodes.{nodeSize};
 ghost use Rattle.symbols.specs.Rules.{byKind};
-ghost use Rattle.kinds.specs.Known.{MarkSays, formBy, isFull, kindBy, kindFor, markBack};
+ghost use Rattle.kinds.specs.Known.{MarkSays, formBy, kindBy, kindFor, markBack};
 use symbols::Rule;
 
 // The kind of a book.
