@@ -8,6 +8,7 @@
 --     judge-refusals, merge-refusals, put-2001, put-2000, merge-taken     5 and 6 of either list; 4; 7 of the names that a merge has put together
 --     head-refusals, heads-computed
 --     salvage-refusals, salvage-trailers, salvage-taken-just
+--     clips-computed, bad-route-kept, routes-computed     the announcer's calls: refusals in their order, and what is spoken
 -- Assumes nothing.
 use Prim.Native.Nat.{ℕ}
 use mathlib.Core.Path.{_≡_, refl}
@@ -25,12 +26,14 @@ use Rattle.format.specs.Records.{encode, readFrom, readList, rising, sound}
 use Rattle.format.specs.Salvage.{boundsFrom, climbs, judgedAlone, mapped, spansFrom}
 use Rattle.format.specs.Spans.{nodeTable}
 use Rattle.format.specs.Widths.{widest}
+use Rattle.answers.specs.Announcing.{Clips, clipOf, refusal, spoken}
 use Rattle.answers.specs.Calls.{Row, batch, batchOf, build, buildBy, builtFrom, check, namesAnswer, question, questionOf, readBack, readBackOf, rowAnswer}
 use Rattle.answers.specs.Counts.{countedOf, countedQuestion, entries, namesCounted, unlooked, visits}
 use Rattle.answers.specs.Heads.{Head, headOf, lesserHead}
 use Rattle.answers.specs.Lit.{lit, mayEnd}
 use Rattle.answers.specs.Merging.{judgeLists, mergeLists, ofReadings, putNames}
 use Rattle.answers.specs.Questions.{answer, ask, childOf, count, exact, exactFrom, nearest, place, range, reachWithin, reached}
+use Rattle.answers.specs.Routes.{firstBad, routeOf}
 use Rattle.answers.specs.Salvage.{salvage, salvageFrom}
 use Rattle.answers.specs.Widths.{width}
 
@@ -273,3 +276,59 @@ pub salvage-taken-just : salvage exampleBy2 (lentRoom 25) (leftReport 2) ∷ sal
     ∷ record { answer = given 0 0; room = []; rows = [] } ∷ []
 unfolding shared less joined encode decode decodeFrom entry front rising boundsFrom climbs spansFrom mapped judgedAlone salvage salvageFrom number same begins
 salvage-taken-just = refl
+
+-- ---- the announcer: a text 2, 16, 1; a route 2, 16, 12, 3, 4
+
+abbrev pub clips3 : Clips
+clips3 = 511 ∷ 300 ∷ 65535 ∷ []
+
+-- MAR alone, in a folded book in blocks of two
+abbrev pub foldedMar : Bytes
+foldedMar =
+    0 ∷ 3 ∷ text "MAR" ++ (0 ∷ 0 ∷ 0 ∷ 0 ∷ 4 ∷ 0 ∷ 0 ∷ 0 ∷ 1 ∷ 0 ∷ 1 ∷ 0 ∷ 3 ∷ 0
+    ∷ 1 ∷ 0 ∷ 2 ∷ 0 ∷ 5 ∷ 0 ∷ 7 ∷ 0 ∷ 1 ∷ 0 ∷ 35 ∷ 0 ∷ 0x4E ∷ 0x42 ∷ 0x46 ∷ 0x32 ∷ [])
+
+-- a book, a table, a text
+abbrev pub ClipRow : Type 0
+ClipRow = Bytes × Clips × Bytes
+
+-- 2 before 16 before 1; Mar has its own clip, though three names begin so; one name begins with Mari; three with Ma, none with Mas
+abbrev pub clipsAsked : List (ClipRow × Answer)
+clipsAsked =
+    ((broken, clips3, text "Mar"), refused 2) ∷ ((broken, [], text "Mar"), refused 2) ∷ ((broken, clips3, over200), refused 2)
+    ∷ ((exampleBy2, take 2 clips3, text "Mar"), refused 16) ∷ ((exampleBy2, 1 ∷ clips3, text "Mar"), refused 16) ∷ ((exampleBy2, [], over200), refused 16) ∷ ((noNames, 1 ∷ [], []), refused 16)
+    ∷ ((exampleBy2, clips3, over200), refused 1) ∷ ((noNames, [], over200), refused 1)
+    ∷ ((exampleBy2, clips3, text "Mar"), given 1 511) ∷ ((exampleBy2, clips3, text "Marina"), given 1 300) ∷ ((exampleBy2, clips3, text "Mari"), given 1 300) ∷ ((exampleBy2, clips3, text "Mark"), given 1 65535)
+    ∷ ((exampleBy2, clips3, text "Ma"), given 0 3) ∷ ((exampleBy2, clips3, []), given 0 3) ∷ ((exampleBy2, clips3, text "Mas"), given 0 0) ∷ ((exampleBy2, clips3, text "Marinas"), given 0 0)
+    ∷ ((exampleBy2, clips3, replicate 200 77), given 0 0) ∷ ((noNames, [], []), given 0 0) ∷ ((noNames, [], text "Mar"), given 0 0)
+    ∷ ((foldedMar, 9 ∷ [], text "mar"), given 1 9) ∷ ((foldedMar, 9 ∷ [], text "mA"), given 1 9) ∷ ((foldedMar, 9 ∷ [], []), given 1 9) ∷ ((foldedMar, 9 ∷ [], text "mas"), given 0 0) ∷ []
+
+pub clips-computed : map (λ (c : ClipRow × Answer). clipOf (c .0 .0) (c .0 .1) (c .0 .2)) clipsAsked ≡ map (λ (c : ClipRow × Answer). c .1) clipsAsked
+unfolding shared less begins same depth glue groups widest rowBy tableWithin nodeTable table numbers joined entry blocksFrom front blocks offsets entryPart blockPart allFields trailer bookBy decodeFrom decode number rising sound fitsBy namesOf isBookBy opened checkOf check count exactFrom exact place range ask mayEnd lit answer namesAnswer questionOf question refusal spoken clipOf
+clips-computed = refl
+
+-- a book, a table, a route, how long the room is
+abbrev pub RouteRow : Type 0
+RouteRow = Bytes × Clips × List ℕ × ℕ
+
+-- the answer, and the room afterwards: 2 before 16 before 12 before 3 before 4; the first bad position is told, whatever stands behind it
+abbrev pub routesAsked : List (RouteRow × (Answer × Clips))
+routesAsked =
+    ((exampleBy2, clips3, 3 ∷ [], 2), (numbered 3 0, lentRoom 2)) ∷ ((exampleBy2, clips3, 0 ∷ 2 ∷ 3 ∷ 1 ∷ [], 4), (numbered 3 2, lentRoom 4)) ∷ ((exampleBy2, clips3, 0 ∷ 70000 ∷ 1 ∷ 3 ∷ [], 4), (numbered 3 1, lentRoom 4)) ∷ ((exampleBy2, clips3, 0 ∷ 3 ∷ [], 0), (numbered 3 1, []))
+    ∷ ((noNames, [], 0 ∷ [], 2), (numbered 3 0, lentRoom 2))
+    ∷ ((exampleBy2, clips3, 0 ∷ 1 ∷ [], 1), (refused 4, lentRoom 1))
+    ∷ ((exampleBy2, clips3, 2 ∷ 0 ∷ 2 ∷ 1 ∷ [], 4), (given 8 0, 65535 ∷ 511 ∷ 65535 ∷ 300 ∷ [])) ∷ ((exampleBy2, clips3, 1 ∷ [], 3), (given 2 0, 300 ∷ 7 ∷ 7 ∷ []))
+    ∷ ((exampleBy2, clips3, [], 2), (given 0 0, lentRoom 2)) ∷ ((noNames, [], [], 0), (given 0 0, [])) ∷ ((foldedMar, 9 ∷ [], 0 ∷ 0 ∷ [], 3), (given 4 0, 9 ∷ 9 ∷ 7 ∷ []))
+    ∷ ((broken, clips3, 0 ∷ [], 2), (refused 2, lentRoom 2)) ∷ ((broken, [], 0 ∷ [], 2), (refused 2, lentRoom 2)) ∷ ((exampleBy2, take 2 clips3, 0 ∷ [], 2), (refused 16, lentRoom 2))
+    ∷ ((exampleBy2, 1 ∷ clips3, replicate 121 0, 121), (refused 16, lentRoom 121)) ∷ ((exampleBy2, clips3, replicate 121 0, 121), (refused 12, lentRoom 121)) ∷ ((exampleBy2, clips3, replicate 121 3, 121), (refused 12, lentRoom 121))
+    ∷ ((exampleBy2, clips3, replicate 120 2, 119), (refused 4, lentRoom 119)) ∷ ((exampleBy2, clips3, replicate 120 1, 121), (given 240 0, replicate 120 300 ++ (7 ∷ []))) ∷ []
+
+-- a bad position behind two good ones: the room is as it was
+pub bad-route-kept : routeOf exampleBy2 clips3 (0 ∷ 2 ∷ 3 ∷ 1 ∷ []) (lentRoom 4) .room ≡ lentRoom 4
+unfolding shared less begins same depth glue groups widest rowBy tableWithin nodeTable table numbers joined entry blocksFrom front blocks offsets entryPart blockPart allFields trailer bookBy decodeFrom decode number rising sound fitsBy namesOf isBookBy opened checkOf check refusal firstBad routeOf
+bad-route-kept = refl
+
+pub routes-computed : map (λ (c : RouteRow × (Answer × Clips)). routeOf (c .0 .0) (c .0 .1) (c .0 .2) (lentRoom (c .0 .3))) routesAsked
+    ≡ map (λ (c : RouteRow × (Answer × Clips)). record { answer = c .1 .0; room = c .1 .1 }) routesAsked
+unfolding shared less begins same depth glue groups widest rowBy tableWithin nodeTable table numbers joined entry blocksFrom front blocks offsets entryPart blockPart allFields trailer bookBy decodeFrom decode number rising sound fitsBy namesOf isBookBy opened checkOf check refusal firstBad routeOf
+routes-computed = refl

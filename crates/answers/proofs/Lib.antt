@@ -13,3 +13,5 @@ pub mod Merging
 pub mod Heads
 pub mod Salvage
 pub mod Example
+pub mod Announcing
+pub mod Routes

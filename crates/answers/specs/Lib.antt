@@ -8,3 +8,5 @@ pub mod Calls
 pub mod Heads
 pub mod Merging
 pub mod Salvage
+pub mod Announcing
+pub mod Routes

@@ -1,3 +1,4 @@
 pub mod Shapes
 pub mod Heads
 pub mod Salvage
+pub mod Routes

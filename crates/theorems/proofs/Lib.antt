@@ -19,3 +19,4 @@ pub mod Unions
 pub mod Examples
 pub mod Salvage
 pub mod Folding
+pub mod Announcing

@@ -5,3 +5,4 @@ pub mod Unions
 pub mod Letters
 pub mod Salvage
 pub mod Folding
+pub mod Announcing
