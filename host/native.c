@@ -5,6 +5,7 @@
  * the calls are these functions, which the compiler knows as C. For tests and benchmarks only, as the archive that holds them.
  */
 typedef __UINT8_TYPE__ byte;
+typedef __UINT16_TYPE__ clip;
 typedef __SIZE_TYPE__ size;
 
 struct answer {
@@ -33,6 +34,8 @@ struct answer *written_book_batch(struct answer *, const byte *, size, const byt
 struct answer *written_book_salvage(struct answer *, const byte *, size, byte *, size, struct kept *, size);
 struct answer *written_list_merge(struct answer *, const byte *, size, const byte *, size, byte *, size);
 struct head *written_list_head(struct head *, const byte *, size, const byte *, size, size, size);
+struct answer *written_announce_clip(struct answer *, const byte *, size, const clip *, size, const byte *, size);
+struct answer *written_announce_route(struct answer *, const byte *, size, const clip *, size, const size *, size, clip *, size);
 
 /* A call that builds a book of a list, of one kind or the other. */
 #define BUILDS(name)                                                                                            \
@@ -90,4 +93,15 @@ struct head list_head(const byte *first, size first_length, const byte *second, 
                       size passed_second) {
     struct head given;
     return *written_list_head(&given, first, first_length, second, second_length, passed_first, passed_second);
+}
+
+struct answer announce_clip(const byte *book, size book_length, const clip *clips, size clip_count, const byte *text, size text_length) {
+    struct answer given;
+    return *written_announce_clip(&given, book, book_length, clips, clip_count, text, text_length);
+}
+
+struct answer announce_route(const byte *book, size book_length, const clip *clips, size clip_count, const size *positions,
+                             size position_count, clip *room, size room_count) {
+    struct answer given;
+    return *written_announce_route(&given, book, book_length, clips, clip_count, positions, position_count, room, room_count);
 }

@@ -3,10 +3,14 @@
  *
  * A book keeps a strictly rising list of names in at most 65,535 bytes. These
  * calls build a book, check it, read its names back, answer questions about
- * them, salvage what is left of a damaged one, and merge two lists into one. They
- * are the functions of the archive that `rt staticlib book` writes
- * (target/staticlib/libbook.a), and each of them is proved to do what stands over
+ * them, tell which recorded clip speaks a name, salvage what is left of a damaged
+ * book, and merge two lists into one. Each of them is proved to do what stands over
  * it here, for any bytes and any numbers: bad input gets a refusal.
+ *
+ * All calls are in one archive, libmistrogu.a. `host/archive.sh` makes it
+ * (target/staticlib/libmistrogu.a). It has two objects: announcer.o has the two
+ * calls whose names begin with announce_, and book.o has all others. A linker takes
+ * an object only where one of its calls is used.
  *
  * NAMES, QUESTIONS AND LISTS
  *
@@ -42,9 +46,10 @@
  *
  * WHAT A CALLER KEEPS
  *
- * A run of bytes is a pointer and how many bytes stand there; rows are a pointer
- * and how many rows stand there. C checks none of what follows, and the proofs
- * take it for granted:
+ * A run of bytes is a pointer and how many bytes stand there. Rows, clips and
+ * positions are a pointer and how many of them stand there, not how many bytes: a
+ * table of 300 clips is lent with 300, and has 600 bytes. C checks none of what
+ * follows, and the proofs take it for granted:
  *
  * - Each pointer is to that much live memory for the whole call. It is never
  *   null, not even where the length is 0: any other address will do then. In C++
@@ -56,8 +61,10 @@
  *   that it can't (docs/TRUST.md).
  * - What a call writes to (a room, answer rows, report rows) overlaps nothing else
  *   that is lent to it. What is only read may overlap.
- * - Rows and answers are aligned as C aligns their structs, to 8 bytes. Bytes
- *   have no alignment.
+ * - Rows, answers and positions are aligned as C aligns them, to 8 bytes, and clips
+ *   to 2. Bytes have no alignment. A clip is a uint16_t: on x86-64 two bytes, the
+ *   low one first. A file of such bytes can be lent as it was read or mapped, at an
+ *   even address.
  * - No piece of memory is larger than PTRDIFF_MAX bytes.
  * - There is stack for the call: MISTROGU_BUILD_STACK bytes for the two that
  *   build and MISTROGU_STACK for every other call are enough for any input, be it
@@ -85,7 +92,7 @@
  * archive in which each call has a prefix, here transit_:
  *
  *     sed -n 's/.* MISTROGU_CALL(\(.*\))($/\1 transit_\1/p' mistrogu.h > renames.txt
- *     objcopy --redefine-syms=renames.txt libbook.a libtransit.a
+ *     objcopy --redefine-syms=renames.txt libmistrogu.a libtransit.a
  *
  * The first command writes a line for each call, with its old and its new name. Don't
  * use --prefix-symbols: it renames memcpy and memset, too. Compile the guest with
@@ -104,7 +111,7 @@ extern "C" {
 #endif
 
 /* The version, of which CHANGELOG.md says what it brought. */
-#define MISTROGU_VERSION "0.8.0"
+#define MISTROGU_VERSION "0.9.0"
 /* The most bytes of a name, and of a question. */
 #define MISTROGU_LONGEST_NAME 200
 /* The most names of a book. */
@@ -118,6 +125,8 @@ extern "C" {
 #define MISTROGU_FOLDED_MARK "NBF2"
 /* The most rows of a batch. */
 #define MISTROGU_MOST_ROWS 64
+/* The most positions of a route. */
+#define MISTROGU_MOST_STOPS 120
 /* The most bytes that a salvage writes: 2,000 names of 200 bytes, as records. */
 #define MISTROGU_MOST_SALVAGED 402000
 /* Bytes of stack that are enough for a call that builds, whatever it is given. */
@@ -149,10 +158,12 @@ enum mistrogu_refusal {
     MISTROGU_NO_NAMES = 10,
     /* A row's kind is not 1 to 5, or its start plus length is past the buffer. */
     MISTROGU_BAD_ROW = 11,
-    /* The batch has over 64 rows, or the rows to write to are too many or too few. */
+    /* There are over 64 rows or 120 stops, or too many or too few rows to write to. */
     MISTROGU_BAD_BATCH = 12,
     /* The trailer or the block table makes no sense. */
-    MISTROGU_NO_MAP = 13
+    MISTROGU_NO_MAP = 13,
+    /* The clip table has more clips or fewer than the book has names. */
+    MISTROGU_BAD_CLIP_TABLE = 16
 };
 
 /* The kinds of question, as a batch row tells them. */
@@ -502,6 +513,49 @@ struct mistrogu_head MISTROGU_CALL(list_head)(
     const uint8_t *first, size_t first_length,
     const uint8_t *second, size_t second_length,
     size_t passed_first, size_t passed_second)
+    MISTROGU_NEVER_NULL;
+
+/*
+ * The announcer: what is typed becomes the clip that is spoken, and a route becomes
+ * a row of clips. Both calls take a book of either kind and a clip table. The table
+ * has one clip for each name, the one at place i for the name at position i; any
+ * numbers will do. So a table belongs to one book: when the book is built anew, the
+ * table is made anew. No call can tell that a table is another book's, if it has as
+ * many clips. Both calls check the whole book before they answer.
+ */
+
+/*
+ * Gives the clip for a text: that of the name that equals it, or else of the only
+ * name that begins with it. Where there is neither, it tells how many names begin
+ * with the text, which is 0 or 2 or more. Mar has its own clip, also where Marina
+ * begins with Mar. The empty text begins every name. Of a folded book, 'equals' and
+ * 'begins' go by letters, capitals counted as small ones.
+ *
+ * Accepted: (0, 1, the clip), or (0, 0, how many names begin with the text).
+ * Refused: 2; then 16; then 1 where the text is longer than 200 bytes.
+ */
+struct mistrogu_answer MISTROGU_CALL(announce_clip)(
+    const uint8_t *book, size_t book_length,
+    const uint16_t *clips, size_t clip_count,
+    const uint8_t *text, size_t text_length)
+    MISTROGU_NEVER_NULL;
+
+/*
+ * Writes the clips of a route to the front of the room: one for each position, in
+ * the route's order. A route has 0 to 120 positions, and may have one of them
+ * several times. A room of MISTROGU_MOST_STOPS clips is always long enough.
+ *
+ * Accepted: (0, bytes written, 0): two for each position.
+ * Refused: 2; then 16; then 12 with over 120 positions; then 3 where a position is
+ * at or above the number of names; then 4 where the room is for fewer clips than
+ * there are positions. Beside 3 stands first the place of the first such position
+ * in the route, counted from 0.
+ */
+struct mistrogu_answer MISTROGU_CALL(announce_route)(
+    const uint8_t *book, size_t book_length,
+    const uint16_t *clips, size_t clip_count,
+    const size_t *positions, size_t position_count,
+    uint16_t *room, size_t room_count)
     MISTROGU_NEVER_NULL;
 
 #undef MISTROGU_NEVER_NULL

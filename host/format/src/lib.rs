@@ -22,6 +22,8 @@ pub const LARGEST_BLOCK: usize = 64;
 pub const LONGEST_BOOK: usize = 65_535;
 /// The most rows of a batch.
 pub const MOST_ROWS: usize = 64;
+/// The most positions of a route.
+pub const MOST_STOPS: usize = 120;
 /// The most bytes that a salvage writes: the most names, each the longest, as
 /// records with a length byte.
 pub const MOST_SALVAGED: usize = MOST_NAMES * (1 + LONGEST_NAME);

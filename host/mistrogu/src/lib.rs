@@ -124,7 +124,8 @@ use proved::Answer;
 pub use batch::{Batch, Replies, Reply};
 #[doc(inline)]
 pub use format::{
-    BookKind, Kind, LARGEST_BLOCK, LONGEST_BOOK, LONGEST_NAME, MOST_NAMES, MOST_ROWS, MOST_SALVAGED,
+    BookKind, Kind, LARGEST_BLOCK, LONGEST_BOOK, LONGEST_NAME, MOST_NAMES, MOST_ROWS,
+    MOST_SALVAGED, MOST_STOPS,
 };
 pub use list::List;
 pub use merging::{heads, judge, merge, Head, Heads};

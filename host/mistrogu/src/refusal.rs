@@ -3,7 +3,7 @@
 use core::error::Error;
 use core::fmt;
 
-/// Why a call says no, and nothing else: one of thirteen reasons, each with the number
+/// Why a call says no, and nothing else: one of fourteen reasons, each with the number
 /// that documents 01 and 02 give it. What [`Refused`] tells beside it is where.
 ///
 /// ```
@@ -36,15 +36,17 @@ pub enum Refusal {
     NoNames = 10,
     /// A row's kind is not 1 to 5, or its start plus length is past the buffer.
     BadRow = 11,
-    /// The batch has over 64 rows, or the rows to write to are too many or too few.
+    /// There are over 64 rows or 120 stops, or too many or too few rows to write to.
     BadBatch = 12,
     /// The trailer or the block table makes no sense.
     NoMap = 13,
+    /// The clip table has more clips or fewer than the book has names.
+    BadClipTable = 16,
 }
 
 impl Refusal {
     /// Every refusal, in the order of their numbers.
-    pub const ALL: [Refusal; 13] = [
+    pub const ALL: [Refusal; 14] = [
         Refusal::QuestionTooLong,
         Refusal::NoBook,
         Refusal::NoSuchPosition,
@@ -58,9 +60,10 @@ impl Refusal {
         Refusal::BadRow,
         Refusal::BadBatch,
         Refusal::NoMap,
+        Refusal::BadClipTable,
     ];
 
-    /// Its number, 1 to 13.
+    /// Its number, 1 to 13 or 16.
     pub const fn number(self) -> usize {
         self as usize
     }
@@ -75,7 +78,8 @@ impl Refusal {
     /// assert_eq!(Refusal::from_number(14), None);
     /// ```
     pub fn from_number(number: usize) -> Option<Self> {
-        Self::ALL.get(number.checked_sub(1)?).copied()
+        let is_it = |refusal: &Self| refusal.number() == number;
+        Self::ALL.into_iter().find(is_it)
     }
 
     /// When it is given, as a sentence without capital and full stop.
@@ -95,9 +99,12 @@ impl Refusal {
                 "a row's kind is not 1 to 5, or its start plus length is past the buffer"
             }
             Refusal::BadBatch => {
-                "the batch has over 64 rows, or the rows to write to are too many or too few"
+                "there are over 64 rows or 120 stops, or too many or too few rows to write to"
             }
             Refusal::NoMap => "the trailer or the block table makes no sense",
+            Refusal::BadClipTable => {
+                "the clip table has more clips or fewer than the book has names"
+            }
         }
     }
 }

@@ -93,6 +93,7 @@ fn limits() {
         ("MISTROGU_MOST_NAMES", mistrogu::MOST_NAMES),
         ("MISTROGU_LONGEST_BOOK", mistrogu::LONGEST_BOOK),
         ("MISTROGU_MOST_ROWS", mistrogu::MOST_ROWS),
+        ("MISTROGU_MOST_STOPS", mistrogu::MOST_STOPS),
         ("MISTROGU_MOST_SALVAGED", mistrogu::MOST_SALVAGED),
         ("MISTROGU_LARGEST_BLOCK", mistrogu::LARGEST_BLOCK),
         ("MISTROGU_BUILD_STACK", mistrogu::BUILD_STACK),
@@ -159,6 +160,8 @@ fn calls() {
         "book_salvage",
         "list_merge",
         "list_judge",
+        "announce_clip",
+        "announce_route",
     ];
     let counted = [
         "book_exact",

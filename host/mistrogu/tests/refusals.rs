@@ -248,13 +248,13 @@ fn a_merge_is_then_refused_with_7_then_4() {
 }
 
 #[test]
-fn refusals_have_the_numbers_1_to_13() {
-    for (refusal, number) in Refusal::ALL.into_iter().zip(1..) {
+fn refusals_have_the_numbers_1_to_13_and_16() {
+    for (refusal, number) in Refusal::ALL.into_iter().zip((1..=13).chain([16])) {
         assert_eq!(refusal.number(), number);
         assert_eq!(Refusal::from_number(number), Some(refusal));
         assert_eq!(refusal.to_string(), refusal.sentence());
     }
-    for number in [0, 14, usize::MAX] {
+    for number in [0, 14, 15, 17, usize::MAX] {
         assert_eq!(Refusal::from_number(number), None);
     }
 }

@@ -270,3 +270,42 @@ pub fn list_head(first: &[u8], second: &[u8], passed_first: usize, passed_second
         )
     }
 }
+
+/// Gives the clip for a text: (0, 1, the clip) of the name that equals it, or else of
+/// the only name that begins with it; (0, 0, how many names begin with it) where
+/// there is neither; or refusal 2, 16 or 1.
+pub fn announce_clip(book: &[u8], clips: &[u16], text: &[u8]) -> Answer {
+    // SAFETY: each pointer comes with the length of its own slice and is aligned as
+    // that is, and nothing is written.
+    unsafe {
+        raw::announce_clip(
+            book.as_ptr(),
+            book.len(),
+            clips.as_ptr(),
+            clips.len(),
+            text.as_ptr(),
+            text.len(),
+        )
+    }
+}
+
+/// Writes the clips of a route into the room, in its order: (0, how many bytes are
+/// written, 0), two for each position; or refusal 2, 16, 12, 3 with the place of the
+/// first bad position, or 4, and then the room is as it was.
+pub fn announce_route(book: &[u8], clips: &[u16], positions: &[usize], room: &mut [u16]) -> Answer {
+    // SAFETY: each pointer comes with the length of its own slice and is aligned as
+    // that is. The room is borrowed for this call alone, so it does not overlap the
+    // rest.
+    unsafe {
+        raw::announce_route(
+            book.as_ptr(),
+            book.len(),
+            clips.as_ptr(),
+            clips.len(),
+            positions.as_ptr(),
+            positions.len(),
+            room.as_mut_ptr(),
+            room.len(),
+        )
+    }
+}

@@ -8,8 +8,8 @@
 //!
 //! # Safety
 //!
-//! Every pointer must be good for as many items as the length after it says, and
-//! what is written to may overlap nothing else.
+//! Every pointer must be aligned for its items and good for as many of them as the
+//! length after it says, and what is written to may overlap nothing else.
 
 use crate::{Answer, Counted, Head, Kept, Row};
 
@@ -120,4 +120,24 @@ extern "C" {
         passed_first: usize,
         passed_second: usize,
     ) -> Head;
+    /// Gives the clip for a text.
+    pub fn announce_clip(
+        book: *const u8,
+        book_len: usize,
+        clips: *const u16,
+        clips_len: usize,
+        text: *const u8,
+        text_len: usize,
+    ) -> Answer;
+    /// Writes the clips of a route.
+    pub fn announce_route(
+        book: *const u8,
+        book_len: usize,
+        clips: *const u16,
+        clips_len: usize,
+        positions: *const usize,
+        positions_len: usize,
+        room: *mut u16,
+        room_len: usize,
+    ) -> Answer;
 }
