@@ -1,7 +1,7 @@
 #!/usr/bin/env bash
 # Compiles the examples, links them with the proved library and runs them.
 #
-#   examples/run.sh [ARCHIVE]        without ARCHIVE: what `rt staticlib book` writes, made again only where sources changed
+#   examples/run.sh [ARCHIVE]        without ARCHIVE: what `host/archive.sh --product` makes, again only where sources changed
 #
 # stops.c goes through all calls, and renamed.c has a table of them; both are held to the header's. renamed.c is linked with a copy of the
 # archive in which the calls have other names, where there is an objcopy that knows x86-64 (of binutils or LLVM, or what OBJCOPY names); else it

@@ -6,10 +6,11 @@
 #   --product   the product itself, which is for x86-64, on any machine
 #   --anew      make it even where it is there already, of the same sources
 #
-# On x86-64 it is what `rt staticlib` writes: the product itself. The prover compiles for no other processor, so elsewhere the LLVM
-# module that it hands to its compiler is kept on the way and compiled anew for this machine. That archive is for tests and benchmarks
-# only. With MISTROGU_NATIVE=1 the second way is taken on x86-64, too; with MISTROGU_TARGET, such as aarch64-unknown-linux-gnu, it is
-# compiled for that processor. Either way the product is there, too.
+# On x86-64 it is target/staticlib/libmistrogu.a, the product itself: the objects that `rt staticlib book` and `rt staticlib announcer` write,
+# as they are, in one archive. The prover compiles for no other processor, so elsewhere the LLVM modules that it hands to its compiler are
+# kept on the way and compiled anew for this machine, to target/native/libmistrogu.a. That archive is for tests and benchmarks only. With
+# MISTROGU_NATIVE=1 the second way is taken on x86-64, too; with MISTROGU_TARGET, such as aarch64-unknown-linux-gnu, it is compiled for
+# that processor. Either way the product is there, too.
 #
 # It is made again only where what it is made from has changed: crates.txt, the crates' src, specs and proofs, the kit, and for the second
 # way this script, native.c and the processor. A sum of these, and of the archive itself, is kept beside it. What the prover says goes to
@@ -17,10 +18,10 @@
 set -eu
 cd "$(dirname "$0")/.."
 root=$(pwd -P)
-library=book
+libraries=(book announcer)
 machine=$(uname -m)
-product=$root/target/staticlib/lib$library.a
-native=$root/target/native/lib$library.a
+product=$root/target/staticlib/libmistrogu.a
+native=$root/target/native/libmistrogu.a
 log=$root/target/archive.log
 
 say() {
@@ -50,6 +51,7 @@ target=${MISTROGU_TARGET:-$machine-unknown-linux-gnu}
 # The sums of what the product, and what the other archive, are made from.
 of_product=$({
     rt version
+    echo "${libraries[@]}"
     find crates.txt crates/*/src crates/*/specs crates/*/proofs -type f -print0 | LC_ALL=C sort -z | xargs -0 sha256sum
 } | sha256sum)
 of_native=$({ echo "$of_product $target" && sha256sum host/archive.sh host/native.c; } | sha256sum)
@@ -70,13 +72,26 @@ if [ "$anew" = 0 ] && is_made "$product" "$of_product" && { [ "$archive" = "$pro
     exit
 fi
 
-# Has the product proved and compiled, by the kit $1 or, without it, by the one that is installed. All that is said on the way is in the log.
+kit=$(dirname "$(dirname "$(rt doc)")")
+tools=$kit/on/$machine/toolchain
+work=$(mktemp -d)
+trap 'rm -rf "$work"' EXIT
+
+# Has the libraries proved and compiled, by the kit $1 or, without it, by the one that is installed, and puts their objects into the product. A
+# module that is kept on the way gets its library's name. All that is said is in the log.
 make_product() {
-    local kit=${1:-}
+    local own=${1:-} library made
     say "the library is proved and compiled, which can take minutes; target/archive.log has what the prover says"
     mkdir -p target
-    ${kit:+env RATTLE_HOME="$kit"} rt staticlib "$library" >"$log" 2>&1 || { say "the library was not made: target/archive.log says why"; exit 1; }
-    [ -f "$product" ] || { say "the prover wrote no ${product#"$root/"}: target/archive.log may say why"; exit 1; }
+    : >"$log"
+    for library in "${libraries[@]}"; do
+        made=target/staticlib/lib$library.a
+        ${own:+env RATTLE_HOME="$own"} rt staticlib "$library" >>"$log" 2>&1 || { say "the library was not made: target/archive.log says why"; exit 1; }
+        [ -f "$made" ] || { say "the prover wrote no $made: target/archive.log may say why"; exit 1; }
+        [ ! -f "$work/module.bc" ] || mv "$work/module.bc" "$work/$library.bc"
+        "$tools/bin/llvm-ar" qLcs "$work/product.a" "$made" >>"$log" 2>&1 || { say "$made could not be put into the product: target/archive.log says why"; exit 1; }
+    done
+    cp "$work/product.a" "$product"
     note "$product" "$of_product"
 }
 
@@ -85,11 +100,6 @@ if [ "$archive" = "$product" ]; then
     echo "$product"
     exit
 fi
-
-kit=$(dirname "$(dirname "$(rt doc)")")
-tools=$kit/on/$machine/toolchain
-work=$(mktemp -d)
-trap 'rm -rf "$work"' EXIT
 
 # Makes the folder $2, with a link in it to everything in the folder $1 but what is called $3.
 link_all_but() {
@@ -114,21 +124,25 @@ exec "$tools/bin/clang" "\$@"
 END
 chmod +x "$own/toolchain/bin/clang"
 make_product "$work/kit"
-[ -f "$work/module.bc" ] || { say "the prover handed no module to its compiler"; exit 1; }
 
-# The module as text, without the words on x86-64; the compiler puts in those of its target. The calls get other names there, and
+# Each module as text, without the words on x86-64; the compiler puts in those of its target. The calls get other names there, and
 # native.c has them as this processor's C sees them. Inner functions have the name of their crate and :: in theirs, and keep it; a call that
 # native.c does not have is missed when it is linked.
 clang=$tools/bin/clang
-"$clang" --target=x86_64-unknown-linux-gnu -S -emit-llvm -Xclang -disable-llvm-passes -x ir "$work/module.bc" -o "$work/module.ll"
-sed -i -e '/^target datalayout = /d' -e '/^target triple = /d' -e 's/@\(book\|list\)_/@written_\1_/g' \
-    -e 's/ *"\(target-cpu\|target-features\|tune-cpu\)"="[^"]*"//g' "$work/module.ll"
 flags=(--target="$target" -O3 -fPIC -ffunction-sections -fdata-sections -c)
-"$clang" "${flags[@]}" -Wno-override-module -x ir "$work/module.ll" -o "$work/$library.o"
+objects=()
+for library in "${libraries[@]}"; do
+    [ -f "$work/$library.bc" ] || { say "the prover handed no module of $library to its compiler"; exit 1; }
+    "$clang" --target=x86_64-unknown-linux-gnu -S -emit-llvm -Xclang -disable-llvm-passes -x ir "$work/$library.bc" -o "$work/$library.ll"
+    sed -i -e '/^target datalayout = /d' -e '/^target triple = /d' -e 's/@\(book\|list\|announce\)_/@written_\1_/g' \
+        -e 's/ *"\(target-cpu\|target-features\|tune-cpu\)"="[^"]*"//g' "$work/$library.ll"
+    "$clang" "${flags[@]}" -Wno-override-module -x ir "$work/$library.ll" -o "$work/$library.o"
+    objects+=("$work/$library.o")
+done
 "$clang" "${flags[@]}" -std=c99 -Wall -Wextra -Werror host/native.c -o "$work/calls.o"
 
 mkdir -p "$(dirname "$native")"
 rm -f "$native"
-"$tools/bin/llvm-ar" rcs "$native" "$work/$library.o" "$work/calls.o"
+"$tools/bin/llvm-ar" rcs "$native" "${objects[@]}" "$work/calls.o"
 note "$native" "$of_native"
 echo "$native"

@@ -17,6 +17,6 @@ folder=${CARGO_TARGET_DIR:-$PWD/target}/reference
 mkdir -p "$folder"
 rustc --edition 2021 --crate-name reference --crate-type lib --cfg 'feature="archive"' -C opt-level=3 -C panic=abort -C codegen-units=1 \
     --emit obj="$folder/reference.o" reference/src/lib.rs >&2
-rm -f "$folder/libbook_reference.a"
-ar rcs "$folder/libbook_reference.a" "$folder/reference.o"
-echo "$folder/libbook_reference.a"
+rm -f "$folder/libmistrogu_reference.a"
+ar rcs "$folder/libmistrogu_reference.a" "$folder/reference.o"
+echo "$folder/libmistrogu_reference.a"

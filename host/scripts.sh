@@ -43,22 +43,26 @@ try() {
     (cd "$clone" && PATH=$path "$@") >"$work/out" 2>"$work/err" || status=$?
 }
 
-# How often the prover was asked to make the archive.
+# How often the prover was asked to make this library.
 times_made() {
-    grep -c '^staticlib' "$asked" || true
+    grep -cx "staticlib $1" "$asked" || true
 }
 
-# After a try: that it gave this path, with one line on the screen, and made the archive so many times.
+# After a try: that it gave this path, with one line on the screen, made each library so many times, and left the product with both of them.
 gave() {
+    local library
     [ "$status" = 0 ] || fail "archive.sh ended with $status, $3"
     [ "$(cat "$work/out")" = "$clone/$1" ] || fail "archive.sh did not print the path alone, $3"
     [ "$(wc -l <"$work/err")" = 1 ] || fail "archive.sh did not say one line, $3"
-    [ "$(times_made)" = "$2" ] || fail "archive.sh had the archive made $(times_made) times and not $2, $3"
+    for library in book announcer; do
+        [ "$(times_made "$library")" = "$2" ] || fail "archive.sh had $library made $(times_made "$library") times and not $2, $3"
+    done
     [ -f "$clone/$1" ] || fail "archive.sh made nothing, $3"
+    cat "$clone"/target/staticlib/lib{book,announcer}.a | cmp -s - "$clone/$product" || fail "the product has not just the two libraries, $3"
 }
 
-product=target/staticlib/libbook.a
-native=target/native/libbook.a
+product=target/staticlib/libmistrogu.a
+native=target/native/libmistrogu.a
 for way in --product native; do
     words=(--product) path=$product
     [ "$way" = --product ] || { words=() path=$native && export MISTROGU_NATIVE=1; }
@@ -218,11 +222,11 @@ packed() {
 unseen="./test was not seen to pass for this commit"
 mkdir -p "$clone/target"
 try "$work/cargo:$with" ./package && packed "$commit" "$unseen" "without a gate"
-for file in PACKAGE.txt SHA256SUMS CHANGELOG.md LICENSE bin/stopbook docs/FORMAT.md docs/STATEMENTS.md docs/TRUST.md examples/renamed.c examples/stops.c include/mistrogu.h lib/libbook.a; do
+for file in PACKAGE.txt SHA256SUMS CHANGELOG.md LICENSE bin/stopbook docs/FORMAT.md docs/STATEMENTS.md docs/TRUST.md examples/renamed.c examples/stops.c include/mistrogu.h lib/libmistrogu.a; do
     [ -s "$packed/$file" ] || fail "the package has no $file"
     [ "$file" = SHA256SUMS ] || grep -qF "  $file" "$packed/SHA256SUMS" || fail "$file has no checksum"
 done
-cmp -s "$clone/$product" "$packed/lib/libbook.a" || fail "the package has another archive"
+cmp -s "$clone/$product" "$packed/lib/libmistrogu.a" || fail "the package has another archive"
 sum=$(sha256sum <"$packed.tar.gz")
 printf '%s\n7 passed, 0 failed\n' "$commit" >"$clone/target/gate"
 try "$work/cargo:$with" ./package && packed "$commit" "7 passed, 0 failed" "with a gate"

@@ -50,7 +50,7 @@ done
 "$objdump" -t "$archive" >"$work/symbols"
 wanted=$(awk '$2 == "*UND*" && $NF != "memcpy" && $NF != "memset" { print $NF }' "$work/symbols")
 [ -z "$wanted" ] || fail "the archive wants $wanted"
-calls=$(awk '$2 == "g" && $3 == "F" && $NF ~ /^(book|list)_/ { print $NF }' "$work/symbols" | LC_ALL=C sort)
+calls=$(awk '$2 == "g" && $3 == "F" && $NF ~ /^(book|list|announce)_/ { print $NF }' "$work/symbols" | LC_ALL=C sort)
 [ -n "$calls" ] || fail "$archive has no calls"
 
 # Links a program of these calls and what they reach.

@@ -25,5 +25,5 @@ for object in *.o; do
 done
 # At -O1 no compiler makes a loop into a call again, or into wider steps.
 cc -std=c99 -O1 -fno-builtin -fPIC -Wall -Wextra -Werror -c "$host/small.c" -o small.o
-ar rcs libbook_small.a ./*.o
-echo "$folder/libbook_small.a"
+ar rcs libmistrogu_small.a ./*.o
+echo "$folder/libmistrogu_small.a"

@@ -26,10 +26,13 @@ commit_all() {
     git -c user.name=copy -c user.email=copy@example.org -c commit.gpgsign=false commit --quiet --message copy
 }
 
-# Without an archive the stub makes one of the sources of `book`. While FOLDER/broken is there, it makes none. A crate that is to be proved has to
-# be one of crates.txt.
+# Without an archive the stub makes one for each library, with its name and crates.txt. While FOLDER/broken is there, it makes none. A crate
+# that is to be proved has to be one of crates.txt.
 make_kit() {
     local folder=$1 archive=${2:-} machine tools
+    # shellcheck disable=SC2016
+    local put='shift && cat "$@" >>"$out"'
+    [ -z "$archive" ] || put="cat \"$archive\" >\"\$out\""
     machine=$(uname -m)
     tools=$folder/on/$machine/toolchain
     mkdir -p "$tools/bin" "$tools/lib" "$folder/doc" "$folder/bin"
@@ -42,7 +45,9 @@ done
 END
     cat >"$tools/bin/llvm-ar" <<END
 #!/bin/sh
-cat "${archive:-\$3}" >"\$2"
+shift
+out=\$1
+$put
 END
     cat >"$folder/bin/rt" <<END
 #!/bin/sh
@@ -54,9 +59,9 @@ staticlib)
     echo "a long log"
     [ ! -f "$folder/broken" ] || exit 1
     mkdir -p target/staticlib
-    cat ${archive:-crates/book/src/*.rt} >target/staticlib/libbook.a
-    echo module >"$folder/book.bc"
-    "\${RATTLE_HOME:-$folder}/on/$machine/toolchain/bin/clang" "$folder/book.bc" -o "$folder/book.o"
+    { echo "\$2" && cat crates.txt; } >"target/staticlib/lib\$2.a"
+    echo module >"$folder/\$2.bc"
+    "\${RATTLE_HOME:-$folder}/on/$machine/toolchain/bin/clang" "$folder/\$2.bc" -o "$folder/\$2.o"
     ;;
 check | dev)
     shift

@@ -195,7 +195,7 @@ mod tests {
     use super::*;
 
     /// As GNU's prints it.
-    const GNU: &str = "In archive libbook.a:
+    const GNU: &str = "In archive libmistrogu.a:
 
 book.o:     file format elf64-x86-64
 
@@ -220,7 +220,7 @@ Disassembly of section .text.nodes::write:
 
     /// As LLVM's prints it.
     const LLVM: &str = "
-libbook.a(book.o):\tfile format elf64-x86-64
+libmistrogu.a(book.o):\tfile format elf64-x86-64
 
 SYMBOL TABLE:
 0000000000000000         *UND*\t0000000000000000 memset

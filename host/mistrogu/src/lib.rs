@@ -90,15 +90,15 @@
 //! # Linking
 //!
 //! Which archive is linked says the variable `MISTROGU_ARCHIVE` while the crate
-//! `proved` is compiled: on x86-64 the whole path of what `rt staticlib book`
-//! writes. `host/archive.sh` makes an archive for the machine at hand and prints
-//! that path. Without it the build ends with a sentence that says so. To have it
-//! set for every build of a program of one's own, name the archive in that program's
-//! `.cargo/config.toml`, by its path from the folder that `.cargo` is in:
+//! `proved` is compiled, by its whole path. `host/archive.sh` makes the archive for
+//! the machine at hand, on x86-64 the product itself, and prints that path. Without
+//! it the build ends with a sentence that says so. To have it set for every build of
+//! a program of one's own, name the archive in that program's `.cargo/config.toml`,
+//! by its path from the folder that `.cargo` is in:
 //!
 //! ```toml
 //! [env]
-//! MISTROGU_ARCHIVE = { value = "../mistrogu/target/staticlib/libbook.a", relative = true }
+//! MISTROGU_ARCHIVE = { value = "../mistrogu/target/staticlib/libmistrogu.a", relative = true }
 //! ```
 
 #![no_std]

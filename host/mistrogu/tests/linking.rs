@@ -78,16 +78,16 @@ fn a_build_works_or_ends_with_one_sentence() {
     assert_told(run(&folder, None), &[line, "archive.sh)`", "config.toml"]);
     assert_told(run(&folder, Some(Path::new(""))), &[line]);
     assert_told(
-        run(&folder, Some(Path::new("libbook.a"))),
+        run(&folder, Some(Path::new("libmistrogu.a"))),
         &["a whole path"],
     );
-    let missing = folder.join("libbook.a");
+    let missing = folder.join("libmistrogu.a");
     assert_told(run(&folder, Some(&missing)), &["not there", line]);
     fs::write(&missing, "no archive").expect("the file is written");
     assert_told(run(&folder, Some(&missing)), &["no archive"]);
 
     let bytes = fs::read(&archive).expect("the archive is there");
-    let unnamed = folder.join("book.a");
+    let unnamed = folder.join("mistrogu.a");
     fs::write(&unnamed, &bytes).expect("the file is written");
     assert_told(run(&folder, Some(&unnamed)), &["libNAME.a"]);
     let other = folder.join("libother.a");
@@ -103,7 +103,7 @@ fn a_build_works_or_ends_with_one_sentence() {
     // As the README shows it: by the path from the folder that .cargo is in.
     fs::create_dir_all(folder.join(".cargo")).expect("there is room for a folder");
     fs::write(&missing, &bytes).expect("the file is written");
-    let config = format!("[env]\n{VARIABLE} = {{ value = \"libbook.a\", relative = true }}\n");
+    let config = format!("[env]\n{VARIABLE} = {{ value = \"libmistrogu.a\", relative = true }}\n");
     fs::write(folder.join(".cargo/config.toml"), config).expect("the file is written");
     assert_runs(run(&folder, None));
 }
