@@ -12,6 +12,9 @@ pub const OUTSIDE: [&str; 2] = ["memcpy", "memset"];
 pub struct Function {
     /// Its name.
     pub name: String,
+    /// The name of the object that it stands in. Another object may have a function
+    /// of the same name, if guests can call neither.
+    pub object: String,
     /// Whether the guest can call it.
     pub is_exported: bool,
     /// How many bytes its frame has where it is deepest.
@@ -86,6 +89,7 @@ fn read(names: &Names, place: Place, symbol: &Symbol) -> Result<Function, String
     }
     Ok(Function {
         name: symbol.name.clone(),
+        object: names.objects[object].name.clone(),
         is_exported: symbol.is_global,
         peak: frame.peak,
         calls,
@@ -267,6 +271,45 @@ SYMBOL TABLE:
         let asks = "0000000000000000         *UND*\t0000000000000000 abort\n";
         let error = found(&format!("{SYMBOLS}{asks}"), &call("memcpy-0x4")).unwrap_err();
         assert!(error.contains("asks for abort"), "{error}");
+    }
+
+    /// An object of this name with a call and an inner function, whose frame has so
+    /// many bytes; the inner one has the same name everywhere.
+    fn with_inner(object: &str, call: &str, bytes: usize) -> String {
+        format!(
+            "{object}:     file format elf64-x86-64
+SYMBOL TABLE:
+0000000000000000 l     F .text.in::first\t0000000000000010 in::first
+0000000000000000 g     F .text.{call}\t0000000000000010 {call}
+Disassembly of section .text.in::first:
+   0:\tsub    ${bytes:#x},%rsp
+   4:\tadd    ${bytes:#x},%rsp
+   8:\tret
+Disassembly of section .text.{call}:
+   0:\tcall   5 <{call}+0x5>
+\t\t\t1: R_X86_64_PLT32\tin::first-0x4
+   5:\tret
+"
+        )
+    }
+
+    #[test]
+    fn an_inner_function_is_that_of_its_own_object() {
+        let objects = [
+            ("book.o", "book_check", 8),
+            ("announcer.o", "announce_clip", 16),
+        ];
+        let text = objects.map(|(object, call, bytes)| with_inner(object, call, bytes));
+        let functions = functions(&object::read(&text.concat()).unwrap()).unwrap();
+        for (number, (object, call, bytes)) in objects.into_iter().enumerate() {
+            let [inner, outer] = &functions[2 * number..][..2] else {
+                panic!("two functions of each")
+            };
+            assert_eq!((&*inner.name, &*inner.object), ("in::first", object));
+            assert_eq!((&*outer.name, &*outer.object), (call, object));
+            assert_eq!(outer.calls[0].callee, Callee::Inside(2 * number));
+            assert_eq!(inner.peak, 8 + bytes as u64);
+        }
     }
 
     #[test]

@@ -14,7 +14,7 @@ use std::process::ExitCode;
 use std::{env, fs};
 
 /// How the names of the calls begin.
-const CALLS: [&str; 2] = ["book_", "list_"];
+const CALLS: [&str; 3] = ["book_", "list_", "announce_"];
 
 fn main() -> ExitCode {
     let words: Vec<String> = env::args().skip(1).collect();

@@ -11,6 +11,8 @@ pub const FORMAT: &str = "elf64-x86-64";
 /// A file in the archive.
 #[derive(Debug, Default)]
 pub struct Object {
+    /// Its name, without the archive's and without folders.
+    pub name: String,
     /// Its symbols.
     pub symbols: Vec<Symbol>,
     /// Its code, by the names of the sections.
@@ -72,11 +74,14 @@ pub fn read(text: &str) -> Result<Vec<Object>, String> {
     let mut objects: Vec<Object> = Vec::new();
     let mut part = Part::Head;
     for line in text.lines().filter(|line| !line.trim().is_empty()) {
-        if let Some((_, format)) = line.split_once("file format ") {
+        if let Some((file, format)) = line.split_once("file format ") {
             if format.trim() != FORMAT {
                 return Err(format!("the archive has code of {format}, not of {FORMAT}"));
             }
-            objects.push(Object::default());
+            objects.push(Object {
+                name: name_of(file).to_string(),
+                ..Object::default()
+            });
             part = Part::Head;
         } else if line == "SYMBOL TABLE:" {
             part = Part::Symbols;
@@ -88,6 +93,12 @@ pub fn read(text: &str) -> Result<Vec<Object>, String> {
         }
     }
     Ok(objects)
+}
+
+/// The name of an object that is called `NAME:`, `FOLDER/NAME:` or `ARCHIVE(NAME):`.
+fn name_of(file: &str) -> &str {
+    let file = file.trim().trim_end_matches(':').trim_end_matches(')');
+    file.rsplit(['/', '(']).next().unwrap_or(file)
 }
 
 /// The section whose code begins behind this line.
@@ -239,6 +250,7 @@ Disassembly of section .text:
         let [object] = &objects[..] else {
             panic!("one object")
         };
+        assert_eq!(object.name, "book.o");
         let symbols: Vec<_> = object.symbols.iter().skip(2).collect();
         assert_eq!(symbols[0].name, "nodes::write");
         assert_eq!(symbols[0].section.as_deref(), Some(".text.nodes::write"));
@@ -267,9 +279,17 @@ Disassembly of section .text:
     #[test]
     fn llvm_is_understood_too() {
         let objects = read(LLVM).unwrap();
+        assert_eq!(objects[0].name, "book.o");
         let code = &objects[0].sections[".text"];
         assert_eq!(code[&1].text, "subq $1064, %rsp             # imm = 0x428");
         assert_eq!(code[&8].relocations[0].symbol, "memset");
+    }
+
+    #[test]
+    fn an_object_is_called_by_its_own_name() {
+        for file in ["a.o:", "in/a.o:     ", "lib.a(a.o):\t", "/in/lib.a(a.o):"] {
+            assert_eq!(name_of(file), "a.o");
+        }
     }
 
     #[test]

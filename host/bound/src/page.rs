@@ -57,7 +57,8 @@ fn cycle(cycle: &Cycle) -> String {
         .map(|held| format!("`{}`", held.name))
         .collect();
     format!(
-        "The cycle is {}: {} bytes a level, and at most {MOST_LEVELS} levels, as is proved.\n",
+        "The cycle of `{}` is {}: {} bytes a level, and at most {MOST_LEVELS} levels, as is proved.\n",
+        cycle.object,
         names.join(" and "),
         grouped(cycle.level())
     )
@@ -88,16 +89,16 @@ fn fitting(fit: Fit) -> String {
     }
 }
 
-/// The frame of each function, by name.
+/// The frame of each function, by the objects and by name.
 fn frames(functions: &[Function]) -> String {
-    let mut rows: Vec<(&str, u64)> = functions
+    let mut rows: Vec<(&str, &str, u64)> = functions
         .iter()
-        .map(|function| (&*function.name, function.peak))
+        .map(|function| (&*function.object, &*function.name, function.peak))
         .collect();
     rows.sort_unstable();
-    let mut text = "| Function | Frame, bytes |\n|---|---:|\n".to_string();
-    for (name, peak) in rows {
-        text += &format!("| `{name}` | {} |\n", grouped(peak));
+    let mut text = "| Object | Function | Frame, bytes |\n|---|---|---:|\n".to_string();
+    for (object, name, peak) in rows {
+        text += &format!("| `{object}` | `{name}` | {} |\n", grouped(peak));
     }
     text
 }
@@ -135,26 +136,30 @@ mod tests {
             ],
         };
         let cycle = Cycle {
+            object: "book.o".to_string(),
             levels: vec![held("inspect::check_node", 176, 200)],
         };
-        let function = |name: &str, peak| Function {
+        let function = |object: &str, name: &str, peak| Function {
             name: name.to_string(),
+            object: object.to_string(),
             is_exported: false,
             peak,
             calls: Vec::new(),
         };
         let functions = [
-            function("inspect::check_node", 176),
-            function("book_check", 1064),
+            function("book.o", "inspect::check_node", 176),
+            function("book.o", "book_check", 1064),
+            function("announcer.o", "inspect::check_node", 192),
         ];
         let fits = [Fit::Nothing, Fit::Levels(1), Fit::Levels(44), Fit::Any];
         let page = page(&[("book_check", way, fits)], &[cycle], &functions);
         for line in [
             "| `book_check` | 35,264 | `book_check` 64, 200 times `inspect::check_node` 176 |",
-            "The cycle is `inspect::check_node`: 176 bytes a level, and at most 200 levels",
+            "The cycle of `book.o` is `inspect::check_node`: 176 bytes a level, and at most 200 levels",
             "| Call | 2 KiB | 4 KiB | 8 KiB | 23 KiB |\n|---|---|---|---|---|\n",
             "| `book_check` | nothing | 1 level | 44 levels | any |",
-            "| `book_check` | 1,064 |\n| `inspect::check_node` | 176 |",
+            "| `announcer.o` | `inspect::check_node` | 192 |\n| `book.o` | `book_check` | 1,064 |\n\
+             | `book.o` | `inspect::check_node` | 176 |\n",
         ] {
             assert!(page.contains(line), "{page}");
         }

@@ -41,6 +41,8 @@ pub struct Held {
 /// holds while it calls another one of them.
 #[derive(Debug, PartialEq, Eq)]
 pub struct Cycle {
+    /// The name of the object that they stand in.
+    pub object: String,
     /// A frame for each function, as often as it can be active.
     pub levels: Vec<Held>,
 }
@@ -205,7 +207,11 @@ impl<'a> Ways<'a> {
                 times: self.most_levels,
             }
         };
+        let object = members
+            .first()
+            .map(|&number| &self.functions[number].object);
         Cycle {
+            object: object.cloned().unwrap_or_default(),
             levels: members.iter().map(level).collect(),
         }
     }
@@ -360,6 +366,7 @@ mod tests {
         assert_eq!(ways.deepest(0), ways.deepest(1));
         let cycles = ways.cycles();
         assert_eq!(cycles.len(), 1);
+        assert_eq!(cycles[0].object, "a.o");
         assert_eq!((cycles[0].level(), cycles[0].levels.len()), (48, 2));
     }
 

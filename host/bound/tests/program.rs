@@ -61,6 +61,28 @@ list_head:
         .section .note.GNU-stack,"",@progbits
 "#;
 
+/// Another object: a call into a cycle of the same name, with frames of its own.
+const OTHER: &str = r#"
+        .text
+        .globl  announce_clip
+        .type   announce_clip, @function
+announce_clip:
+        jmp     "inspect::check_node"
+        .size   announce_clip, . - announce_clip
+
+        .section ".text.inspect::check_node","ax",@progbits
+        .type   "inspect::check_node", @function
+"inspect::check_node":
+        subq    $72, %rsp
+        decq    %rdi
+        je      1f
+        call    "inspect::check_node"
+1:      addq    $72, %rsp
+        ret
+        .size   "inspect::check_node", . - "inspect::check_node"
+        .section .note.GNU-stack,"",@progbits
+"#;
+
 /// A header with these numbers.
 fn header(build: u64, others: u64) -> String {
     format!(
@@ -81,14 +103,21 @@ fn folder(test: &str) -> PathBuf {
 /// Runs the program on this code, assembled, and this header.
 fn run(test: &str, code: &str, header: &str) -> Output {
     let folder = folder(test);
-    let [source, object, said] = ["code.s", "code.o", "header.h"].map(|name| folder.join(name));
-    fs::write(&source, code).expect("the code is written");
+    let object = assembled(&folder, "code", code);
+    let said = folder.join("header.h");
     fs::write(&said, header).expect("the header is written");
+    bound(&[&object, &said]).output().expect("the program runs")
+}
+
+/// The object of this name with this code.
+fn assembled(folder: &Path, name: &str, code: &str) -> PathBuf {
+    let [source, object] = ["s", "o"].map(|ending| folder.join(format!("{name}.{ending}")));
+    fs::write(&source, code).expect("the code is written");
     let mut assemble = Command::new("cc");
     assemble.arg("-c").arg(&source).arg("-o").arg(&object);
     let status = assemble.status().expect("there is a C compiler");
     assert!(status.success(), "the code is good");
-    bound(&[&object, &said]).output().expect("the program runs")
+    object
 }
 
 /// The program with these words.
@@ -112,12 +141,44 @@ fn known_frames_are_added_up() {
         "| `book_build` | 4,368 | `book_build` 4,360, `memset` 8 |",
         "| `book_check` | 12,800 | `book_check` 0, 200 times `inspect::check_node` 64 |",
         "| `list_head` | 16 | `list_head` 16 |",
-        "The cycle is `inspect::check_node`: 64 bytes a level, and at most 200 levels, as is proved.",
-        "| `book_build` | 4,360 |\n| `book_check` | 8 |\n| `inspect::check_node` | 64 |\n",
+        "The cycle of `code.o` is `inspect::check_node`: 64 bytes a level, and at most 200 levels, as is proved.",
+        "| `code.o` | `book_build` | 4,360 |\n| `code.o` | `book_check` | 8 |\n| `code.o` | `inspect::check_node` | 64 |\n",
     ] {
         assert!(page.contains(line), "{page}");
     }
     assert_eq!(errors, "");
+}
+
+#[test]
+fn of_two_objects_in_an_archive_each_has_its_own_inner_functions() {
+    let folder = folder("two");
+    let objects = [("book", CODE), ("announcer", OTHER)];
+    let objects = objects.map(|(name, code)| assembled(&folder, name, code));
+    let [archive, said] = ["libboth.a", "header.h"].map(|name| folder.join(name));
+    let _ = fs::remove_file(&archive);
+    let mut together = Command::new("ar");
+    together.arg("rcs").arg(&archive).args(objects);
+    let status = together.status().expect("there is an ar");
+    assert!(status.success(), "the archive is made");
+    let other = "struct mistrogu_answer MISTROGU_CALL(announce_clip)(void);\n";
+    for (header, status) in [
+        (header(4400, 16_100) + other, 0),
+        (header(4400, 16_100), 1),
+        (header(4400, 12_900) + other, 1),
+    ] {
+        fs::write(&said, &header).expect("the header is written");
+        let output = bound(&[&archive, &said]).output();
+        let (page, errors) = ended(output.expect("the program runs"), status);
+        for line in [
+            "| `announce_clip` | 16,000 | `announce_clip` 0, 200 times `inspect::check_node` 80 |",
+            "| `book_check` | 12,800 | `book_check` 0, 200 times `inspect::check_node` 64 |",
+            "The cycle of `book.o` is `inspect::check_node`: 64 bytes a level",
+            "The cycle of `announcer.o` is `inspect::check_node`: 80 bytes a level",
+        ] {
+            assert!(page.contains(line), "{page}");
+        }
+        assert_eq!(errors.contains("announce_clip"), status == 1, "{errors}");
+    }
 }
 
 #[test]
