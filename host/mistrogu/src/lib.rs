@@ -2,10 +2,10 @@
 //!
 //! A **book** keeps a strictly rising list of names in at most 65,535 bytes. The
 //! calls that build a book, check it, read its names back and answer questions
-//! about them, that salvage what is left of a damaged one, and that merge two lists,
-//! are proved: each does what its text says, for any bytes and any numbers. This
-//! crate gives them types. It needs no heap and no standard library, and has no
-//! unsafe line of its own.
+//! about them, that tell which recorded clip speaks a name, that salvage what is left
+//! of a damaged book, and that merge two lists, are proved: each does what its text
+//! says, for any bytes and any numbers. This crate gives them types. It needs no heap
+//! and no standard library, and has no unsafe line of its own.
 //!
 //! | You want to | Call |
 //! |---|---|
@@ -23,6 +23,8 @@
 //! | know how much space the stops that begin with some letters take | [`width`] |
 //! | know how far a question looked | the same five in [`counted`] |
 //! | ask many questions of one book | [`Batch`] |
+//! | have the clip that speaks what was typed | [`clip`] |
+//! | have the clips of a route | [`route`] |
 //! | have what is left of a damaged book | [`salvage`] |
 //!
 //! ```
@@ -71,7 +73,8 @@
 //! # Refusals
 //!
 //! A call that says no gives a [`Refusal`], why; one that takes lists gives a
-//! [`Refused`], why and at which record of which list, which `?` makes into a
+//! [`Refused`], why and at which record of which list, and [`route`] a
+//! [`RouteRefused`], why and at which place, both of which `?` makes into a
 //! [`Refusal`]. Where several would fit, it is the first in the order that stands
 //! with the call. The call has then changed nothing that was lent to it. A call that
 //! is accepted writes its output at the front of the lent room and leaves the rest as
@@ -110,6 +113,7 @@
 #[doc = include_str!("../../../README.md")]
 mod readme {}
 
+mod announcer;
 mod batch;
 pub mod counted;
 mod list;
@@ -121,6 +125,7 @@ use core::ops::Range;
 
 use proved::Answer;
 
+pub use announcer::{clip, route, RouteRefused, Spoken};
 pub use batch::{Batch, Replies, Reply};
 #[doc(inline)]
 pub use format::{

@@ -2,8 +2,8 @@
 //! changed.
 
 use mistrogu::{
-    build, check, exact, heads, judge, merge, nearest, place, range, read, width, Batch, Kind,
-    Refusal, Refused, Which,
+    build, check, clip, exact, heads, judge, merge, nearest, place, range, read, route, width,
+    Batch, Kind, Refusal, Refused, RouteRefused, Spoken, Which, MOST_STOPS,
 };
 
 const LIST: &[u8] = b"\x03Mar\x06Marina\x0DMarket Square";
@@ -203,6 +203,71 @@ fn a_row_is_refused_with_11_then_1_then_10_and_the_others_go_on() {
     for ((kind, span, expected), reply) in cases.into_iter().zip(replies) {
         let replied = reply.map(|_| ()).map_err(Refusal::number);
         assert_eq!(replied, expected, "{kind:?}, {span:?}");
+    }
+}
+
+#[test]
+fn a_text_is_refused_with_2_then_16_then_1() {
+    let (book, no_names) = (book_of(LIST), book_of(&[]));
+    for clips in [&[1; 3][..], &[1; 2]] {
+        assert_eq!(clip(&book[1..], clips, &LONG), Err(Refusal::NoBook));
+    }
+    for (book, clips) in [(&book, &[1; 2][..]), (&book, &[1; 4]), (&no_names, &[1])] {
+        assert_eq!(clip(book, clips, &LONG), Err(Refusal::BadClipTable));
+        assert_eq!(clip(book, clips, b"Mar"), Err(Refusal::BadClipTable));
+    }
+    for (book, clips) in [(&book, &[1; 3][..]), (&no_names, &[])] {
+        assert_eq!(clip(book, clips, &LONG), Err(Refusal::QuestionTooLong));
+        assert_eq!(clip(book, clips, &LONG[1..]), Ok(Spoken::Names(0)));
+    }
+}
+
+/// Asserts that a route is refused so, and leaves the room as it was.
+fn route_refused(
+    book: &[u8],
+    clips: &[u16],
+    positions: &[usize],
+    room: usize,
+    why: (Refusal, usize),
+) {
+    let mut room = vec![0xAAAA; room];
+    let (refusal, place) = why;
+    let refused = RouteRefused { refusal, place };
+    assert_eq!(route(book, clips, positions, &mut room), Err(refused));
+    assert!(room.iter().all(|&clip| clip == 0xAAAA));
+}
+
+#[test]
+fn a_route_is_refused_with_2_then_16_then_12_then_3_then_4() {
+    let book = book_of(LIST);
+    let (clips, many) = (&[1; 3], &[9; MOST_STOPS + 1]);
+    for room in [0, 1, MOST_STOPS + 1] {
+        for clips in [&clips[..], &clips[1..]] {
+            route_refused(&book[1..], clips, many, room, (Refusal::NoBook, 0));
+        }
+        route_refused(&book, &clips[1..], many, room, (Refusal::BadClipTable, 0));
+        route_refused(&book, &[1; 4], &[9], room, (Refusal::BadClipTable, 0));
+        route_refused(&book, clips, many, room, (Refusal::BadBatch, 0));
+        let positions = &mut [0; MOST_STOPS];
+        positions[7..].fill(3);
+        route_refused(&book, clips, positions, room, (Refusal::NoSuchPosition, 7));
+    }
+    route_refused(&book, clips, &[0; 2], 1, (Refusal::RoomTooShort, 0));
+    assert_eq!(route(&book, clips, &[0; 2], &mut [0; 2]), Ok(&[1; 2][..]));
+    assert_eq!(route(&book, clips, &[], &mut []), Ok(&[][..]));
+}
+
+#[test]
+fn a_place_is_told_just_where_it_is_known() {
+    for refusal in Refusal::ALL {
+        let refused = RouteRefused { refusal, place: 7 };
+        let told = match refusal {
+            Refusal::NoSuchPosition => "place 7 of the route: ",
+            _ => "",
+        };
+        let sentence = format!("{told}{}", refusal.sentence());
+        assert_eq!(refused.to_string(), sentence);
+        assert_eq!(Refusal::from(refused), refusal);
     }
 }
 

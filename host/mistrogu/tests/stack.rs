@@ -5,7 +5,9 @@
 
 use fenced::apart::{last_lines, run_test, word};
 use fenced::{on_stack, Fence, Fenced};
-use mistrogu::{blocks_of, BUILD_STACK, LONGEST_BOOK, LONGEST_NAME, MOST_SALVAGED, STACK};
+use mistrogu::{
+    blocks_of, BUILD_STACK, LONGEST_BOOK, LONGEST_NAME, MOST_SALVAGED, MOST_STOPS, STACK,
+};
 use model::{book_check, book_of, write_list, BookKind};
 use proved::{Answer, Counted, Kept, Row};
 use vectors::folded::on_past_the_end;
@@ -121,6 +123,25 @@ fn call_with_book(lent: &Lent, fence: Fence) {
     say("batch", about);
     let batched = batch(&book, &question, fence);
     assert_eq!(batched.code, *code);
+    say("clip and route", about);
+    let announced = announce(&book, &question, checked.first, fence);
+    assert_eq!(announced.map(|answer| answer.code), [*code; 2], "{about}");
+}
+
+/// The clip for this text, and the clips of a route, by a table of so many clips.
+fn announce(book: &[u8], text: &Fenced<u8>, names: usize, fence: Fence) -> [Answer; 2] {
+    let clips: Vec<u16> = (0..2000).rev().take(names).collect();
+    let clips = Fenced::of(&clips, fence);
+    let clip = on_stack(STACK, || proved::announce_clip(book, &clips, text));
+    let positions: Vec<usize> = (0..names).rev().take(MOST_STOPS).collect();
+    let positions = Fenced::of(&positions, fence);
+    let mut room = Fenced::of(&vec![0; positions.len()], fence);
+    let route = on_stack(STACK, || {
+        proved::announce_route(book, &clips, &positions, &mut room)
+    });
+    let row = positions.iter().map(|&position| clips[position]);
+    assert!(route.code != 0 || room.iter().copied().eq(row));
+    [clip, route]
 }
 
 /// Asks 64 questions at once: parts of this one, in all kinds.
