@@ -60,7 +60,7 @@ impl Words {
 
 /// A number of decimal digits, without a sign, and with commas where they are
 /// printed, or none.
-fn read_number(text: &str) -> Option<usize> {
+pub fn read_number(text: &str) -> Option<usize> {
     let digits = text.replace(',', "");
     let is_number = digits.bytes().all(|byte| byte.is_ascii_digit());
     let number = is_number.then(|| digits.parse().ok())??;

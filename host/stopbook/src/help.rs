@@ -2,7 +2,7 @@
 
 /// Where no command is given.
 pub const NO_COMMAND: &str =
-    "give a command: build, merge, list, ask, check, salvage, tree; see: stopbook --help";
+    "give a command: build, merge, list, ask, clip, route, check, salvage, tree; see: stopbook --help";
 
 /// The help of the tool.
 pub const TOOL: &str = "\
@@ -12,6 +12,8 @@ stopbook: books of stop names, built, checked, listed and asked by the proved li
   stopbook merge A.txt B.txt [-o TEXT]             make one list of names from two
   stopbook list BOOK [--long]                      print its names, or their numbers, too
   stopbook ask BOOK [KIND QUESTION]                ask it: exact, place, range, nearest, width
+  stopbook clip BOOK CLIPS TEXT                    tell the clip that speaks what is typed
+  stopbook route BOOK CLIPS [STOP ..]              tell the clips of a route
   stopbook check BOOK                              say whether it is a book, and of which kind
   stopbook salvage CARD [-o TEXT]                  write the names left of a damaged book
   stopbook tree BOOK [--svg FILE | --dot FILE]     draw its tree
@@ -172,6 +174,61 @@ Examples:
   printf 'exact Mar\\nrange Harb\\n' | stopbook ask stops.book
   printf 'exact Mar\\nrange Harb\\n' | stopbook ask stops.book --tsv
   stopbook ask stops.book exact Marina --looked
+";
+
+/// The help of `clip`.
+pub const CLIP: &str = "\
+stopbook clip BOOK CLIPS TEXT [--tsv]
+
+Tells which recorded clip the announcer plays for a text: that of the stop of this name, or
+else of the only stop whose name begins with the text. Where there is neither, it tells how
+many names begin with the text. A folded book takes the text in any case.
+
+CLIPS is a text with a number on each line, 0 to 65535: line 1 is for the first name that
+`stopbook list BOOK` prints, line 2 for the second, and so on. No line may be empty, and
+there are as many lines as the book has names. Bad lines are told by number. So the clips
+belong to one book: when names are added or taken away, make them anew. Another book's clips
+are taken if there are as many.
+
+  --tsv   for programs: one line with four fields and a tab between each two:
+
+            answer   yes, no, or refused; why is told on standard error
+            clip     the clip
+            names    how many names begin with the text, where there is no clip
+            text     the text, printed as names are
+
+          Numbers have digits alone. A lone - stands where there is no such number.
+
+The exit status is 1 where there is no clip.
+
+Examples:
+
+  seq 301 320 > clips.txt
+  stopbook clip stops.book clips.txt Mar
+  stopbook clip stops.book clips.txt Mark --tsv
+";
+
+/// The help of `route`.
+pub const ROUTE: &str = "\
+stopbook route BOOK CLIPS [STOP ..] [--names] [--tsv]
+
+Tells the clips of a route, in its order. A route has up to 120 stops, and may come to a stop
+several times. A STOP is a position, as `stopbook list BOOK --long` prints it. Without a STOP
+they are read from standard input, one on each line; empty lines are skipped. Where one of
+them is no stop, nothing is printed but which.
+
+CLIPS is a text with a number on each line, as `stopbook clip --help` says.
+
+  --names   stops are given by name: all of it, in any case for a folded book
+  --tsv     for programs: a line for each stop, with four fields and a tab between each two:
+            its place in the route, from 0, its position, its clip and its name
+
+The exit status is 1 where the route is refused.
+
+Examples:
+
+  stopbook route stops.book clips.txt 8 13 16
+  printf 'Harbour\\nMarket Square\\nStation\\n' | stopbook route stops.book clips.txt --names
 ";
 
 /// The help of `check`.

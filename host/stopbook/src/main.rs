@@ -25,12 +25,13 @@
 //! | [`empty`] | outputs without names, which have to be asked for |
 //! | [`size`] | how long the book of some names will be |
 //! | [`progress`] | how far a long reading is |
-//! | [`build`], [`merge`], [`list`], [`ask`], [`check`], [`salvage`], [`tree`] | the commands |
+//! | [`build`], [`merge`], [`list`], [`ask`], [`announcer`], [`check`], [`salvage`], [`tree`] | the commands |
 
 #![forbid(unsafe_code)]
 #![warn(missing_docs)]
 
 mod accents;
+mod announcer;
 mod args;
 mod ask;
 mod book;
@@ -76,11 +77,13 @@ pub struct Command {
 }
 
 /// Every command, in the order of the help.
-const COMMANDS: [Command; 7] = [
+const COMMANDS: [Command; 9] = [
     build::COMMAND,
     merge::COMMAND,
     list::COMMAND,
     ask::COMMAND,
+    announcer::CLIP,
+    announcer::ROUTE,
     check::COMMAND,
     salvage::COMMAND,
     tree::COMMAND,

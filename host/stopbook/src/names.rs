@@ -42,7 +42,7 @@ pub struct Double {
     pub first: Line,
 }
 
-/// A line that cannot be a name.
+/// A line that cannot be a name, or what else is read from lines.
 #[derive(Clone, Debug, PartialEq, Eq)]
 pub struct Bad {
     /// Counted from 1.
@@ -66,20 +66,26 @@ pub struct Names {
 
 /// Reads the bytes of a file, as names for this kind of book.
 pub fn parse(kind: BookKind, taking: Taking, bytes: &[u8]) -> Names {
-    let bytes = bytes.strip_prefix(MARK).unwrap_or(bytes);
     let mut names = Names::default();
-    let mut lines = Vec::new();
-    for (index, line) in bytes.split_inclusive(|&byte| byte == b'\n').enumerate() {
+    let mut found = Vec::new();
+    for (number, line) in lines(bytes) {
         let name = match taking {
-            Taking::Trimmed => looks::trimmed(without_end(line)),
-            Taking::Careful | Taking::AsIs => without_end(line),
+            Taking::Trimmed => looks::trimmed(line),
+            Taking::Careful | Taking::AsIs => line,
         };
         if !name.is_empty() {
-            lines.extend(judge(index + 1, name, taking, &mut names));
+            found.extend(judge(number, name, taking, &mut names));
         }
     }
-    sort(kind, lines, &mut names);
+    sort(kind, found, &mut names);
     names
+}
+
+/// The lines of a file, without their ends, and each with its number.
+pub fn lines(bytes: &[u8]) -> impl Iterator<Item = (usize, &[u8])> {
+    let bytes = bytes.strip_prefix(MARK).unwrap_or(bytes);
+    let lines = bytes.split_inclusive(|&byte| byte == b'\n');
+    (1..).zip(lines.map(without_end))
 }
 
 /// A line without its end, where it has one: LF or CR LF.

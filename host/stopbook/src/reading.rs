@@ -60,10 +60,7 @@ impl Text {
             let text = format!("{source} has more than 64 MiB, too much for a list of names");
             return Err(Failure::refused(text));
         }
-        if names::is_utf16(&bytes) {
-            let text = format!("{source} is UTF-16; save it as UTF-8 and try again");
-            return Err(Failure::refused(text));
-        }
+        refuse_utf16(&bytes, &source)?;
         let names = names::parse(kind, taking, &bytes);
         tell(&names, taking, &source, streams);
         match names.bad.len() + names.control.len() {
@@ -71,13 +68,7 @@ impl Text {
                 source,
                 lines: names.rising,
             }),
-            bad => {
-                let lines = counted(bad, "bad line");
-                let which = if bad == 1 { "it" } else { "them" };
-                let text =
-                    format!("{source}: {lines}, so nothing is written; mend {which} and try again");
-                Err(Failure::refused(text))
-            }
+            bad => Err(bad_lines(bad, &source, "nothing is written")),
         }
     }
 
@@ -85,6 +76,46 @@ impl Text {
     pub fn names(&self) -> Vec<Vec<u8>> {
         self.lines.iter().map(|line| line.name.clone()).collect()
     }
+}
+
+/// Refuses a text that looks like UTF-16.
+pub fn refuse_utf16(bytes: &[u8], source: &str) -> Result<(), Failure> {
+    if names::is_utf16(bytes) {
+        let text = format!("{source} is UTF-16; save it as UTF-8 and try again");
+        return Err(Failure::refused(text));
+    }
+    Ok(())
+}
+
+/// What was read from the lines of a text that has no names, or a refusal where a
+/// line is bad, and what does not happen then. The bad ones are named first.
+pub fn refuse_bad<T>(
+    lines: impl Iterator<Item = Result<T, Bad>>,
+    source: &str,
+    outcome: &str,
+    streams: &mut Streams,
+) -> Result<Vec<T>, Failure> {
+    let (mut read, mut bad) = (Vec::new(), Vec::new());
+    for line in lines {
+        match line {
+            Ok(item) => read.push(item),
+            Err(line) => bad.push(line),
+        }
+    }
+    if bad.is_empty() {
+        return Ok(read);
+    }
+    tell_bad(&bad, MOST_TOLD, What("bad line", ""), source, streams);
+    Err(bad_lines(bad.len(), source, outcome))
+}
+
+/// So many bad lines, and what does not happen for them.
+fn bad_lines(bad: usize, source: &str, outcome: &str) -> Failure {
+    let lines = counted(bad, "bad line");
+    let which = if bad == 1 { "it" } else { "them" };
+    Failure::refused(format!(
+        "{source}: {lines}, so {outcome}; mend {which} and try again"
+    ))
 }
 
 /// Tells all that is to be told of the lines of a text.

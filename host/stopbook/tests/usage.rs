@@ -6,7 +6,9 @@ use common::{Folder, EXAMPLE};
 use std::io::Read;
 use std::process::{Command, Stdio};
 
-const COMMANDS: [&str; 7] = ["build", "merge", "list", "ask", "check", "salvage", "tree"];
+const COMMANDS: [&str; 9] = [
+    "build", "merge", "list", "ask", "clip", "route", "check", "salvage", "tree",
+];
 
 #[test]
 fn the_help_names_every_command_and_every_exit_status() {
@@ -50,6 +52,14 @@ fn the_outputs_in_the_readme_are_what_the_program_prints() {
     let lines = b"exact Mar\nrange Harb\n";
     let ran = folder.run_with(&["ask", "stops.book", "--tsv"], lines);
     assert_in_readme(ran.out());
+    let clips: String = (301..=320).map(|clip| format!("{clip}\n")).collect();
+    folder.write("clips.txt", clips.as_bytes());
+    let typed = ["Mar", "Mark", "Harb"];
+    let spoken = typed.map(|text| folder.run(&["clip", "stops.book", "clips.txt", text]));
+    assert_in_readme(&spoken.map(|ran| ran.out().to_string()).concat());
+    let stops = b"Harbour\nMarket Square\nStation\n";
+    let ran = folder.run_with(&["route", "stops.book", "clips.txt", "--names"], stops);
+    assert_in_readme(ran.out());
     let ran = folder.run(&["build", "stops.txt", "--fold", "-o", "typed.book"]);
     assert_eq!(ran.status, 0);
     let asked = [
@@ -85,7 +95,8 @@ fn the_version_is_that_of_the_crate() {
 #[test]
 fn wrong_usage_has_exit_status_2_and_says_where_to_look() {
     let folder = Folder::with("mar.book", EXAMPLE);
-    let cases: [(&[&str], &str); 16] = [
+    folder.write("mar.txt", b"1\n2\n3\n");
+    let cases: [(&[&str], &str); 24] = [
         (&[], "give a command"),
         (&["bild", "x"], "bild is no command"),
         (&["help", "bild"], "bild is no command"),
@@ -97,6 +108,17 @@ fn wrong_usage_has_exit_status_2_and_says_where_to_look() {
         (&["merge", "-", "-"], "standard input can be read once"),
         (&["list"], "give one book"),
         (&["check", "a", "b"], "give one book"),
+        (&["clip"], "give a book, a text of clips"),
+        (&["clip", "a", "b"], "and what is typed"),
+        (&["clip", "a", "b", "c", "d"], "give one text"),
+        (&["clip", "-", "-", "c"], "standard input can be read once"),
+        (&["route", "a"], "give a book, a text of clips and a route"),
+        (&["route", "-", "a"], "the clips must be files"),
+        (&["route", "a", "-"], "the clips must be files"),
+        (
+            &["route", "mar.book", "mar.txt", "0", "Mar"],
+            "Mar is no position; give numbers, or names with --names",
+        ),
         (&["salvage"], "give one damaged book"),
         (&["salvage", "a", "b"], "give one damaged book"),
         (
@@ -114,10 +136,18 @@ fn wrong_usage_has_exit_status_2_and_says_where_to_look() {
             .run(words)
             .assert_fails(2, &["stopbook: ", text, "--help"]);
     }
-    for command in ["list", "check", "salvage", "tree", "ask"] {
-        folder
-            .run(&[command, "gone"])
-            .assert_fails(2, &["gone cannot be read"]);
+    for words in [
+        &["list", "gone"][..],
+        &["check", "gone"],
+        &["salvage", "gone"],
+        &["tree", "gone"],
+        &["ask", "gone"],
+        &["clip", "gone", "mar.txt", "Mar"],
+        &["clip", "mar.book", "gone", "Mar"],
+        &["route", "gone", "mar.txt"],
+        &["route", "mar.book", "gone"],
+    ] {
+        folder.run(words).assert_fails(2, &["gone cannot be read"]);
     }
 }
 
