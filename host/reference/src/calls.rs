@@ -96,6 +96,8 @@ impl Head {
 
 /// A batch has 0 to 64 rows.
 const MOST_ROWS: usize = 64;
+/// A route has 0 to 120 positions.
+const MOST_STOPS: usize = 120;
 
 /// Code 0 and the two numbers of the answer.
 fn accepted(first: usize, second: usize) -> Answer {
@@ -199,6 +201,14 @@ impl Book<'_> {
         match self {
             Book::Plain(sound) => ask(sound, kind, question),
             Book::Folded(sound) => ask(sound, kind, question),
+        }
+    }
+
+    /// How many names it has.
+    fn names(self) -> usize {
+        match self {
+            Book::Plain(sound) => sound.names(),
+            Book::Folded(sound) => sound.names(),
         }
     }
 
@@ -378,4 +388,67 @@ pub fn list_head(first: &[u8], second: &[u8], passed_first: usize, passed_second
         Err(_) => Head::EMPTY,
         Ok(pair) => pair.head(passed_first, passed_second),
     }
+}
+
+/// The clip for a text: (1, clip) of the name that equals it, or else of the only one
+/// that begins with it; (0, how many names begin with it) where there is neither.
+/// Refusals: 2, 16, 1.
+pub fn announce_clip(book: &[u8], clips: &[u16], text: &[u8]) -> Answer {
+    let Some(book) = sound(book) else {
+        return refused(2, 0);
+    };
+    if clips.len() != book.names() {
+        return refused(16, 0);
+    }
+    // SAFETY: every position is below the number of names.
+    let spoken = |position| accepted(1, unsafe { clip_at(clips, position) }.into());
+    let exact = book.ask(1, text);
+    match (exact.code, exact.second) {
+        (0, 0) => {}
+        (0, _) => return spoken(exact.first),
+        (code, _) => return refused(code, 0),
+    }
+    let range = book.ask(3, text);
+    match range.second {
+        1 => spoken(range.first),
+        names => accepted(0, names),
+    }
+}
+
+/// The clips of a route: how many bytes are written. Refusals: 2, 16, 12; 3, with the
+/// place of the first bad position; 4.
+pub fn announce_route(book: &[u8], clips: &[u16], positions: &[usize], room: &mut [u16]) -> Answer {
+    let checked = book_check(book);
+    if checked.code != 0 {
+        return refused(2, 0);
+    }
+    if clips.len() != checked.first {
+        return refused(16, 0);
+    }
+    if positions.len() > MOST_STOPS {
+        return refused(12, 0);
+    }
+    if let Some(bad) = positions.iter().position(|&at| at >= clips.len()) {
+        return refused(3, bad);
+    }
+    if room.len() < positions.len() {
+        return refused(4, 0);
+    }
+    for (place, &position) in room.iter_mut().zip(positions) {
+        // SAFETY: no position is bad.
+        *place = unsafe { clip_at(clips, position) };
+    }
+    accepted(2 * positions.len(), 0)
+}
+
+/// The clip at a position.
+///
+/// # Safety
+///
+/// There has to be such a position.
+#[inline(always)]
+unsafe fn clip_at(clips: &[u16], position: usize) -> u16 {
+    debug_assert!(position < clips.len());
+    // SAFETY: there is such a position.
+    unsafe { *clips.get_unchecked(position) }
 }

@@ -152,3 +152,38 @@ unsafe extern "C" fn list_head(
         passed_second,
     )
 }
+
+#[no_mangle]
+unsafe extern "C" fn announce_clip(
+    book: *const u8,
+    length: usize,
+    clips: *const u16,
+    count: usize,
+    text: *const u8,
+    size: usize,
+) -> Answer {
+    crate::announce_clip(
+        from_raw_parts(book, length),
+        from_raw_parts(clips, count),
+        from_raw_parts(text, size),
+    )
+}
+
+#[no_mangle]
+unsafe extern "C" fn announce_route(
+    book: *const u8,
+    length: usize,
+    clips: *const u16,
+    count: usize,
+    positions: *const usize,
+    stops: usize,
+    room: *mut u16,
+    places: usize,
+) -> Answer {
+    crate::announce_route(
+        from_raw_parts(book, length),
+        from_raw_parts(clips, count),
+        from_raw_parts(positions, stops),
+        from_raw_parts_mut(room, places),
+    )
+}

@@ -37,9 +37,9 @@ pub mod rules;
 pub mod salvaging;
 
 pub use calls::{
-    book_batch, book_build, book_build_folded, book_check, book_exact, book_nearest, book_place,
-    book_range, book_read, book_salvage, book_width, list_head, list_judge, list_merge, Answer,
-    Counted, Head, Kept, Row,
+    announce_clip, announce_route, book_batch, book_build, book_build_folded, book_check,
+    book_exact, book_nearest, book_place, book_range, book_read, book_salvage, book_width,
+    list_head, list_judge, list_merge, Answer, Counted, Head, Kept, Row,
 };
 
 /// A name has 1 to 200 bytes, a question up to 200.
