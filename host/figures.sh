@@ -149,6 +149,15 @@ questions() {
     done < <(sed -n 's/^\([a-z_]*\): [0-9]* questions, \(-\{0,1\}[0-9]*\) instructions on average, \([0-9]*\) at most, for \(.*\)$/\1 \2 \3 \4/p' "$work/said")
 }
 
+# Counts the clips of the mix's texts: on average, and the most.
+texts() {
+    local key=$1 average most
+    "$host/measure.sh" clips "$2" >"$work/said" || fail "measure.sh clips $2 failed"
+    read -r average most < <(sed -n 's/^announce_clip: [0-9]* texts, \([0-9]*\) instructions on average, \([0-9]*\) at most, for .*$/\1 \2/p' "$work/said")
+    of[$who $key]=$average
+    of[$who $key most]=$most
+}
+
 # The bytes of stack that a call takes, painted.
 painted() {
     local key=$1
@@ -182,6 +191,16 @@ of_large_lists() {
         done
         count "sound $name" salvage "$work/$name.book"
         count "worn $name" salvage "$work/$name.card"
+    done
+}
+
+# What is counted of the announcer.
+of_announcer() {
+    local name
+    for name in "${large[@]}"; do
+        say "$who, $name: clips, route"
+        texts "clips $name" "$work/$name.book"
+        count "route $name" route "$work/$name.book"
     done
 }
 
@@ -233,6 +252,8 @@ of_stacks() {
         painted "check $name" check "$work/$name.book"
         painted "read $name" read "$work/$name.book" 0
         painted "batch $name" batch "$work/$name.book"
+        painted "clip $name" clip "$work/$name.book" "${of[$name range dearest]}"
+        painted "route $name" route "$work/$name.book"
         painted "salvage $name" salvage "$work/$name.book"
         painted "merge $name" merge "${file[$name]}" "${file[$name]}"
         of[stack ask $name]=0
@@ -274,6 +295,7 @@ done
 use own "$product"
 of_every_list
 of_large_lists
+of_announcer
 of_heads
 of_folded
 of_dearest
@@ -289,6 +311,7 @@ run difftest -- --cases "$cases" --seed 1 2>/dev/null >"$work/cases.md" || fail 
 use reference "$("$host/reference.sh")"
 of_every_list
 of_large_lists
+of_announcer
 of_dearest
 export MISTROGU_ARCHIVE=$product
 use small "$("$host/small.sh")"
@@ -390,6 +413,21 @@ batching() {
     local name
     for name in "${large[@]}"; do
         echo "| \`$name\` | $(both "batch $name") | $(both "alone $name") |"
+    done
+    close_part
+}
+
+announcing() {
+    echo "## The announcer"
+    echo
+    open_part announcer
+    echo "| Book | \`announce_clip\`, after the check, average | reference | exact and range | most | reference | \`announce_route\`, 120 stops, after the check | reference | a stop |"
+    echo "|---|---:|---:|---:|---:|---:|---:|---:|---:|"
+    local name two stop
+    for name in "${large[@]}"; do
+        two=$((${of[own $name exact]} + ${of[own $name range]}))
+        stop=$(awk -v all="${of[own route $name]}" -v check="${of[own check $name]}" 'BEGIN { printf "%.1f", (all - check) / 120 }')
+        echo "| \`$name\` | $(both "clips $name") | $(g "$two") | $(both "clips $name most") | $(after_check "route $name" "check $name") | $stop |"
     done
     close_part
 }
@@ -497,12 +535,12 @@ stacks() {
     of_bound "The cycle"
     close_part
     open_part painted
-    echo "| List | build | check | read | question | batch | salvage | merge with itself |"
-    echo "|---|---:|---:|---:|---:|---:|---:|---:|"
+    echo "| List | build | check | read | question | batch | clip | route | salvage | merge with itself |"
+    echo "|---|---:|---:|---:|---:|---:|---:|---:|---:|---:|"
     local name call row
     for name in "${all[@]}"; do
         row="| \`$name\` |"
-        for call in build check read ask batch salvage merge; do row+=" $(g "${of[stack $call $name]}") |"; done
+        for call in build check read ask batch clip route salvage merge; do row+=" $(g "${of[stack $call $name]}") |"; done
         echo "$row"
     done
     echo
@@ -562,7 +600,7 @@ random_cases() {
     close_part
 }
 
-for part in state building checking asking batching two_lists cards folded growing dearest by_bytes stacks others screen vector_sets random_cases; do
+for part in state building checking asking batching announcing two_lists cards folded growing dearest by_bytes stacks others screen vector_sets random_cases; do
     "$part"
 done >"$folder/figures.md"
 cat "$folder/figures.md"

@@ -7,12 +7,15 @@
 #   host/measure.sh read BOOKFILE POSITION        of book_read at that position of that book
 #   host/measure.sh exact BOOKFILE QUESTION       of book_exact with that question to that book
 #   host/measure.sh place|range|nearest|width ..  of book_place, book_range, book_nearest, book_width, as for exact
+#   host/measure.sh clip BOOKFILE TEXT            of announce_clip with that text to that book
+#   host/measure.sh route BOOKFILE [STOPS]        of announce_route with so many positions of that book, or with 120
 #   host/measure.sh salvage CARDFILE              of book_salvage on that card, into a room that is always long enough
 #   host/measure.sh merge FIRST SECOND            of list_merge on these two lists, into a room as long as both
 #   host/measure.sh judge FIRST SECOND            of list_judge on them
 #   host/measure.sh step FIRST SECOND COUNT COUNT of list_head behind so many records of the first and of the second
 #   host/measure.sh questions BOOKFILE            of mixed questions to that book, less those of its check
 #   host/measure.sh batch BOOKFILE                of book_batch with 64 mixed questions to that book, and of each of them alone
+#   host/measure.sh clips BOOKFILE                of announce_clip with the texts of the same mix, less those of the book's check
 #   host/measure.sh screen BOOKFILE TYPED         of a book_range with what is typed, and a book_read of the first ten names of it
 #   host/measure.sh growth                        of build, check and place, on lists of which one parameter doubles
 #   host/measure.sh worst [SEED]                  of check and place, on shapes that may cost most: the ten dearest of each
@@ -22,7 +25,7 @@
 #   host/measure.sh book LISTFILE K BOOKFILE      counts nothing, but writes a list's book, and tells its names and levels
 #   host/measure.sh fold LISTFILE K NAME          counts nothing, but writes a list's names for folded books, and those books
 #
-# A question is a text, or `hex:` and two digits for each byte. `vectors lists FOLDER` and `vectors books FOLDER K` write files to measure
+# A question, like a text, is a word, or `hex:` and two digits for each byte. The clip at each position is the position's own number. `vectors lists FOLDER` and `vectors books FOLDER K` write files to measure
 # with, and `split` two more: the records of that list that have odd numbers, counted from 0, and those that have even ones. Of what `wear`
 # writes, a damaged block is broken in its last entry, so all of it is gone through before it is dropped. `fold` writes NAME-folded.list and
 # NAME-folded.book, with the names as they are spelt, and NAME-turns.list and NAME-turns.book, in small letters and capitals by turns, so that
@@ -48,6 +51,7 @@ usage() {
 case $1 in
 -h | --help) usage && exit ;;
 merge | judge) call=list_$1 ;;
+clip | route) call=announce_$1 ;;
 step) call=list_head ;;
 *) call=book_$1 ;;
 esac
@@ -78,10 +82,11 @@ one_call() {
 }
 
 # Of each of many calls: writes the line that `bench` prints for it, behind its instructions, to the file `counts`. Only what is inside the
-# calls is counted, and a profile is written at the end of each: profile.1 for the first, and so on.
+# calls is counted, whose names begin with the first word, and a profile is written at the end of each: profile.1 for the first, and so on.
 each_call() {
-    local number=0 line
-    profiled --toggle-collect='book_*' --dump-after='*measured_*' -- "$@" >"$work/calls"
+    local begin=$1 number=0 line
+    shift
+    profiled --toggle-collect="${begin}_*" --dump-after='*measured_*' -- "$@" >"$work/calls"
     while IFS= read -r line; do
         number=$((number + 1))
         echo "$(sed -n 's/^totals: //p' "$profile.$number") $line"
@@ -94,7 +99,7 @@ counted='$1 !~ /^[1-9][0-9]*$/ { print "a call is not in the profile: " $0 > "/d
 # Of mixed questions: the check, then each question. Their answers are held to the second program outside of the profiler, where that is soon done.
 mixed_questions() {
     "$bench" questions "$@" >"$work/right"
-    each_call asked "$@"
+    each_call book asked "$@"
     cmp -s "$work/right" "$work/calls" || { echo "questions $*: other answers under the profiler" >&2 && exit 1; }
     awk "$counted"'
         # instructions, kind, the word answer, its numbers and a colon, the question
@@ -119,9 +124,32 @@ mixed_questions() {
         }' "$work/counts"
 }
 
+# Of the texts of the mix. The check is counted by itself: the announcer's calls may come to a function of the book's, whose name would begin and
+# end the counting in their midst.
+mixed_texts() {
+    local check
+    call=book_check
+    check=$(one_call check "$@" | sed -n 's/^book_check: \([0-9]*\) instructions$/\1/p')
+    "$bench" texts "$@" >"$work/right"
+    each_call announce announced "$@"
+    cmp -s "$work/right" "$work/calls" || { echo "clips $*: other answers under the profiler" >&2 && exit 1; }
+    awk -v check="$check" 'NR == 1 { next }'"$counted"'
+        {
+            text = $0; sub(/^[^:]*: /, "", text)
+            cost = $1 - check
+            if (!calls++ || cost > most) { most = cost; dearest = text }
+            sum += cost
+        }
+        END {
+            if (failed) exit 1
+            print "book_check: " check " instructions, which are taken off below"
+            printf "announce_clip: %d texts, %.0f instructions on average, %d at most, for %s\n", calls, sum / calls, most, dearest
+        }' "$work/counts"
+}
+
 # Of a batch, then each of its questions.
 one_batch() {
-    each_call together "$@"
+    each_call book together "$@"
     awk "$counted"'
         NR == 1 { batch = $1; next }
         NR == 2 { least = $1; most = $1 }
@@ -139,7 +167,7 @@ one_batch() {
 
 # Of a screen: all its calls together.
 screen() {
-    each_call "$@"
+    each_call book "$@"
     awk "$counted"'
         { sum += $1 }
         END { if (failed) exit 1; printf "screen: %d instructions, of a range and %d reads\n", sum, NR - 1 }' "$work/counts"
@@ -147,7 +175,7 @@ screen() {
 
 # A line of three calls for each list: label, bytes of the book, build, check, place less the check. What is too large is left out.
 three_calls() {
-    each_call "$@"
+    each_call book "$@"
     awk "$counted"'
         { label = $0; sub(/^[^ ]* [^ ]* /, "", label); bytes = label; sub(/.*: /, "", bytes); sub(/: [^:]*$/, "", label) }
         $2 == "build" { build = $1 }
@@ -180,6 +208,7 @@ worst() {
 case $1 in
 questions) shift && mixed_questions "$@" ;;
 batch) shift && one_batch "$@" ;;
+clips) shift && mixed_texts "$@" ;;
 screen) screen "$@" ;;
 growth) growth ;;
 worst | worst_folded) worst "$@" ;;

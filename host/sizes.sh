@@ -1,5 +1,6 @@
 #!/usr/bin/env bash
-# Prints how many bytes of code each call of the product takes by itself, and all of them together, and what that code asks of a processor.
+# Prints how many bytes of code each call of the product takes by itself, and all of them together, and what that code asks of a processor. The two
+# objects of the archive, book.o and announcer.o, share no code: all calls of each stand there, too.
 #
 #   host/sizes.sh [ARCHIVE]                without ARCHIVE: archive.sh's product
 #   host/sizes.sh --hold PAGE [ARCHIVE]    prints nothing where the sizes on PAGE, in such a table, are right within a sixteenth
@@ -48,7 +49,10 @@ for program in ${OBJDUMP:+"$OBJDUMP"} x86_64-linux-gnu-objdump objdump llvm-objd
 done
 [ -n "$objdump" ] || fail "no objdump here reads $archive as code for x86-64; OBJDUMP can name one"
 "$objdump" -t "$archive" >"$work/symbols"
-wanted=$(awk '$2 == "*UND*" && $NF != "memcpy" && $NF != "memset" { print $NF }' "$work/symbols")
+wanted=$(awk '
+    $2 == "g" { there[$NF] }
+    $2 == "*UND*" && $NF != "memcpy" && $NF != "memset" { asked[$NF] }
+    END { for (name in asked) if (!(name in there)) print name }' "$work/symbols")
 [ -z "$wanted" ] || fail "the archive wants $wanted"
 calls=$(awk '$2 == "g" && $3 == "F" && $NF ~ /^(book|list|announce)_/ { print $NF }' "$work/symbols" | LC_ALL=C sort)
 [ -n "$calls" ] || fail "$archive has no calls"
@@ -104,10 +108,16 @@ row() {
 table() {
     echo "| Call | Code, bytes | SSE | Aligned | Red zone |"
     echo "|---|---:|---:|---|---|"
-    local call
+    local call announcing others
+    announcing=$(echo "$calls" | grep '^announce_' || true)
+    others=$(echo "$calls" | grep -v '^announce_' || true)
     for call in $calls; do
         row "\`$call\`" "$call"
     done
+    # shellcheck disable=SC2086
+    [ -z "$announcing" ] || row "all calls of \`announcer.o\`" $announcing
+    # shellcheck disable=SC2086
+    [ -z "$others" ] || row "all calls of \`book.o\`" $others
     # shellcheck disable=SC2086
     row "all calls" $calls
 }

@@ -7,6 +7,8 @@
  *   call merge|judge FIRST SECOND                      two lists, the merge into a room as long as both
  *   call questions BOOKFILE                            the check, then 100 questions, each by all five calls, one call after the other
  *   call batch BOOKFILE                                64 of these questions in one call, in the five kinds by turns
+ *   call clip BOOKFILE TEXT                            the clip for that text; each name's clip is its own position
+ *   call route BOOKFILE                                the clips of 120 positions all over the book
  *   call screen BOOKFILE TYPED                         the names that begin with what is typed, and the first ten of them read
  */
 #include <stdio.h>
@@ -27,6 +29,8 @@ static uint8_t input[MOST], other[MOST], room[2 * MOST];
 static struct mistrogu_kept report[MISTROGU_LONGEST_BOOK];
 static uint8_t question[QUESTIONS][LONGEST + 1];
 static size_t length[QUESTIONS];
+static uint16_t clips[MISTROGU_MOST_NAMES], row[MISTROGU_MOST_STOPS];
+static size_t route[MISTROGU_MOST_STOPS];
 
 static void mark(void) { syscall(SYS_getppid); }
 
@@ -110,6 +114,19 @@ static counted show(size_t size, const char *typed) {
 /* What a call gives that is made between two marks. */
 #define COUNTED(call) (mark(), given = (call), mark(), given)
 
+/* What the announcer asks for: the clip of a text or, without one, those of a route. */
+static answer announce(size_t size, const char *text) {
+    answer given = book_check(input, size);
+    size_t names = given.first, stops = names ? MISTROGU_MOST_STOPS : 0;
+    for (size_t i = 0; i < names; i++)
+        clips[i] = (uint16_t)i;
+    for (size_t i = 0; i < stops; i++)
+        route[i] = 997 * i % names;
+    if (text)
+        return COUNTED(announce_clip(input, size, clips, names, (const uint8_t *)text, strlen(text)));
+    return COUNTED(announce_route(input, size, clips, names, route, stops, row, MISTROGU_MOST_STOPS));
+}
+
 /* A call by its name, and what it takes beside the first file: a number, or the length of the other file. */
 static answer make(const char *call, size_t size, size_t second) {
     answer given;
@@ -144,7 +161,7 @@ int main(int words, char **word) {
     size_t size = read_file(word[2], input), second = 0;
     if (!strncmp(call, "build", 5) && words > 3)
         second = strtoul(word[3], NULL, 10);
-    else if (words > 3 && strcmp(call, "screen"))
+    else if (words > 3 && strcmp(call, "screen") && strcmp(call, "clip"))
         second = read_file(word[3], other);
     else if (!strcmp(call, "salvage") && size >= 16)
         second = blocks_of(size);
@@ -158,7 +175,15 @@ int main(int words, char **word) {
         tell(show(size, word[3]));
         return 0;
     }
-    answer given = strcmp(call, "batch") ? make(call, size, second) : ask_batch(size);
+    answer given;
+    if (!strcmp(call, "batch"))
+        given = ask_batch(size);
+    else if (!strcmp(call, "clip") && words > 3)
+        given = announce(size, word[3]);
+    else if (!strcmp(call, "route"))
+        given = announce(size, NULL);
+    else
+        given = make(call, size, second);
     if (!strncmp(call, "build", 5) && words > 4 && !given.code)
         write_file(word[4], given.first);
     printf("answer %zu, %zu, %zu\n", given.code, given.first, given.second);

@@ -6,8 +6,9 @@
 //! `bench questions BOOKFILE` checks the book and then asks mixed questions, and
 //! `bench asked BOOKFILE` does so without the second program, for a profiler;
 //! `bench together BOOKFILE` asks some of them as one batch, and then each of
-//! them alone; `bench screen BOOKFILE TYPED` asks for a range and reads its first
-//! names. In each case the answer is printed, and it has to be the second
+//! them alone; `bench texts BOOKFILE` checks the book and then asks for the clips of
+//! the same texts, and `bench announced BOOKFILE` does so without the second program;
+//! `bench screen BOOKFILE TYPED` asks for a range and reads its first names. In each case the answer is printed, and it has to be the second
 //! program's: a wrong answer is not worth measuring. `bench growth` and `bench
 //! worst` build, check and ask lists of many shapes, `bench worst_folded` those of
 //! folded books. `bench split` parts a list into two, to merge them again, `bench wear`
@@ -16,6 +17,7 @@
 //!
 //! Another call is a module with one function, and one more line in [`CALLS`].
 
+mod announcing;
 mod asking;
 mod batching;
 mod building;
@@ -107,7 +109,7 @@ impl From<model::Counted> for Given {
 }
 
 /// Every call that can be measured.
-const CALLS: [Call; 14] = [
+const CALLS: [Call; 16] = [
     Call {
         name: "build",
         words: "LISTFILE K",
@@ -159,6 +161,16 @@ const CALLS: [Call; 14] = [
         ready: batching::ready,
     },
     Call {
+        name: "clip",
+        words: "BOOKFILE TEXT",
+        ready: announcing::clip,
+    },
+    Call {
+        name: "route",
+        words: "BOOKFILE [STOPS]",
+        ready: announcing::route,
+    },
+    Call {
         name: "salvage",
         words: "CARDFILE",
         ready: salvaging::ready,
@@ -206,6 +218,8 @@ fn run(words: &[String]) -> Result<String, String> {
         "questions" => mixed::run(rest),
         "asked" => mixed::asked(rest),
         "together" => batching::together(rest),
+        "texts" => announcing::texts(rest),
+        "announced" => announcing::announced(rest),
         "screen" => screen::run(rest),
         "growth" => shaped::growth(),
         "worst" => shaped::worst(BookKind::Plain, rest),
@@ -270,6 +284,8 @@ fn usage() -> String {
     lines.push("bench questions BOOKFILE".to_string());
     lines.push("bench asked BOOKFILE".to_string());
     lines.push("bench together BOOKFILE".to_string());
+    lines.push("bench texts BOOKFILE".to_string());
+    lines.push("bench announced BOOKFILE".to_string());
     lines.push("bench screen BOOKFILE TYPED".to_string());
     lines.push("bench growth".to_string());
     lines.push("bench worst [SEED]".to_string());
