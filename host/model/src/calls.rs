@@ -1,5 +1,6 @@
 //! The public calls that have to do with a book; those of two lists stand in
-//! `merging`, and that of a worn card in `salvage`.
+//! `merging`, that of a worn card in `salvage`, and those of the announcer in
+//! `announcer`.
 //!
 //! Renders what document 01 says below the table of refusals: in which order
 //! each call looks for a refusal, what stands beside the code, and what is
@@ -93,12 +94,13 @@ pub(crate) fn accepted(first: usize, second: usize) -> Answer {
 
 /// A refusal; the numbers beside it are 0.
 pub(crate) fn refused(code: usize) -> Answer {
-    refused_record(code, 0)
+    refused_item(code, 0)
 }
 
-/// A refusal of one list record, which brings the record's number.
-fn refused_record(code: usize, record: usize) -> Answer {
-    refused_in_list(code, record, 0)
+/// A refusal of one item, which brings the item's number from 0: of a list record,
+/// or of a route's position.
+pub(crate) fn refused_item(code: usize, item: usize) -> Answer {
+    refused_in_list(code, item, 0)
 }
 
 /// A refusal where there are two lists, which brings a record's number and the
@@ -111,14 +113,14 @@ pub(crate) fn refused_in_list(code: usize, record: usize, list: usize) -> Answer
     }
 }
 
-/// Writes the output to the front of the room and gives its length, or
-/// refuses with 4 and writes nothing.
-pub(crate) fn write_out(output: &[u8], room: &mut [u8]) -> Answer {
+/// Writes the output, bytes or clips, to the front of the room and gives how many
+/// bytes it has, or refuses with 4 and writes nothing.
+pub(crate) fn write_out<T: Copy>(output: &[T], room: &mut [T]) -> Answer {
     match room.get_mut(..output.len()) {
         None => refused(ROOM_TOO_SHORT),
         Some(front) => {
             front.copy_from_slice(output);
-            accepted(output.len(), 0)
+            accepted(size_of_val(output), 0)
         }
     }
 }
@@ -141,7 +143,7 @@ pub fn build_kind(kind: BookKind, list: &[u8], block: usize, room: &mut [u8]) ->
         return refused(BAD_BLOCK_SIZE);
     }
     let names = match read_list(kind.rule(), list) {
-        Err((code, record)) => return refused_record(code, record),
+        Err((code, record)) => return refused_item(code, record),
         Ok(names) => names,
     };
     let book = book_of(kind, block, &names);

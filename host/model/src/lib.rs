@@ -1,12 +1,12 @@
 //! The second program of Mistrogu.
 //!
 //! Everything that document 01 asks for, with what document 02's change requests
-//! 1 (width), 2 (merging), 3 (nearest's number), 5 (worn cards), 7 (folded books)
-//! and 8 (how far it looked) add to it or change of it, done over a plain sorted list
-//! of byte strings. Nothing here is fast and nothing is meant to be. A reader with the
-//! documents in the other hand should be able to believe each function at sight,
-//! because test vectors for the proved library come from this crate. It shares no line
-//! with that library.
+//! 1 (width), 2 (merging), 3 (nearest's number), 5 (worn cards), 7 (folded books), 8
+//! (how far it looked) and 9 (the announcer) add to it or change of it, done over a
+//! plain sorted list of byte strings. Nothing here is fast and nothing is meant to be.
+//! A reader with the documents in the other hand should be able to believe each
+//! function at sight, because test vectors for the proved library come from this
+//! crate. It shares no line with that library.
 //!
 //! Where to look:
 //!
@@ -22,6 +22,7 @@
 //! | [`calls`] | the public calls, each with its refusals in their order |
 //! | [`merging`] | the calls of two lists: merge, judge and step (document 02) |
 //! | [`salvage`] | the names of those blocks of a worn card that are sound (document 02) |
+//! | [`announcer`] | the clip of a typed text, and the clips of a route (document 02) |
 //! | [`programs`] | what the building and the listing program write |
 //!
 //! The running example is the list Mar, Marina, Market Square.
@@ -29,6 +30,7 @@
 #![forbid(unsafe_code)]
 #![warn(missing_docs)]
 
+pub mod announcer;
 pub mod calls;
 pub mod kinds;
 pub mod layout;
@@ -41,6 +43,7 @@ pub mod refusals;
 pub mod salvage;
 pub mod tree;
 
+pub use announcer::{announce_clip, announce_route};
 pub use calls::{
     book_batch, book_build, book_build_folded, book_check, book_exact, book_nearest, book_place,
     book_range, book_read, book_width, build_kind, Answer, Counted, Row,

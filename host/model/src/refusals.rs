@@ -1,10 +1,11 @@
-//! The thirteen refusals, by number.
+//! The fourteen refusals, by number.
 //!
 //! Renders the table of document 01, "Numbers given back when a call says no",
-//! with the number that document 02, change request 5, adds. The order in which a
-//! call looks for them stands with the call.
+//! with the numbers that document 02, change requests 5 and 9, add; 14 and 15 are
+//! for change request 13. The order in which a call looks for them stands with the
+//! call.
 
-/// The question has more than 200 bytes.
+/// The question, or the typed text, has more than 200 bytes.
 pub const QUESTION_TOO_LONG: usize = 1;
 /// The bytes are not a book.
 pub const NO_BOOK: usize = 2;
@@ -27,8 +28,11 @@ pub const NEAREST_OF_NONE: usize = 10;
 /// A batch row has an unknown kind, or its span leaves the question buffer.
 pub const BAD_ROW: usize = 11;
 /// A batch has more than 64 rows, or not as many answer rows as questions; or a
-/// worn card has not as many blocks as there are report rows.
+/// worn card has not as many blocks as there are report rows; or a route has more
+/// than 120 positions.
 pub const BAD_ROW_COUNT: usize = 12;
 /// The trailer and block table of a worn card make no sense, or it is marked as
 /// another kind of book than the plain one.
 pub const NO_MAP: usize = 13;
+/// The clip table has not as many clips as the book has names.
+pub const BAD_CLIP_COUNT: usize = 16;
