@@ -95,7 +95,7 @@ impl Call for Ask {
 }
 
 /// The question between quotes, or its length where it is long.
-fn shown(question: &[u8]) -> String {
+pub(crate) fn shown(question: &[u8]) -> String {
     match question.len() {
         0..=40 => format!("\"{}\"", question.escape_ascii()),
         length => format!("of {length} bytes"),

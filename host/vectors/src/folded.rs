@@ -104,7 +104,7 @@ fn around_the_letters() -> Names {
 }
 
 /// Names of a folded book, in small letters and in capitals by turns.
-fn turned(names: Names) -> Names {
+pub(crate) fn turned(names: Names) -> Names {
     by_turns(&sorted_for(BookKind::Folded, names))
 }
 
@@ -655,7 +655,7 @@ fn ask_names(why: &str, names: &Names, block: usize, questions: Names) -> Vec<Ca
 }
 
 /// The questions as they are, and in the other case.
-fn in_both_cases(questions: Names) -> Names {
+pub(crate) fn in_both_cases(questions: Names) -> Names {
     let turned = questions.iter().map(|question| {
         let bytes = question.iter();
         bytes.map(|&byte| other_case(byte)).collect()

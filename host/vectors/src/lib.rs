@@ -19,6 +19,7 @@
 //! | [`batching`] | the set of `book_batch`, likewise |
 //! | [`merging`] | the set of the calls of two lists, likewise |
 //! | [`salvaging`] | the set of `book_salvage`, likewise |
+//! | [`announcing`] | the set of the announcer's two calls, likewise |
 //! | [`folded`] | the sets of folded books, of `book_build_folded` and of all calls that take a book |
 //! | [`checksum`] | two small numbers that stand for many |
 //! | [`lists`] | lists of names by their shape |
@@ -40,6 +41,7 @@
 #![forbid(unsafe_code)]
 #![warn(missing_docs)]
 
+pub mod announcing;
 pub mod asking;
 pub mod batches;
 pub mod batching;
@@ -82,7 +84,7 @@ pub const SETS: [&dyn Files; 12] = [
 ];
 
 /// Every set that no such program runs, but a test of the linked archive.
-pub const TESTED_SETS: [&dyn Files; 1] = [&salvaging::SET];
+pub const TESTED_SETS: [&dyn Files; 2] = [&salvaging::SET, &announcing::SET];
 
 /// What a program that runs every set must print: the sets' texts, one after
 /// the other.

@@ -1,7 +1,7 @@
 //! The cases are made at the shared limits and answered by the second program,
 //! which has its own: they have to be the same.
 
-use model::{calls, layout, names};
+use model::{announcer, calls, layout, names};
 
 #[test]
 fn the_second_program_has_the_same_limits() {
@@ -12,6 +12,7 @@ fn the_second_program_has_the_same_limits() {
         (format::LARGEST_BLOCK, layout::LARGEST_BLOCK),
         (format::LONGEST_BOOK, layout::LONGEST_BOOK),
         (format::MOST_ROWS, calls::MOST_ROWS),
+        (format::MOST_STOPS, announcer::MOST_POSITIONS),
         (format::NODE, layout::NODE_LENGTH),
         (format::TRAILER, layout::TRAILER_LENGTH),
     ] {
