@@ -1,7 +1,7 @@
 //! How both programs are held to each other: the code that they agree on, or
 //! what each of them did.
 
-use crate::lent::{any_room, hex};
+use crate::lent::{any_room, hex, Lent};
 use fenced::on_stack;
 use vectors::random::Random;
 
@@ -42,6 +42,17 @@ pub fn on_room(
     proved: impl FnOnce(&mut [u8]) -> proved::Answer + Send,
 ) -> Result<usize, String> {
     let lent = any_room(random, room_length);
+    on_lent(lent, hex, stack, model, proved)
+}
+
+/// The same with a room of any items, which are shown like this.
+pub fn on_lent<T: Copy + PartialEq + Send>(
+    mut lent: Lent<T>,
+    show: impl Fn(&[T]) -> String + Copy,
+    stack: usize,
+    model: impl FnOnce(&mut [T]) -> model::Answer,
+    proved: impl FnOnce(&mut [T]) -> proved::Answer + Send,
+) -> Result<usize, String> {
     let (mut expected, mut found) = (lent.clone(), lent.clone());
     let expected_answer = model(expected.room());
     let room = found.room();
@@ -50,13 +61,13 @@ pub fn on_room(
         return Ok(expected_answer.code);
     }
     Err([
-        format!("room {room_length}"),
+        format!("room {}", lent.room().len()),
         format!("expected {expected_answer:?}"),
         format!("found    {found_answer:?}"),
         format!("room differs at {:?}", expected.first_difference(&found)),
-        format!("room before   {}", lent.shown(hex)),
-        format!("room expected {}", expected.shown(hex)),
-        format!("room found    {}", found.shown(hex)),
+        format!("room before   {}", lent.shown(show)),
+        format!("room expected {}", expected.shown(show)),
+        format!("room found    {}", found.shown(show)),
     ]
     .join("\n"))
 }

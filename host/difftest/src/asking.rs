@@ -3,8 +3,9 @@
 use crate::agreeing;
 use crate::books::any_book;
 use crate::lent::{hex, lend};
-use fenced::on_stack;
+use fenced::{on_stack, Fenced};
 use mistrogu::STACK;
+use vectors::lists::Names;
 use vectors::questions::any_question;
 use vectors::random::Random;
 use vectors::spelling::respelt;
@@ -45,19 +46,24 @@ fn run(
     proved: Ask<proved::Counted>,
 ) -> Result<usize, String> {
     let (book, names) = any_book(random);
-    let question = any_question(random, &names);
-    let mut question = respelt(random, &question);
-    if random.once_in(200) {
-        // A length of which the low 16 bits alone would be fine.
-        question.resize(random.between(65_530, 65_750), b'a');
-    }
-    let question = lend(random, &question);
+    let question = any_lent_question(random, &names);
     let expected = model(&book, &question);
     let found = on_stack(STACK, || proved(&book, &question));
     agreeing::on_counted(expected, found).map_err(|answers| {
         let (question, book) = (hex(&question), hex(&book));
         format!("question {question}\nbook {book}\n{answers}")
     })
+}
+
+/// A question near these names, in any spelling, to be lent.
+pub fn any_lent_question(random: &mut Random, names: &Names) -> Fenced<u8> {
+    let question = any_question(random, names);
+    let mut question = respelt(random, &question);
+    if random.once_in(200) {
+        // A length of which the low 16 bits alone would be fine.
+        question.resize(random.between(65_530, 65_750), b'a');
+    }
+    lend(random, &question)
 }
 
 #[cfg(test)]

@@ -1,15 +1,17 @@
 //! The proved library against the second program, on random calls.
 //!
 //! Every case makes one call of both with the same bytes and numbers, and compares
-//! the answer, of a single question also how far it looked, and all lent bytes and
-//! rows; those of the laws of merging compare what the proved library gives in one
-//! order with what it gives in another, those of neighbours its answers with the
+//! the answer, of a single question also how far it looked, and all lent bytes, rows
+//! and clips; those of the laws of merging compare what the proved library gives in
+//! one order with what it gives in another, those of neighbours its answers with the
 //! names that it reads back and with each other, those of blocks apart what it
-//! salvages of two worn books that differ in one block, and those of small letters
-//! what it answers of a folded book with what it answers of the plain one of its
-//! names in small letters. The seed is printed first; the same seed gives the same
-//! cases. While it runs it says how far it is, and at the end it prints a table. A
-//! difference is printed with the whole case, and the exit status is then 1.
+//! salvages of two worn books that differ in one block, those of small letters what
+//! it answers of a folded book with what it answers of the plain one of its names in
+//! small letters, and those of the announcer the clip of a text with the book's own
+//! answers, a route with its positions one by one, and both with the names that are
+//! read back. The seed is printed first; the same seed gives the same cases. While it
+//! runs it says how far it is, and at the end it prints a table. A difference is
+//! printed with the whole case, and the exit status is then 1.
 //!
 //! The proved library is called on exactly as much stack as its header says is
 //! enough, and all that is lent to it has a fence before or behind it. Where it
@@ -21,6 +23,7 @@
 //! Another call is a module with one function, and one more line in [`KINDS`].
 
 mod agreeing;
+mod announcing;
 mod asking;
 mod batching;
 mod books;
@@ -57,7 +60,7 @@ pub struct Kind {
 }
 
 /// Every kind of call, as often as the others.
-const KINDS: [Kind; 21] = [
+const KINDS: [Kind; 26] = [
     Kind {
         name: "build",
         run: building::plain,
@@ -141,6 +144,26 @@ const KINDS: [Kind; 21] = [
     Kind {
         name: "small letters",
         run: folding::run,
+    },
+    Kind {
+        name: "clip",
+        run: announcing::clip,
+    },
+    Kind {
+        name: "route",
+        run: announcing::route,
+    },
+    Kind {
+        name: "clip by questions",
+        run: announcing::by_questions,
+    },
+    Kind {
+        name: "route by pieces",
+        run: announcing::by_pieces,
+    },
+    Kind {
+        name: "clips by names",
+        run: announcing::by_names,
     },
 ];
 

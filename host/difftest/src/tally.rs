@@ -1,11 +1,11 @@
 //! How many cases there were, and what came of them.
 
 use crate::Kind;
-use model::refusals::NO_MAP;
+use model::refusals::BAD_CLIP_COUNT;
 
 /// How many codes an answer can have: 0 and the refusals, of which this is the
 /// last.
-const CODES: usize = 1 + NO_MAP;
+const CODES: usize = 1 + BAD_CLIP_COUNT;
 
 /// For each kind of call, how often each code was given.
 pub struct Tally {
