@@ -1,13 +1,14 @@
 /*
  * Two operators' lists made one, its three stops in a book, what can be asked of
- * it, how far each question looks, and what is left of it where it is damaged; and a
- * folded book, in which a driver finds stops in small letters.
+ * it, how far each question looks, what is announced of it, and what is left of it
+ * where it is damaged; and a folded book, in which a driver finds stops in small
+ * letters.
  *
  * The merged list, the book and the first twelve questions are those of document
  * 01, the project's scope document; the widths, the merging, how much of a
- * question is lit, the salvage, the folded book and how far a question looks are
- * document 02's. Every answer is held to the figures there: where one differs, the
- * program says so and its exit status is 1.
+ * question is lit, the salvage, the folded book, how far a question looks and the
+ * announcer are document 02's. Every answer is held to the figures there: where one
+ * differs, the program says so and its exit status is 1.
  *
  * run.sh compiles it, links it with the proved library and runs it.
  */
@@ -89,6 +90,26 @@ static const struct asked TYPED[] = {
     {MISTROGU_NEAREST, "markt", 2, 4, 2, 3},
     {MISTROGU_WIDTH, "MARI", 6, 0, 2, 2},
 };
+
+/* A clip for each stop, in the book's order, and one too many. */
+static const uint16_t CLIPS[] = {1020, 1019, 1005, 7};
+
+/* A text, and what is announced: (1, a clip), or (0, how many stops begin so). */
+struct spoken {
+    const char *text;
+    size_t first;
+    size_t second;
+};
+
+/* Mar has its own clip, though three stops begin so. */
+static const struct spoken SPOKEN[] = {
+    {"Mar", 1, 1020}, {"Mark", 1, 1005}, {"Marina", 1, 1019},
+    {"Ma", 0, 3},     {"", 0, 3},        {"Mas", 0, 0},
+};
+
+/* A route, which may come to a stop twice, and its clips. */
+static const size_t ROUTE[] = {2, 0, 2};
+static const uint16_t ROUTE_CLIPS[] = {1005, 1020, 1005};
 
 struct damage {
     const char *how;
@@ -447,6 +468,66 @@ static void fold(void)
          MISTROGU_NO_MAP, 0, 0);
 }
 
+/* What is spoken for a text, with a table of so many clips. */
+static struct mistrogu_answer speak(const uint8_t *book, size_t length, size_t clip_count,
+                                    const char *text)
+{
+    return announce_clip(book, length, CLIPS, clip_count, (const uint8_t *)text,
+                         strlen(text));
+}
+
+/* What is spoken for the route, which is written to the front of the room. */
+static void speak_route(const uint8_t *book, size_t length)
+{
+    uint16_t room[COUNT(ROUTE) + 1];
+    size_t i;
+
+    room[COUNT(ROUTE)] = 0xAAAA;
+    hold("announce_route",
+         announce_route(book, length, CLIPS, COUNT(STOPS), ROUTE, COUNT(ROUTE), room,
+                        COUNT(room)),
+         0, sizeof ROUTE_CLIPS, 0);
+    if (memcmp(room, ROUTE_CLIPS, sizeof ROUTE_CLIPS) != 0 ||
+        room[COUNT(ROUTE)] != 0xAAAA) {
+        printf("WRONG: those are not the clips of the route\n");
+        differences++;
+        return;
+    }
+    printf("  a route of %zu stops: clips", COUNT(ROUTE));
+    for (i = 0; i < COUNT(ROUTE); i++)
+        printf(" %u", (unsigned)room[i]);
+    printf("\n");
+}
+
+/* The longest route that there is: 120 stops, here all the first. */
+static void speak_longest_route(const uint8_t *book, size_t length)
+{
+    static const size_t longest[MISTROGU_MOST_STOPS] = {0};
+    uint16_t room[MISTROGU_MOST_STOPS];
+    struct mistrogu_answer spoken =
+        hold("a route of 120 stops",
+             announce_route(book, length, CLIPS, COUNT(STOPS), longest, COUNT(longest),
+                            room, COUNT(room)),
+             0, sizeof room, 0);
+    printf("  a route of %zu stops: %zu bytes of clips\n", COUNT(longest), spoken.first);
+}
+
+/* What the announcer speaks: texts, and routes. */
+static void announce(const uint8_t *book, size_t length)
+{
+    size_t i;
+    printf("what is announced\n");
+    for (i = 0; i < COUNT(SPOKEN); i++) {
+        struct mistrogu_answer answer =
+            hold(SPOKEN[i].text, speak(book, length, COUNT(STOPS), SPOKEN[i].text), 0,
+                 SPOKEN[i].first, SPOKEN[i].second);
+        printf("  \"%s\": %s %zu\n", SPOKEN[i].text,
+               answer.first == 1 ? "clip" : "stops that begin so:", answer.second);
+    }
+    speak_route(book, length);
+    speak_longest_route(book, length);
+}
+
 /* Prints the names in a run of records. */
 static void print_records(const uint8_t *records, size_t length)
 {
@@ -617,6 +698,67 @@ static void be_refused_lists(const uint8_t *list, size_t list_length)
         printf("and four calls with two lists\n");
 }
 
+/* The same with texts that are to be announced. A call that has two faults is told the
+   first in the header's order: 2, 16, 1. */
+static void be_refused_texts(const uint8_t *book, size_t length)
+{
+    static const uint8_t long_text[MISTROGU_LONGEST_NAME + 1] = {0};
+    size_t clips = COUNT(STOPS);
+    int before = differences;
+
+    hold("a text, no book and a clip too few",
+         speak(book + 1, length - 1, clips - 1, "Mar"), MISTROGU_NO_BOOK, 0, 0);
+    hold("a text of 201 bytes and a clip too few",
+         announce_clip(book, length, CLIPS, clips - 1, long_text, sizeof long_text),
+         MISTROGU_BAD_CLIP_TABLE, 0, 0);
+    hold("a text and a clip too many", speak(book, length, clips + 1, "Mar"),
+         MISTROGU_BAD_CLIP_TABLE, 0, 0);
+    hold("a text of 201 bytes",
+         announce_clip(book, length, CLIPS, clips, long_text, sizeof long_text),
+         MISTROGU_QUESTION_TOO_LONG, 0, 0);
+    if (differences == before)
+        printf("and four texts for the announcer\n");
+}
+
+/* The same with routes, by the order 2, 16, 12, 3, 4; the room is as it was. */
+static void be_refused_routes(const uint8_t *book, size_t length)
+{
+    static const size_t too_many[MISTROGU_MOST_STOPS + 1] = {3};
+    static const size_t past[] = {0, 3, 1, 4};
+    uint16_t room[MISTROGU_MOST_STOPS + 1];
+    size_t clips = COUNT(STOPS);
+    int before = differences;
+
+    memset(room, 0xAA, sizeof room);
+    hold("a route, no book and a clip too few",
+         announce_route(book + 1, length - 1, CLIPS, clips - 1, ROUTE, COUNT(ROUTE), room,
+                        COUNT(room)),
+         MISTROGU_NO_BOOK, 0, 0);
+    hold("a route of 121 stops and a clip too few",
+         announce_route(book, length, CLIPS, clips - 1, too_many, COUNT(too_many), room,
+                        COUNT(room)),
+         MISTROGU_BAD_CLIP_TABLE, 0, 0);
+    hold("a route and a clip too many",
+         announce_route(book, length, CLIPS, clips + 1, ROUTE, COUNT(ROUTE), room,
+                        COUNT(room)),
+         MISTROGU_BAD_CLIP_TABLE, 0, 0);
+    hold("a route of 121 stops, one of them past the book",
+         announce_route(book, length, CLIPS, clips, too_many, COUNT(too_many), room,
+                        COUNT(room)),
+         MISTROGU_BAD_BATCH, 0, 0);
+    hold("a route with two stops past the book, and a room for fewer clips",
+         announce_route(book, length, CLIPS, clips, past, COUNT(past), room,
+                        COUNT(past) - 1),
+         MISTROGU_NO_SUCH_POSITION, 1, 0);
+    hold("a route and a room for fewer clips",
+         announce_route(book, length, CLIPS, clips, ROUTE, COUNT(ROUTE), room,
+                        COUNT(ROUTE) - 1),
+         MISTROGU_ROOM_TOO_SHORT, 0, 0);
+    hold_untouched((const uint8_t *)room, sizeof room);
+    if (differences == before)
+        printf("and six routes\n");
+}
+
 /* Builds the book of three stops, and gives its length; 0 where it is refused. */
 static size_t build(const uint8_t *list, size_t list_length, uint8_t *book, size_t space)
 {
@@ -663,10 +805,13 @@ int main(void)
     keep_to_a_slot(book, length);
     ask_in_a_batch(book, length);
     light_no_half_letter();
+    announce(book, length);
     fold();
     salvage(book, length);
     be_refused(list, list_length, book, length);
     be_refused_salvage(book, length);
     be_refused_lists(list, list_length);
+    be_refused_texts(book, length);
+    be_refused_routes(book, length);
     return differences == 0 ? 0 : 1;
 }
