@@ -6,7 +6,9 @@
 # stops.c goes through all calls, and renamed.c has a table of them; both are held to the header's. renamed.c is linked with a copy of the
 # archive in which the calls have other names, where there is an objcopy that knows x86-64 (of binutils or LLVM, or what OBJCOPY names); else it
 # is left out, and a line says so. blocks.c tries what the header itself computes, and wants no library. Where there is a C++ compiler, it
-# compiles the last two, too, and empty.cpp.
+# compiles the last two, too, and empty.cpp. minibus/ is the box as it is meant, with three guests on stacks of their own; what it prints is
+# compared with minibus/expected.txt. It is left out, and a line says so, where the kit compiles the examples: the system's threads are those of
+# the machine at hand.
 #
 # Each failure ends it with status 1. The library is for x86-64, and there the system's compilers are used (CC and CXX, else cc and
 # c++). Elsewhere the system's compiler only puts in what the examples include; the kit's compiles them for x86-64, and the kit's emulator
@@ -95,6 +97,24 @@ if rename_calls; then
     "$with" renamed "$work/libtransit.a" -DMISTROGU_PREFIX=transit_ || fail "the calls do not answer renamed.c by their other names"
 else
     echo "examples: no objcopy here knows x86-64, so renamed.c is left out; OBJCOPY can name one" >&2
+fi
+
+# Compiles the minibus, runs it and compares what it prints with what it should print. How much stack its calls took depends on the compiler: that
+# is shown, and not compared.
+with_guests() {
+    local folder=examples/minibus
+    "${CC:-cc}" "${strict[@]}" -pthread -Wl,-z,now -Iinclude "$folder"/*.c "$archive" -o "$work/minibus" || fail "the minibus could not be compiled"
+    "$work/minibus" sample/stops.txt "$folder/clips.txt" "$folder/route.txt" "$folder/misspelt.txt" >"$work/minibus.txt" ||
+        fail "the minibus did not run to its end"
+    cat "$work/minibus.txt"
+    sed -E 's/[0-9]+ bytes of/N bytes of/' "$work/minibus.txt" | diff "$folder/expected.txt" - >&2 ||
+        fail "the minibus prints something else than $folder/expected.txt"
+}
+
+if [ "$with" = with_the_system ]; then
+    with_guests
+else
+    echo "examples: the minibus wants x86-64 and the system's own threads, so it is left out" >&2
 fi
 
 # Compiles blocks.c for the machine at hand, by the compiler that the words name, and runs it.
