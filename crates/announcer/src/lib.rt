@@ -167,11 +167,11 @@ fn put_clips(clips: &[u16], positions: &[usize], room: &mut [u16])
     requires { ⌜ Inside (now clips) (now positions) (now room) ⌝ }
     ensures { λ r. ⌜ now (room .exit) ≡ over (clipsAt (now (clips .entry)) (now (positions .entry))) (now (room .entry)) ⌝ }
 {
-    let mut i = 0;
-    while i < positions.len() {
-        let position = positions[i];
-        room[i] = clips[position];
-        i += 1;
+    let mut stop = 0;
+    while stop < positions.len() {
+        let position = positions[stop];
+        room[stop] = clips[position];
+        stop += 1;
     }
 }
 

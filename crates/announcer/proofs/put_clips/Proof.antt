@@ -9,10 +9,10 @@ use Rattle.announcer.proofs.put_clips.Statement.{statement}
 use Rattle.announcer.proofs.put_clips.Tie as tie
 
 abbrev Inv-loop : tie.InvT-loop
-Inv-loop clips positions room₀ i₀ room i = Putting clips positions room₀ room i
+Inv-loop clips positions room₀ stop₀ room stop = Putting clips positions room₀ room stop
 
 abbrev μ-loop : tie.MeasureT-loop
-μ-loop clips positions room₀ i₀ room i = length positions - i
+μ-loop clips positions room₀ stop₀ room stop = length positions - stop
 
 pub put-clips-spec : {M : Type 1} → statement M
 put-clips-spec =
