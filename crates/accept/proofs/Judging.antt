@@ -7,18 +7,19 @@
 --     SoundBook, sound-book, checked-sound     what an accepting answer says
 --     sound-numbers, unsound-numbers     document 01's numbers for either answer
 -- Assumes nothing.
-use Prim.Native.Nat.{ℕ, _-_, _≤_}
+use Prim.Native.Nat.{ℕ, _-_, _*_, _≤_}
 use native.Mathlib.Omega.{arith}
 use mathlib.Core.Path.{_≡_, _∙_, ap, ap₂, refl, subst, sym}
 use mathlib.Core.Bool.{Bool, false, not, true}
-use mathlib.Core.List.{[]}
+use mathlib.Core.List.{List, []}
 use lib.ListN.{length}
 use lib.Seq.{slice}
 use Rattle.words.specs.Words.{Bytes, InBytes, Rule, same}
 use Rattle.words.proofs.Words.{false≠true}
-use Rattle.format.specs.Kinds.{Form, kindOf, ruleIn, tableIn}
-use Rattle.format.specs.Spans.{isTable, nodePart, wordsOf}
-use Rattle.format.proofs.BookKinds.{full-rows, kind-layout, kind-sure}
+use Rattle.format.specs.Kinds.{formOf, kindOf, ruleIn}
+use Rattle.format.specs.Spans.{isTable, wordsOf}
+use Rattle.format.proofs.Book.{node-size, node-table}
+use Rattle.format.proofs.BookKinds.{kind-layout, kind-sure}
 use Rattle.format.specs.Book.{Book, NoBook, Opened, numbers, opened, trailerSize, namesOf, told}
 use Rattle.format.specs.Outcomes.{checkOf, given}
 use Rattle.format.proofs.Book.{book-opened, fits-parts, read-field}
@@ -33,7 +34,7 @@ use Rattle.streams.specs.Runs.{Frame, Has}
 use Rattle.streams.proofs.InBlocks.{has-blocks, has-end}
 use Rattle.streams.proofs.Walks.{has-known, has-names}
 use Rattle.walk.specs.Walking.{WalkSays}
-use Rattle.inspect.specs.Check.{TableAsk, isRows}
+use Rattle.inspect.specs.Check.{TableAsk, isNodes}
 use Rattle.numbers.proofs.Parts.{Held, held-bytes}
 use Rattle.accept.specs.Parts.{Framed, FramedSays, Parts, PartsSay, checkOn, checkedAs}
 use Rattle.accept.specs.declared.Checked.{Checked}
@@ -147,14 +148,15 @@ module _ (b : Bytes) (f : Framed b) where
       count = ne ∙ names-told;
       order = omega (arith, f .trail .total);
       long = omega (arith, f .trail .long);
+      counted = omega (arith, ue, f .trail .total, f .trail .long, ap (λ (x : ℕ). told b 4 * x) (node-size (formOf (kindOf b))));
     }
 
-    -- the node table is the table of a full book
-    pub table-is : (q : Bool) → q ≡ isRows b u (length b - trailerSize) → q ≡ isTable b (told b 3) (length b - trailerSize)
-    unfolding isRows isTable nodePart wordsOf
+    -- the node table is the table of the book's form
+    pub table-is : (q : Bool) → q ≡ isNodes b u (length b - trailerSize) → q ≡ isTable b (told b 3) (length b - trailerSize)
+    unfolding isNodes isTable wordsOf
     table-is q e =
-        e ∙ ap (λ (x : ℕ). isRows b x (length b - trailerSize)) ue
-        ∙ ap (λ (g : Form). same (numbers (tableIn g (ruleIn b) (namesOf b))) (slice (told b 3) (length b - trailerSize) b)) (sym (full-rows (kindOf b)))
+        e ∙ ap (λ (x : ℕ). isNodes b x (length b - trailerSize)) ue
+        ∙ ap (λ (l : List ℕ). same (numbers l) (slice (told b 3) (length b - trailerSize) b)) (sym (node-table (formOf (kindOf b)) (ruleIn b) (namesOf b)))
 
 -- ---- both
 

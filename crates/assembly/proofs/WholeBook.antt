@@ -19,8 +19,8 @@ use Rattle.format.specs.Kinds.{BookKind, countIn, formOf, markOf, recordSize, r
 use Rattle.format.specs.Book.{blockPart, book, entryPart, numbers, trailer}
 use Rattle.format.specs.Spans.{nodePart}
 use Rattle.format.specs.Nodes.{table, nodeSize}
-use Rattle.format.proofs.BookKinds.{kind-layout, mark-length}
-use Rattle.format.proofs.Book.{book-length, book-parts, full-length, full-nodes, full-number, table-length, trailerAt, trailerNumbers}
+use Rattle.format.proofs.BookKinds.{all-full, kind-layout, mark-length}
+use Rattle.format.proofs.Book.{book-length, book-parts, full-nodes, node-length, node-number, table-length, trailerAt, trailerNumbers}
 use Rattle.format.proofs.Numbers.{numbers-length}
 use Rattle.format.proofs.Groups.{table-empty}
 use Rattle.format.proofs.Spans.{table-few}
@@ -48,13 +48,13 @@ names-words κ s = refl
 
 pub rows-counted : (κ : BookKind) (n : ℕ) (shares : List ℕ) (m : ℕ) → NodeCount n shares m → RecordCount κ n shares m
 unfolding NodeCount RecordCount
-rows-counted κ n shares m p s lens counts ready = p (ruleOf κ) s lens counts ready ∙ ap (λ (ws : Words). length (table ws)) (sym (names-words κ s)) ∙ sym (full-number κ (ruleOf κ) (names s))
+rows-counted κ n shares m p s lens counts ready = p (ruleOf κ) s lens counts ready ∙ ap (λ (ws : Words). length (table ws)) (sym (names-words κ s)) ∙ sym (node-number (formOf κ) (ruleOf κ) (names s))
 
 pub rows-put : (κ : BookKind) (rule : ByRule) {s room after : Bytes} {m : ℕ} → ruleBy rule ≡ ruleOf κ → NodesPut (ruleBy rule) s room after m → TablePut κ s room after
 rows-put κ rule {s} {room} {after} {m} e p = record {
   put = λ h.
-      own .put (h ∙ sym (full-size (names s)) ∙ full-length κ (ruleOf κ) (names s) ∙ ap (λ (x : ℕ). x * nodeSize) (full-number κ (ruleOf κ) (names s) ∙ ap (λ (ws : Words). length (table ws)) (names-words κ s)))
-      ∙ ap (λ (ws : Words). nodePart (table ws)) (sym (names-words κ s)) ∙ sym (full-nodes κ (ruleOf κ) (names s));
+      own .put (h ∙ sym (full-size (names s)) ∙ node-length (formOf κ) (ruleOf κ) (names s) ∙ ap (λ (x : ℕ). x * nodeSize) (node-number (formOf κ) (ruleOf κ) (names s) ∙ ap (λ (ws : Words). length (table ws)) (names-words κ s)))
+      ∙ ap (λ (ws : Words). nodePart (table ws)) (sym (names-words κ s)) ∙ sym (full-nodes κ (all-full κ) (ruleOf κ) (names s));
 }
   where
     own : NodesPut (ruleOf κ) s room after m
@@ -78,7 +78,7 @@ module _ {κ : BookKind} {s : Bytes} {n : ℕ} {lens counts shares : List ℕ} {
     records-are = p s lens counts (a .ready)
 
     nodes-are : m ≡ length (table (words (ruleOf κ) s))
-    nodes-are = records-are ∙ full-number κ (ruleOf κ) (names s) ∙ ap (λ (ws : Words). length (table ws)) (names-words κ s)
+    nodes-are = records-are ∙ node-number (formOf κ) (ruleOf κ) (names s) ∙ ap (λ (ws : Words). length (table ws)) (names-words κ s)
 
     records-few : m ≤ 4000
     records-few = go n refl

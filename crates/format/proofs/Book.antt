@@ -1,10 +1,13 @@
 -- A book tells its parts, its block size and its names; and `opened` says just what bytes are a book.
 -- All but the last part holds over any rule, form and mark of four bytes; the kinds are instances.
 --     table-length, count-low, table-count     the table's bytes are so many records
---     full-length, full-nodes, full-number     of a full book they are nodes, and so many
+--     laid-length                nodes laid out in any form take as many bytes
+--     node-table, node-number, node-length, node-size     where the records are nodes: their numbers, how many there are, how many bytes they and each take
+--     full-nodes                 of a full book they stand record behind record
 --     FitsBy, Fits, fits-parts, parts-fits     what `fits` asks
 --     book-parts, book-split, book-length      a book is its parts, its body and its trailer; how long it is
 --     from-blocks, from-nodes, from-trailer, from-mark     what stands from each part on
+--     book-front, book-table     what stands before the table, and the table
 --     read-field                 what the trailer says: names, block size, starts, nodes, length
 --     read-names                 the names, out of a book's bytes
 --     book-is, is-book           the book of what fits is a book, and a book is that of the block size and the names that it tells
@@ -19,19 +22,23 @@ use mathlib.Core.Bool.{Bool, true, false}
 use mathlib.Core.List.{List, [], _∷_, _++_, map, append-assoc}
 use lib.Dec.{leb}
 use lib.ListN.{length, getD, take, drop, length-append}
-use lib.Seq.{drop-append-seam, drop-drop, getD-drop, take-append-seam}
+use lib.Seq.{drop-append-seam, drop-at, drop-drop, getD-drop, slice, take-append-seam, take-at}
 use borrow.Author.Tests.{leb-true, le-leb}
 use Rattle.words.specs.Rising.{All, cons, nil}
 use Rattle.words.specs.Words.{Bytes, Rule, both, pick, same, word}
 use Rattle.words.proofs.Lists.{all-at}
 use Rattle.words.proofs.Words.{both-true, same-refl, same-true}
-use Rattle.format.specs.Kinds.{BookKind, Form, Rows, allKinds, countIn, formOf, kindOf, markOf, markedAs, recordSize, ruleOf, tableIn}
+use Rattle.format.specs.Columns.{columns}
+use Rattle.format.specs.Forms.{laidOut}
+use Rattle.format.specs.Full.{isFull}
+use Rattle.format.specs.Kinds.{BookKind, Columns, Form, Rows, allKinds, countIn, formOf, kindOf, markOf, markedAs, recordSize, ruleOf, tableIn}
 use Rattle.format.specs.Layout.{Layout}
 use Rattle.format.specs.Book.{Book, NoBook, blockPart, book, bookBy, entryPart, fits, fitsBy, goodBlock, isBook, isBookBy, longestBook, namesOf, number, numbers, opened, told, trailer, trailerSize}
 use Rattle.format.specs.Spans.{nodePart}
 use Rattle.format.specs.Entries.{decode}
 use Rattle.format.specs.Nodes.{Node, allFields, fieldCount, nodeSize, table}
 use Rattle.format.specs.Records.{sound}
+use Rattle.format.proofs.Columns.{columns-length}
 use Rattle.format.proofs.Entries.{decode-entries}
 use Rattle.format.proofs.BookKinds.{full-rows, kind-layout, third-tells}
 use Rattle.format.proofs.Numbers.{number-past, numbers-at, numbers-length}
@@ -46,27 +53,46 @@ pub nodes-length : (rs : List Node) → length (nodePart rs) ≡ nodeSize * leng
 unfolding nodePart
 nodes-length rs = omega (arith, numbers-length (allFields rs), fields-length rs)
 
+-- nodes laid out in any form take as many bytes
+pub laid-length : (f : Form) (rs : List Node) → length (numbers (laidOut f rs)) ≡ length rs * nodeSize
+laid-length Rows rs = omega (arith, numbers-length (allFields rs), fields-length rs)
+laid-length Columns rs = omega (arith, numbers-length (columns rs), columns-length rs)
+
 -- the table's bytes are so many records
 pub table-length : (f : Form) (ρ : Rule) (xs : List Bytes) → length (numbers (tableIn f ρ xs)) ≡ countIn f ρ xs * recordSize f
-table-length Rows ρ xs = let rs : List Node = table (map (word ρ) xs) in omega (arith, numbers-length (allFields rs), fields-length rs)
+table-length Rows ρ xs = laid-length Rows (table (map (word ρ) xs))
+table-length Columns ρ xs = laid-length Columns (table (map (word ρ) xs))
 
 pub count-low : (f : Form) (ρ : Rule) (xs : List Bytes) → countIn f ρ xs ≤ length (numbers (tableIn f ρ xs))
 count-low Rows ρ xs = omega (arith, table-length Rows ρ xs)
+count-low Columns ρ xs = omega (arith, table-length Columns ρ xs)
 
 -- so they tell how many there are
 pub table-count : (f : Form) (ρ : Rule) (xs : List Bytes) (m : ℕ) → m * recordSize f ≡ length (numbers (tableIn f ρ xs)) → m ≡ countIn f ρ xs
 table-count Rows ρ xs m e = omega (arith, table-length Rows ρ xs)
+table-count Columns ρ xs m e = omega (arith, table-length Columns ρ xs)
 
--- of a full book, by the size of a node
-pub full-length : (κ : BookKind) (ρ : Rule) (xs : List Bytes) → length (numbers (tableIn (formOf κ) ρ xs)) ≡ countIn (formOf κ) ρ xs * nodeSize
-full-length κ ρ xs = subst (λ (f : Form). length (numbers (tableIn f ρ xs)) ≡ countIn f ρ xs * nodeSize) (sym (full-rows κ)) (table-length Rows ρ xs)
+-- where the records are nodes: their numbers, how many there are, how many bytes they take
+pub node-table : (f : Form) (ρ : Rule) (xs : List Bytes) → tableIn f ρ xs ≡ laidOut f (table (map (word ρ) xs))
+node-table Rows ρ xs = refl
+node-table Columns ρ xs = refl
 
-pub full-nodes : (κ : BookKind) (ρ : Rule) (xs : List Bytes) → numbers (tableIn (formOf κ) ρ xs) ≡ nodePart (table (map (word ρ) xs))
+pub node-number : (f : Form) (ρ : Rule) (xs : List Bytes) → countIn f ρ xs ≡ length (table (map (word ρ) xs))
+node-number Rows ρ xs = refl
+node-number Columns ρ xs = refl
+
+pub node-length : (f : Form) (ρ : Rule) (xs : List Bytes) → length (numbers (tableIn f ρ xs)) ≡ countIn f ρ xs * nodeSize
+node-length Rows ρ xs = table-length Rows ρ xs
+node-length Columns ρ xs = table-length Columns ρ xs
+
+pub node-size : (f : Form) → recordSize f ≡ nodeSize
+node-size Rows = refl
+node-size Columns = refl
+
+-- of a full book, record behind record
+pub full-nodes : (κ : BookKind) → isFull κ ≡ true → (ρ : Rule) (xs : List Bytes) → numbers (tableIn (formOf κ) ρ xs) ≡ nodePart (table (map (word ρ) xs))
 unfolding nodePart
-full-nodes κ ρ xs = ap (λ (f : Form). numbers (tableIn f ρ xs)) (full-rows κ)
-
-pub full-number : (κ : BookKind) (ρ : Rule) (xs : List Bytes) → countIn (formOf κ) ρ xs ≡ length (table (map (word ρ) xs))
-full-number κ ρ xs = ap (λ (f : Form). countIn f ρ xs) (full-rows κ)
+full-nodes κ full ρ xs = ap (λ (f : Form). numbers (tableIn f ρ xs)) (full-rows κ full)
 
 -- what `fits` asks
 pub record FitsBy (ρ : Rule) (f : Form) (mark : Bytes) (k : ℕ) (xs : List Bytes) : Type 0 where
@@ -137,6 +163,21 @@ module _ {ρ : Rule} {f : Form} {mark : Bytes} (y : Layout ρ f mark) (k : ℕ) 
 
   pub from-trailer : drop trailerAt (bookBy ρ f mark k xs) ≡ numbers trailerNumbers ++ mark
   from-trailer = sym (drop-drop (length tablePart) nodesAt (bookBy ρ f mark k xs)) ∙ ap (drop (length tablePart)) from-nodes ∙ drop-append-seam tablePart (numbers trailerNumbers ++ mark)
+
+  -- what stands before the table, and the table
+  pub book-front : take nodesAt (bookBy ρ f mark k xs) ≡ entryPart k xs ++ blockPart k xs
+  book-front =
+      let grouped : entryPart k xs ++ (blockPart k xs ++ (tablePart ++ (numbers trailerNumbers ++ mark))) ≡ (entryPart k xs ++ blockPart k xs) ++ (tablePart ++ (numbers trailerNumbers ++ mark)) = simp append-assoc in
+      ap (take nodesAt) (book-parts ∙ grouped) ∙ take-at (entryPart k xs ++ blockPart k xs) (tablePart ++ (numbers trailerNumbers ++ mark)) nodesAt (length-append (entryPart k xs) (blockPart k xs))
+
+  pub book-table : slice nodesAt trailerAt (bookBy ρ f mark k xs) ≡ tablePart
+  book-table =
+      let front : Bytes = entryPart k xs ++ blockPart k xs in
+      let end : Bytes = numbers trailerNumbers ++ mark in
+      let split : bookBy ρ f mark k xs ≡ (front ++ tablePart) ++ end = book-parts ∙ simp append-assoc in
+      ap (λ (s : Bytes). drop nodesAt (take trailerAt s)) split
+      ∙ ap (drop nodesAt) (take-at (front ++ tablePart) end trailerAt (length-append front tablePart ∙ ap (λ (n : ℕ). n + length tablePart) (length-append (entryPart k xs) (blockPart k xs))))
+      ∙ drop-at front tablePart nodesAt (length-append (entryPart k xs) (blockPart k xs))
 
   pub from-mark : drop (length (bookBy ρ f mark k xs) - 4) (bookBy ρ f mark k xs) ≡ mark
   from-mark =

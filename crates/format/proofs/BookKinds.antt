@@ -3,7 +3,7 @@
 --     kind-sure, kind-layout     each kind's rule gives every byte a symbol from 1 to 256; with its form and its mark it is a layout
 --     mark-length, mark-bytes     a mark has four bytes
 --     third-tells       the third byte of a kind's mark tells the kind
---     full-rows         the form of a full book
+--     full-rows, all-full     the form of a full book; every kind so far is one
 -- Assumes nothing.
 use Prim.Native.Nat.{ℕ, suc, _+_, _≤_, _<_}
 use native.Mathlib.Omega.{arith}
@@ -14,8 +14,9 @@ use lib.ListN.{getD, length}
 use borrow.Author.Tests.{leb-true}
 use Rattle.words.specs.Words.{pick, plain}
 use Rattle.words.specs.Rising.{All, cons, nil, Sure}
-use Rattle.words.proofs.Words.{both-true, sure-lawful}
+use Rattle.words.proofs.Words.{both-true, plain-sure, sure-lawful}
 use Rattle.format.specs.Folded.{capital, folded}
+use Rattle.format.specs.Full.{isFull}
 use Rattle.format.specs.Kinds.{BookKind, FoldedBook, PlainBook, Rows, allKinds, formOf, markOf, markedAs, ruleOf}
 use Rattle.format.specs.Layout.{Layout}
 use Rattle.format.proofs.Numbers.{all-bytes}
@@ -45,7 +46,7 @@ folded-high b h = go (capital b) refl
     go false e = omega arith
 
 pub kind-sure : (κ : BookKind) → Sure (ruleOf κ)
-kind-sure PlainBook = record { low = λ b. omega arith; high = λ b h. omega arith }
+kind-sure PlainBook = plain-sure
 kind-sure FoldedBook = record { low = folded-low; high = folded-high }
 
 pub mark-length : (κ : BookKind) → length (markOf κ) ≡ 4
@@ -63,6 +64,11 @@ pub third-tells : (κ : BookKind) → markedAs (getD (markOf κ) 2 0) allKinds �
 third-tells PlainBook = refl
 third-tells FoldedBook = refl
 
-pub full-rows : (κ : BookKind) → formOf κ ≡ Rows
-full-rows PlainBook = refl
-full-rows FoldedBook = refl
+pub full-rows : (κ : BookKind) → isFull κ ≡ true → formOf κ ≡ Rows
+full-rows PlainBook e = refl
+full-rows FoldedBook e = refl
+
+-- every kind so far is a full book's
+pub all-full : (κ : BookKind) → isFull κ ≡ true
+all-full PlainBook = refl
+all-full FoldedBook = refl

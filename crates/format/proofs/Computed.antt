@@ -1,8 +1,8 @@
 -- The union of Mar and Marina, Marina and Market Square, Mar and Zoo, computed: in both orders of two, in both groupings of three, and of one
 -- with itself; how many distinct names they have; worn cards that have a map, and those whose trailer or block table is wrong in one number; blocks of one
--- that are judged alone; and the symbols of bytes around the letters in a folded book. What another definition would give shows here, name by name and
--- symbol by symbol.
---     edges-computed, union-computed, union-commutes, union-associates, union-of-itself, distinct-computed, distinct-counted, maps-computed, no-maps-computed, no-map-of-2001, no-maps-of-cards, alone-computed
+-- that are judged alone; the symbols of bytes around the letters in a folded book; and the four nodes of Mar, Marina and Market Square as columns. What
+-- another definition would give shows here, name by name and symbol by symbol.
+--     edges-computed, columns-computed, union-computed, union-commutes, union-associates, union-of-itself, distinct-computed, distinct-counted, maps-computed, no-maps-computed, no-map-of-2001, no-maps-of-cards, alone-computed
 -- Assumes nothing.
 use mathlib.Core.Path.{_≡_, refl}
 use Prim.Native.Nat.{ℕ, zero, suc, _+_, _*_}
@@ -11,17 +11,28 @@ use mathlib.Core.List.{List, [], _∷_, _++_, map}
 use lib.ListN.{drop, length, replicate, set, take}
 use Rattle.words.specs.Words.{Bytes, begins, less, plain, same, shared}
 use Rattle.format.specs.Book.{number, numbers}
+use Rattle.format.specs.Columns.{columns}
 use Rattle.format.specs.Distinct.{distinct}
 use Rattle.format.specs.Example.{exampleBy2, exampleBy4, text}
 use Rattle.format.specs.Entries.{decode, decodeFrom, entry, front}
 use Rattle.format.specs.Folded.{folded}
 use Rattle.format.specs.Merging.{kept, merged}
+use Rattle.format.specs.Nodes.{Node}
 use Rattle.format.specs.Records.{rising}
 use Rattle.format.specs.Salvage.{Broken, Whole, boundsFrom, climbs, judgedAlone, mapped}
 
 -- A to Z, 65 to 90, have the symbols of a to z; the bytes beside them keep their own
 pub edges-computed : map folded (64 ∷ 65 ∷ 90 ∷ 91 ∷ 96 ∷ 97 ∷ 122 ∷ 123 ∷ []) ≡ 65 ∷ 98 ∷ 123 ∷ 92 ∷ 97 ∷ 98 ∷ 123 ∷ 124 ∷ []
 edges-computed = refl
+
+abbrev nodeFrom : ℕ → ℕ → ℕ → ℕ → ℕ → ℕ → Node
+nodeFrom symbol depth first names nodes width = record { symbol = symbol; depth = depth; first = first; names = names; nodes = nodes; width = width }
+
+-- document 01's four nodes: their symbols, depths, first names, numbers of names, numbers of nodes, widths
+pub columns-computed : columns (nodeFrom 0 3 0 3 4 13 ∷ nodeFrom 0 4 0 1 1 3 ∷ nodeFrom 106 7 1 1 1 6 ∷ nodeFrom 108 14 2 1 1 13 ∷ [])
+    ≡ 0 ∷ 0 ∷ 106 ∷ 108 ∷ 3 ∷ 4 ∷ 7 ∷ 14 ∷ 0 ∷ 0 ∷ 1 ∷ 2 ∷ 3 ∷ 1 ∷ 1 ∷ 1 ∷ 4 ∷ 1 ∷ 1 ∷ 1 ∷ 13 ∷ 3 ∷ 6 ∷ 13 ∷ []
+unfolding columns
+columns-computed = refl
 
 abbrev one : List Bytes
 one = text "Mar" ∷ text "Marina" ∷ []

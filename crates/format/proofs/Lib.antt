@@ -9,6 +9,7 @@ pub mod Salvage
 pub mod Groups
 pub mod Widths
 pub mod Spans
+pub mod Columns
 pub mod Numbers
 pub mod BookKinds
 pub mod Book

@@ -5,7 +5,9 @@ pub mod Distinct
 pub mod Entries
 pub mod Widths
 pub mod Nodes
+pub mod Columns
 pub mod Folded
+pub mod Forms
 pub mod Kinds
 pub mod Full
 pub mod Layout

@@ -2,8 +2,8 @@
 -- `step` bytes. It goes by the entries, and holds no name.
 --     NodeAsk                      what is asked where a node that is no leaf is looked at
 --     NodeStands, NodeSays         the node stands with its row; where the entry of its last name and its own record are, or 0, if it doesn't
---     TableAsk                     n names, and a part of the bytes
---     isRows                       that part is the node table of the names
+--     TableAsk                     n names, and a part of the bytes, as long as the nodes that the trailer tells
+--     isNodes                      that part is the node table of the names, in the form of the bytes' own mark
 -- The laws are in proofs/. Assumes nothing: these are definitions.
 use Prim.Native.Nat.{ℕ, pred, _+_, _*_, _/_, _%_, _≤_, _<_}
 use mathlib.Core.Path.{_≡_}
@@ -11,10 +11,11 @@ use mathlib.Core.Bool.{Bool}
 use lib.ListN.{getD, length}
 use lib.Seq.{slice}
 use Rattle.words.specs.Words.{Bytes, same}
-use Rattle.format.specs.Kinds.{ruleIn}
-use Rattle.format.specs.Spans.{nodePart, wordsIn}
-use Rattle.format.specs.Book.{namesOf, trailerSize, told}
-use Rattle.format.specs.Nodes.{table}
+use Rattle.format.specs.Forms.{laidOut}
+use Rattle.format.specs.Kinds.{formOf, kindOf, ruleIn}
+use Rattle.format.specs.Spans.{wordsIn}
+use Rattle.format.specs.Book.{namesOf, numbers, trailerSize, told}
+use Rattle.format.specs.Nodes.{nodeSize, table}
 use Rattle.streams.specs.Streams.{Here, InBlocks, Known, offsetAt}
 use Rattle.standing.specs.Maps.{Paced, Roomy, RoomyTo, mapBy, recordAt}
 use Rattle.standing.specs.Stands.{NodeAt}
@@ -59,7 +60,8 @@ pub record TableAsk (b : Bytes) (start end n : ℕ) : Type 0 where
   pub count : n ≡ length (namesOf b)
   pub order : start ≤ end
   pub long : end + trailerSize ≤ length b
+  pub counted : start + told b 4 * nodeSize ≡ end
 
 -- the names are those that the entries are read as
-unfoldable pub isRows : Bytes → ℕ → ℕ → Bool
-isRows b start end = same (nodePart (table (wordsIn b))) (slice start end b)
+unfoldable pub isNodes : Bytes → ℕ → ℕ → Bool
+isNodes b start end = same (numbers (laidOut (formOf (kindOf b)) (table (wordsIn b)))) (slice start end b)

@@ -3,7 +3,7 @@
 // stands `stride` bytes further on, and a node's next number `step` bytes.
 ghost use mathlib.Core.Path.{_≡_};
 ghost use Rattle.standing.specs.Maps.{recordAt};
-ghost use Rattle.inspect.specs.Check.{NodeAsk, NodeSays, TableAsk, isRows};
+ghost use Rattle.inspect.specs.Check.{NodeAsk, NodeSays, TableAsk, isNodes};
 
 // The node at an offset, which is no leaf and whose nodes end at `end`; the first one's entry stands at a. Where the entry of its last
 // name stands, and 65,536 times its own offset; or 0, where no node of several names ends there. What led to it and its first name is its
@@ -102,7 +102,7 @@ fn check_row(
 // Whether the bytes from start to end are the node table of the n names that the entries are read as.
 pub fn check_table(book: &[u8], start: usize, end: usize, n: usize) -> bool
     requires { ⌜ TableAsk (now book) start end n ⌝ }
-    ensures { λ r. ⌜ r ≡ isRows (now (book .entry)) start end ⌝ }
+    ensures { λ r. ⌜ r ≡ isNodes (now (book .entry)) start end ⌝ }
 {
     if n == 0 {
         return start == end;

@@ -11,8 +11,8 @@ use mathlib.Core.Path.{_≡_, _∙_, ap, ap₂, refl, sym}
 use mathlib.Core.List.{List, [], _∷_, map}
 use lib.ListN.{length, length-map}
 use Rattle.words.specs.Words.{Bytes, InBytes, word}
-use Rattle.format.proofs.BookKinds.{full-rows}
-use Rattle.format.specs.Kinds.{kindOf, ruleIn}
+use Rattle.standing.proofs.Maps.{map-starts}
+use Rattle.format.specs.Kinds.{formOf, kindOf, ruleIn}
 use Rattle.format.specs.Spans.{wordsIn, wordsOf}
 use Rattle.format.specs.Book.{namesOf, opened, told}
 use Rattle.format.specs.Records.{longest}
@@ -56,7 +56,7 @@ none-found (suc (suc (suc (suc zero)))) h n q = absurd (n refl)
 none-found (suc (suc (suc (suc (suc zero))))) h n q = refl
 none-found (suc (suc (suc (suc (suc (suc kind)))))) h n q = absurd (lt-irrefl 5 (omega (arith, h .high)))
 
--- an accepted book with names, whose table is node rows, can be searched
+-- an accepted book with names can be searched
 pub askable : (b : Bytes) (t : Trailer) (kind : ℕ) → Held b → Looking b t kind → KindAsk b t kind
 askable b t kind held l =
     let f = sound-book b t (held-bytes b held) (l .asking .checked) in
@@ -66,8 +66,8 @@ askable b t kind held l =
         block = ap (λ (x : Trailer). x .block) (f .told);
         blocks = ap (λ (x : Trailer). x .«blocks_at») (f .told);
         nodes = ap (λ (x : Trailer). x .«nodes_at») (f .told);
-        root = rw (full-rows (kindOf b)) refl;
-        searchable = rw (full-rows (kindOf b)) (opened-searchable (kindOf b) (full-rows (kindOf b)) b (t .block) (namesOf b) (f .book) (held-bytes b held) (omega (arith, f .count, l .some)));
+        root = map-starts (formOf (kindOf b)) (told b 3) (told b 4);
+        searchable = opened-searchable (kindOf b) b (t .block) (namesOf b) (f .book) (held-bytes b held) (omega (arith, f .count, l .some));
       };
       low = l .asking .number .low;
       high = l .asking .number .high;

@@ -4,3 +4,5 @@ pub mod Records
 pub mod Children
 pub mod Walk
 pub mod Bytes
+pub mod ColumnBytes
+pub mod FormBytes

@@ -1,5 +1,6 @@
 -- A record by its fields, and fields by their places.
 --     fields-are, record-is     a record's fields are the numbers that stand at their places; and the other way
+--     map-starts                the map of a form's table starts where the table does
 --     steps-within              no field stands further behind the first than the last one
 --     strides-differ            different numbers of nodes are different ways, where nodes have some extent
 --     strides-left              of a way over nodes, what is left behind a shorter one
@@ -16,8 +17,9 @@ use mathlib.Core.Path.{_≡_, refl, sym, ap, _∙_}
 use lib.ListN.{getD}
 use Rattle.words.specs.Words.{Bytes}
 use Rattle.format.specs.Book.{number}
+use Rattle.format.specs.Kinds.{Columns, Form, Rows}
 use Rattle.format.specs.Nodes.{Node, fieldCount, fields}
-use Rattle.standing.specs.Maps.{Map, Placed, nodeIn, numberIn, recordAt}
+use Rattle.standing.specs.Maps.{Map, Placed, mapIn, nodeIn, numberIn, recordAt}
 
 module _ (step : ℕ) (b : Bytes) (o : ℕ) where
   pub fields-are : (j : ℕ) → j < fieldCount → number b (o + j * step) ≡ getD (fields (recordAt step b o)) j 0
@@ -34,6 +36,11 @@ module _ (step : ℕ) (b : Bytes) (o : ℕ) where
     where
       field : (j : ℕ) → j < fieldCount → getD (fields (recordAt step b o)) j 0 ≡ getD (fields r) j 0
       field j l = sym (fields-are j l) ∙ h j l
+
+-- the map of a form's table starts where the table does
+pub map-starts : (f : Form) (start count : ℕ) → mapIn f start count .start ≡ start
+map-starts Rows start count = refl
+map-starts Columns start count = refl
 
 pub steps-within : (step j : ℕ) → j < fieldCount → j * step ≤ pred fieldCount * step
 steps-within step zero h = omega arith

@@ -2,6 +2,7 @@
 --     Map               where the table starts, how far it is from a node to the next, and from a number of a node to its next
 --     nodeIn, numberIn  where node v stands; the number of the node at an offset
 --     rowsAt, inRows    a table that starts at an offset, record behind record; the same, wherever it starts
+--     columnsAt         a table that starts at an offset and has so many nodes, column behind column
 --     mapBy             a map by its last two numbers, wherever the table starts
 --     mapIn, mapOf      the map of a form of table, which starts at an offset and has so many nodes; the map of the table that bytes tell of
 --     Paced             how far it can be from a node to the next
@@ -14,7 +15,7 @@ use mathlib.Core.Path.{_≡_}
 use lib.ListN.{length}
 use Rattle.words.specs.Words.{Bytes}
 use Rattle.format.specs.Book.{number, told}
-use Rattle.format.specs.Kinds.{Form, Rows, formOf, kindOf}
+use Rattle.format.specs.Kinds.{Columns, Form, Rows, formOf, kindOf}
 use Rattle.format.specs.Nodes.{Node, fieldCount, nodeSize}
 
 pub record Map : Type 0 where
@@ -31,6 +32,9 @@ numberIn μ o = (o - μ .start) / μ .stride
 abbrev pub rowsAt : ℕ → Map
 rowsAt start = record { start = start; stride = nodeSize; step = 2 }
 
+abbrev pub columnsAt : ℕ → ℕ → Map
+columnsAt start count = record { start = start; stride = 2; step = 2 * count }
+
 -- what stands behind an offset does not depend on where the table starts
 abbrev pub mapBy : ℕ → ℕ → Map
 mapBy stride step = record { start = 0; stride = stride; step = step }
@@ -40,6 +44,7 @@ inRows = rowsAt 0
 
 abbrev pub mapIn : Form → ℕ → ℕ → Map
 mapIn Rows start count = rowsAt start
+mapIn Columns start count = columnsAt start count
 
 abbrev pub mapOf : Bytes → Map
 mapOf b = mapIn (formOf (kindOf b)) (told b 3) (told b 4)

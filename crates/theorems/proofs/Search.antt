@@ -18,10 +18,9 @@ use mathlib.Core.List.{List, map}
 use lib.ListN.{length, length-map}
 use Rattle.words.specs.Rising.{Rises, nth}
 use Rattle.words.specs.Words.{Bytes, InBytes, Rule, Words, at, begins, shared, word}
-use Rattle.format.specs.Kinds.{BookKind, ruleOf}
+use Rattle.format.specs.Kinds.{BookKind, formOf, ruleOf}
 use Rattle.format.specs.Book.{Book, opened, told}
 use Rattle.format.specs.Records.{sound}
-use Rattle.format.proofs.BookKinds.{full-rows}
 use Rattle.format.proofs.Records.{sound-rising, symbols-rises, word-short}
 use Rattle.answers.specs.Questions.{Pair, count, exact, place, range, reached}
 use Rattle.answers.proofs.Nearest.{reached-most, reached-within}
@@ -29,7 +28,7 @@ use Rattle.descent.proofs.Bytes.{opened-searchable}
 use Rattle.descent.proofs.Cuts.{exact-here, exact-nowhere, range-none, whole-place, whole-range}
 use Rattle.descent.proofs.Exists.{WholeWay, descent-exists}
 use Rattle.descent.proofs.Paths.{edge-after, edge-before, fork-child, fork-end, found, only-reached, reached-is}
-use Rattle.standing.specs.Maps.{rowsAt}
+use Rattle.standing.specs.Maps.{mapIn}
 use Rattle.descent.specs.Vocabulary.{Descended, Found, Highest, Searchable, Sought, from, node, upto}
 use Rattle.theorems.specs.Layouts.{AllLettered, Lettered}
 use Rattle.theorems.proofs.Lettered.{lettered-positive, names-symbols}
@@ -90,5 +89,5 @@ module _ (ρ : Rule) (xs : List Bytes) (letters : AllLettered ρ xs) (is : sound
       let none : count (begins q) ws ≡ 0 = sym (range-none ws q r (shared q (nth ws (reached q ws))) (λ i l. reached-most q ws r i l) h) in
       ap (λ (c : ℕ). (place q ws, c)) none
 
-pub search-book : (κ : BookKind) (s : Bytes) (k : ℕ) (xs : List Bytes) → InBytes s → opened s ≡ Book κ k xs → 0 < length xs → Searchable (ruleOf κ) s (rowsAt (told s 3))
-search-book κ s k xs h e some = opened-searchable κ (full-rows κ) s k xs e h some
+pub search-book : (κ : BookKind) (s : Bytes) (k : ℕ) (xs : List Bytes) → InBytes s → opened s ≡ Book κ k xs → 0 < length xs → Searchable (ruleOf κ) s (mapIn (formOf κ) (told s 3) (told s 4))
+search-book κ s k xs h e some = opened-searchable κ s k xs e h some

@@ -21,7 +21,7 @@ use Rattle.words.specs.Words.{Bytes, InBytes, pick}
 use Rattle.format.specs.Book.{number, numbers, told, trailer, trailerSize}
 use Rattle.format.specs.Kinds.{BookKind, FoldedBook, PlainBook, allKinds, formOf, kindOf, markOf, markedAs, recordSize}
 use Rattle.format.specs.Nodes.{nodeSize}
-use Rattle.format.proofs.BookKinds.{full-rows, third-tells}
+use Rattle.format.proofs.BookKinds.{all-full, full-rows, third-tells}
 use Rattle.standing.specs.Maps.{mapOf}
 use Rattle.numbers.proofs.Parts.{Held, held-bytes}
 use Rattle.symbols.specs.Rules.{byKind}
@@ -48,7 +48,7 @@ rule-plain b n = rw (ne-eqb (getD b (length b - 2) 0) 0x46 n) (go (eqb (getD b (
 
 -- every kind of book has its nodes in rows
 pub rows-map : (b : Bytes) → (nodeSize ≡ mapOf b .stride) × (2 ≡ mapOf b .step)
-rows-map b = rw (full-rows (kindOf b)) (refl, refl)
+rows-map b = rw (full-rows (kindOf b) (all-full (kindOf b))) (refl, refl)
 
 -- ---- the mark
 
