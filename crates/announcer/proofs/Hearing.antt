@@ -7,7 +7,7 @@ use native.Mathlib.Nat.{lt-irrefl}
 use native.Mathlib.Omega.{arith}
 use mathlib.Core.Path.{_≡_, refl, sym, ap, _∙_}
 use mathlib.Core.List.{List, [], _∷_, map}
-use lib.ListN.{List·getD-map, drop, getD, length, replicate, take}
+use lib.ListN.{List·getD-map, getD, length, replicate, take}
 use lib.Seq.{take-length}
 use Rattle.words.specs.Words.{Bytes}
 use Rattle.format.specs.Book.{Book, NoBook, Opened, opened}

@@ -13,11 +13,11 @@ use lib.ListN.{getD, length}
 use Rattle.words.specs.Words.{Bytes}
 use Rattle.format.specs.Full.{isFull}
 use Rattle.format.specs.Kinds.{kindOf}
-use Rattle.format.specs.Outcomes.{Answer as Numbers, given, numbered, over, refused}
+use Rattle.format.specs.Outcomes.{Answer as Numbers, given, numbered, over}
 use Rattle.answers.specs.Announcing.{Clips, clipOf, refusal}
 use Rattle.answers.specs.Calls.{check, question}
-use Rattle.answers.specs.Routes.{Routed, clipsAt, firstBad, routeOf}
-use Rattle.answers.proofs.Announcing.{Ready, clip-count, clip-exact, clip-long, clip-range, clip-refused, exact-within, range-within, ready-parts, refusal-code, refusal-kind, refusal-none, refusal-table}
+use Rattle.answers.specs.Routes.{clipsAt, firstBad, routeOf}
+use Rattle.answers.proofs.Announcing.{clip-count, clip-exact, clip-long, clip-range, clip-refused, exact-within, range-within, ready-parts, refusal-code, refusal-kind, refusal-none, refusal-table}
 use Rattle.answers.proofs.Routes.{bad-good, route-bad, route-given, route-long, route-refused, route-short}
 use Rattle.shapes.specs.Shapes.{answered}
 use Rattle.shapes.specs.Routes.{routed}

@@ -14,7 +14,7 @@ use native.Mathlib.Omega.{arith}
 use mathlib.Core.Path.{_≡_, refl, sym, ap, _∙_, subst}
 use mathlib.Core.Bool.{Bool, true, false}
 use mathlib.Core.List.{List, [], _∷_, map}
-use lib.Dec.{eqb, leb}
+use lib.Dec.{eqb}
 use lib.ListN.{getD, length, length-map}
 use borrow.Author.Tests.{eq-eqb, eqb-true, le-leb, lt-leb, ne-eqb}
 use Rattle.words.specs.Words.{Bytes, Words, begins, both, pick, same, shared, word}
@@ -27,7 +27,7 @@ use Rattle.format.specs.Records.{longest}
 use Rattle.format.proofs.Book.{opened-kind, opened-long, opened-third}
 use Rattle.answers.specs.Announcing.{Clips, clipOf, refusal, spoken}
 use Rattle.answers.specs.Calls.{check, namesAnswer, question, questionOf}
-use Rattle.answers.specs.Questions.{Pair, answer, ask, count, exact, exactFrom, range}
+use Rattle.answers.specs.Questions.{Pair, answer, ask, exact, exactFrom, range}
 use Rattle.answers.proofs.Calls.{question-given, question-long}
 use Rattle.answers.proofs.Places.{count-all, range-le}
 

@@ -18,7 +18,7 @@ use Rattle.words.specs.Words.{Bytes, pick}
 use Rattle.format.specs.Outcomes.{given, numbered, over, refused}
 use Rattle.answers.specs.Announcing.{Clips, refusal}
 use Rattle.answers.specs.Calls.{check}
-use Rattle.answers.specs.Routes.{Routed, clipsAt, firstBad, mostStops, routeOf}
+use Rattle.answers.specs.Routes.{clipsAt, firstBad, mostStops, routeOf}
 
 -- ---- the first bad position
 
