@@ -1,13 +1,13 @@
 /*
  * Two operators' lists made one, its three stops in a book, what can be asked of
  * it, how far each question looks, what is announced of it, and what is left of it
- * where it is damaged; and a folded book, in which a driver finds stops in small
- * letters.
+ * where it is damaged; a column book of the same stops, for a panel that reads one
+ * field at a time; and a folded book, in which a driver finds stops in small letters.
  *
  * The merged list, the book and the first twelve questions are those of document
  * 01, the project's scope document; the widths, the merging, how much of a
- * question is lit, the salvage, the folded book, how far a question looks and the
- * announcer are document 02's. Every answer is held to the figures there: where one
+ * question is lit, the salvage, the folded book, how far a question looks, the
+ * announcer and the column book are document 02's. Every answer is held to the figures there: where one
  * differs, the program says so and its exit status is 1.
  *
  * run.sh compiles it, links it with the proved library and runs it.
@@ -110,6 +110,17 @@ static const struct spoken SPOKEN[] = {
 /* A route, which may come to a stop twice, and its clips. */
 static const size_t ROUTE[] = {2, 0, 2};
 static const uint16_t ROUTE_CLIPS[] = {1005, 1020, 1005};
+
+/* The node table of the three stops as columns: symbols, depths, first names, numbers
+   of names, numbers of nodes and widths, each of four nodes. */
+static const uint8_t COLUMNS[] = {
+    0,  0, 0, 0, 106, 0, 108, 0, /* symbol */
+    3,  0, 4, 0, 7,   0, 14,  0, /* depth */
+    0,  0, 0, 0, 1,   0, 2,   0, /* first name */
+    3,  0, 1, 0, 1,   0, 1,   0, /* names */
+    4,  0, 1, 0, 1,   0, 1,   0, /* nodes */
+    13, 0, 3, 0, 6,   0, 13,  0, /* width */
+};
 
 struct damage {
     const char *how;
@@ -528,6 +539,35 @@ static void announce(const uint8_t *book, size_t length)
     speak_longest_route(book, length);
 }
 
+/* Turns the plain book into a column book, asks that, and turns it back. Only the node
+   table, at 29, and the mark are other bytes than before. */
+static void turn_to_columns(const uint8_t *book, size_t length)
+{
+    uint8_t columns[94];
+    uint8_t back[93];
+    size_t i;
+
+    columns[93] = 0xAA;
+    hold("book_to_columns", book_to_columns(book, length, columns, sizeof columns), 0, 93,
+         0);
+    if (memcmp(columns, book, 29) != 0 ||
+        memcmp(columns + 29, COLUMNS, sizeof COLUMNS) != 0 ||
+        memcmp(columns + 77, book + 77, 12) != 0 ||
+        memcmp(columns + 89, MISTROGU_COLUMNS_MARK, 4) != 0 || columns[93] != 0xAA) {
+        printf("WRONG: that is not the column book\n");
+        differences++;
+    }
+    hold("book_check, columns", book_check(columns, 93), 0, 3, 2);
+    for (i = 0; i < COUNT(ASKED); i++)
+        ask_and_hold(columns, 93, &ASKED[i]);
+    hold("book_from_columns", book_from_columns(columns, 93, back, sizeof back), 0, 93, 0);
+    if (length != sizeof back || memcmp(back, book, sizeof back) != 0) {
+        printf("WRONG: that is not the book again\n");
+        differences++;
+    }
+    printf("a column book of 93 bytes, with the same answers, and the book again\n");
+}
+
 /* Prints the names in a run of records. */
 static void print_records(const uint8_t *records, size_t length)
 {
@@ -759,6 +799,43 @@ static void be_refused_routes(const uint8_t *book, size_t length)
         printf("and six routes\n");
 }
 
+/* The same with conversions, by the order 2, 4, and with calls that take no column
+   book; the room is as it was. */
+static void be_refused_conversions(const uint8_t *book, size_t length)
+{
+    static const uint8_t small[] = "\x03mar\x06marina";
+    uint8_t columns[93];
+    uint8_t folded[100];
+    uint8_t room[93];
+    struct mistrogu_kept report[2];
+    struct mistrogu_answer built =
+        book_build_folded(small, sizeof small - 1, 2, folded, sizeof folded);
+    int before = differences;
+
+    book_to_columns(book, length, columns, sizeof columns);
+    memset(room, 0xAA, sizeof room);
+    hold("a column book to columns, and no room",
+         book_to_columns(columns, sizeof columns, room, 0), MISTROGU_NO_BOOK, 0, 0);
+    hold("a folded book to columns",
+         book_to_columns(folded, built.first, room, sizeof room), MISTROGU_NO_BOOK, 0, 0);
+    hold("a plain book from columns", book_from_columns(book, length, room, sizeof room),
+         MISTROGU_NO_BOOK, 0, 0);
+    hold("to columns, and a room too short",
+         book_to_columns(book, length, room, sizeof room - 1), MISTROGU_ROOM_TOO_SHORT, 0,
+         0);
+    hold("from columns, and a room too short",
+         book_from_columns(columns, sizeof columns, room, sizeof room - 1),
+         MISTROGU_ROOM_TOO_SHORT, 0, 0);
+    hold("what is announced of a column book",
+         speak(columns, sizeof columns, COUNT(STOPS), "Mar"), MISTROGU_NO_BOOK, 0, 0);
+    hold("what is left of a column book",
+         book_salvage(columns, sizeof columns, room, sizeof room, report, COUNT(report)),
+         MISTROGU_NO_MAP, 0, 0);
+    hold_untouched(room, sizeof room);
+    if (differences == before)
+        printf("and seven calls with books of another kind or short rooms\n");
+}
+
 /* Builds the book of three stops, and gives its length; 0 where it is refused. */
 static size_t build(const uint8_t *list, size_t list_length, uint8_t *book, size_t space)
 {
@@ -806,6 +883,7 @@ int main(void)
     ask_in_a_batch(book, length);
     light_no_half_letter();
     announce(book, length);
+    turn_to_columns(book, length);
     fold();
     salvage(book, length);
     be_refused(list, list_length, book, length);
@@ -813,5 +891,6 @@ int main(void)
     be_refused_lists(list, list_length);
     be_refused_texts(book, length);
     be_refused_routes(book, length);
+    be_refused_conversions(book, length);
     return differences == 0 ? 0 : 1;
 }

@@ -8,6 +8,7 @@
 #   host/emulated.sh salvage CARDFILE                    of book_salvage on that card, into a room that is always long enough
 #   host/emulated.sh merge|judge FIRST SECOND            of list_merge, list_judge on these two lists
 #   host/emulated.sh batch BOOKFILE                      of book_batch with 64 questions to that book, in the five kinds by turns
+#   host/emulated.sh to_columns|from_columns BOOKFILE    of book_to_columns, book_from_columns on that book
 #   host/emulated.sh clip BOOKFILE TEXT                  of announce_clip with that text to that book
 #   host/emulated.sh route BOOKFILE                      of announce_route with 120 positions of that book
 #   host/emulated.sh screen BOOKFILE TYPED               of a range and ten reads, as a passenger screen makes them when something is typed

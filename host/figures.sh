@@ -243,6 +243,18 @@ of_folded() {
     done
 }
 
+# The same names in column books, and both conversions.
+of_columns() {
+    local name
+    for name in "${large[@]}"; do
+        say "$who, $name, columns"
+        count "check $name-columns" check "$work/$name-columns.book"
+        questions "$name-columns" "$work/$name-columns.book"
+        count "to $name" to_columns "$work/$name.book"
+        count "from $name" from_columns "$work/$name-columns.book"
+    done
+}
+
 # The deepest stack of each call on every list, and of the check on hostile bytes.
 of_stacks() {
     local name kind book most=0
@@ -252,6 +264,7 @@ of_stacks() {
         painted "check $name" check "$work/$name.book"
         painted "read $name" read "$work/$name.book" 0
         painted "batch $name" batch "$work/$name.book"
+        painted "convert $name" to_columns "$work/$name.book"
         painted "clip $name" clip "$work/$name.book" "${of[$name range dearest]}"
         painted "route $name" route "$work/$name.book"
         painted "salvage $name" salvage "$work/$name.book"
@@ -289,6 +302,7 @@ done
 for name in "${large[@]}"; do
     "$host/measure.sh" split "${file[$name]}" "$work/$name.odd" "$work/$name.even" >/dev/null
     "$host/measure.sh" fold "${file[$name]}" "${block[$name]}" "$work/$name" >/dev/null
+    of[nodes $name]=$("$host/measure.sh" columns "$work/$name.book" "$work/$name-columns.book" | sed 's/ nodes$//')
     of[damaged $name]=$("$host/measure.sh" wear "$work/$name.book" "$work/$name.card" | sed 's/.*: //')
 done
 
@@ -298,6 +312,7 @@ of_large_lists
 of_announcer
 of_heads
 of_folded
+of_columns
 of_dearest
 count screen screen "$work/stations.book" San
 "$host/measure.sh" growth >"$work/growth"
@@ -312,6 +327,7 @@ use reference "$("$host/reference.sh")"
 of_every_list
 of_large_lists
 of_announcer
+of_columns
 of_dearest
 export MISTROGU_ARCHIVE=$product
 use small "$("$host/small.sh")"
@@ -483,6 +499,22 @@ folded() {
     close_part
 }
 
+columns() {
+    echo "## Column books"
+    echo
+    open_part columns
+    echo "| List | check | columns | a question, average | columns | \`book_to_columns\`, after the check | reference | a byte of the node table | \`book_from_columns\`, after the check | reference | a byte |"
+    echo "|---|---:|---:|---:|---:|---:|---:|---:|---:|---:|---:|"
+    local name check column question to from
+    for name in "${large[@]}"; do
+        check=${of[own check $name]} column=${of[own check $name-columns]} question=${of[own $name all]}
+        to=$(awk -v all="${of[own to $name]}" -v check="$check" -v nodes="${of[nodes $name]}" 'BEGIN { printf "%.1f", (all - check) / (12 * nodes) }')
+        from=$(awk -v all="${of[own from $name]}" -v check="$column" -v nodes="${of[nodes $name]}" 'BEGIN { printf "%.1f", (all - check) / (12 * nodes) }')
+        echo "| \`$name\` | $(g "$check") | $(beside "$column" "$check") | $(g "$question") | $(beside "${of[own $name-columns all]}" "$question") | $(after_check "to $name" "check $name") | $to | $(after_check "from $name" "check $name-columns") | $from |"
+    done
+    close_part
+}
+
 growing() {
     echo "## How it grows"
     echo
@@ -535,12 +567,12 @@ stacks() {
     of_bound "The cycle"
     close_part
     open_part painted
-    echo "| List | build | check | read | question | batch | clip | route | salvage | merge with itself |"
-    echo "|---|---:|---:|---:|---:|---:|---:|---:|---:|---:|"
+    echo "| List | build | check | read | question | batch | to columns | clip | route | salvage | merge with itself |"
+    echo "|---|---:|---:|---:|---:|---:|---:|---:|---:|---:|---:|"
     local name call row
     for name in "${all[@]}"; do
         row="| \`$name\` |"
-        for call in build check read ask batch clip route salvage merge; do row+=" $(g "${of[stack $call $name]}") |"; done
+        for call in build check read ask batch convert clip route salvage merge; do row+=" $(g "${of[stack $call $name]}") |"; done
         echo "$row"
     done
     echo
@@ -600,7 +632,7 @@ random_cases() {
     close_part
 }
 
-for part in state building checking asking batching announcing two_lists cards folded growing dearest by_bytes stacks others screen vector_sets random_cases; do
+for part in state building checking asking batching announcing two_lists cards folded columns growing dearest by_bytes stacks others screen vector_sets random_cases; do
     "$part"
 done >"$folder/figures.md"
 cat "$folder/figures.md"

@@ -7,6 +7,8 @@
 #   host/measure.sh read BOOKFILE POSITION        of book_read at that position of that book
 #   host/measure.sh exact BOOKFILE QUESTION       of book_exact with that question to that book
 #   host/measure.sh place|range|nearest|width ..  of book_place, book_range, book_nearest, book_width, as for exact
+#   host/measure.sh to_columns BOOKFILE           of book_to_columns on that plain book, into a room of its length
+#   host/measure.sh from_columns BOOKFILE         of book_from_columns on that column book, likewise
 #   host/measure.sh clip BOOKFILE TEXT            of announce_clip with that text to that book
 #   host/measure.sh route BOOKFILE [STOPS]        of announce_route with so many positions of that book, or with 120
 #   host/measure.sh salvage CARDFILE              of book_salvage on that card, into a room that is always long enough
@@ -23,6 +25,7 @@
 #   host/measure.sh split LISTFILE ODD EVEN       counts nothing, but parts a list into two files, to be merged again
 #   host/measure.sh wear BOOKFILE CARDFILE        counts nothing, but damages every tenth block of a book, to be salvaged
 #   host/measure.sh book LISTFILE K BOOKFILE      counts nothing, but writes a list's book, and tells its names and levels
+#   host/measure.sh columns BOOKFILE NEW          counts nothing, but writes the column book of a plain book, and tells its nodes
 #   host/measure.sh fold LISTFILE K NAME          counts nothing, but writes a list's names for folded books, and those books
 #
 # A question, like a text, is a word, or `hex:` and two digits for each byte. The clip at each position is the position's own number. `vectors lists FOLDER` and `vectors books FOLDER K` write files to measure
@@ -30,7 +33,8 @@
 # writes, a damaged block is broken in its last entry, so all of it is gone through before it is dropped. `fold` writes NAME-folded.list and
 # NAME-folded.book, with the names as they are spelt, and NAME-turns.list and NAME-turns.book, in small letters and capitals by turns, so that
 # neighbours share no byte. Levels, of which `book` tells, are forks that stand inside each other, on the longest way down. Every call that
-# takes a book takes either kind. The words go to the program `bench`. The archive is the one that MISTROGU_ARCHIVE names, or archive.sh's;
+# takes a book takes each kind, but for those of the announcer, which take plain and folded books, and those of one kind alone: a conversion
+# and salvage. The words go to the program `bench`. The archive is the one that MISTROGU_ARCHIVE names, or archive.sh's;
 # reference.sh and small.sh make others, to measure in the same way.
 #
 # `questions` makes 100 questions from the book's names, the same ones each time: 20 names, 20 beginnings, 20 extensions, 20 that miss a
@@ -212,6 +216,6 @@ clips) shift && mixed_texts "$@" ;;
 screen) screen "$@" ;;
 growth) growth ;;
 worst | worst_folded) worst "$@" ;;
-split | wear | book | fold) "$bench" "$@" ;;
+split | wear | book | columns | fold) "$bench" "$@" ;;
 *) one_call "$@" ;;
 esac

@@ -79,6 +79,17 @@ struct answer book_batch(const byte *book, size book_length, const byte *questio
     return *written_book_batch(&given, book, book_length, questions, questions_length, rows, row_count, answers, answer_count);
 }
 
+/* A call that turns a book of one kind into one of another. */
+#define CONVERTS(name)                                                                                          \
+    struct answer *written_##name(struct answer *, const byte *, size, byte *, size);                           \
+    struct answer name(const byte *book, size book_length, byte *room, size room_length) {                      \
+        struct answer given;                                                                                    \
+        return *written_##name(&given, book, book_length, room, room_length);                                   \
+    }
+
+CONVERTS(book_to_columns)
+CONVERTS(book_from_columns)
+
 struct answer book_salvage(const byte *data, size data_length, byte *room, size room_length, struct kept *report, size report_count) {
     struct answer given;
     return *written_book_salvage(&given, data, data_length, room, room_length, report, report_count);

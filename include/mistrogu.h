@@ -3,9 +3,10 @@
  *
  * A book keeps a strictly rising list of names in at most 65,535 bytes. These
  * calls build a book, check it, read its names back, answer questions about
- * them, tell which recorded clip speaks a name, salvage what is left of a damaged
- * book, and merge two lists into one. Each of them is proved to do what stands over
- * it here, for any bytes and any numbers: bad input gets a refusal.
+ * them, convert a book from one layout to another, tell which recorded clip speaks
+ * a name, salvage what is left of a damaged book, and merge two lists into one. Each
+ * of them is proved to do what stands over it here, for any bytes and any numbers:
+ * bad input gets a refusal.
  *
  * All calls are in one archive, libmistrogu.a. `host/archive.sh` makes it
  * (target/staticlib/libmistrogu.a). It has two objects: announcer.o has the two
@@ -19,7 +20,7 @@
  * extensions. Positions count from 0. A list is a run of records without gaps,
  * each one byte with the length of a name and then the name; it may be empty.
  *
- * TWO KINDS OF BOOK
+ * THREE KINDS OF BOOK
  *
  * In a plain book every byte is a letter of its own. In a folded book the capitals
  * A to Z, bytes 65 to 90, are the same letters as a to z, the bytes 32 higher:
@@ -29,10 +30,19 @@
  * with accents, which are bytes from 128 on, do not. Names are read back as they
  * were spelt.
  *
- * Who builds a book says which kind it is. From then on its last four bytes, the
- * mark, tell it: every call that takes a book goes by them. Where all names are in
- * small letters, the two books of a list differ in nothing else. Merging and
- * salvaging know plain lists and plain books only.
+ * A column book is a plain book whose node table is stored field by field: first
+ * one field of all nodes, then the next. That is for memory that is faster when
+ * one field is read at a time. The names, their order, every answer, the counts
+ * beside it and the length are those of the plain book. book_to_columns makes the
+ * column book of a plain one, and book_from_columns the plain book of a column one.
+ *
+ * The last four bytes of a book, the mark, tell its kind: every call that takes a
+ * book goes by them. Where all names are in small letters, the
+ * plain and the folded book of a list differ in nothing else. book_check, book_read,
+ * the questions and book_batch take every kind. The announcer takes plain and folded
+ * books, a conversion the kind that it turns, and book_salvage the plain mark:
+ * a sound book of another kind gets 2 there, and 13 from book_salvage. Lists to be
+ * merged rise by bytes, as those of plain books do.
  *
  * WHAT A CALL GIVES
  *
@@ -67,11 +77,12 @@
  *   even address.
  * - No piece of memory is larger than PTRDIFF_MAX bytes.
  * - There is stack for the call: MISTROGU_BUILD_STACK bytes for the two that
- *   build and MISTROGU_STACK for every other call are enough for any input, be it
- *   a book or not, with what the call itself pushes and without what your own
- *   memcpy and memset take. On real names every call but those that build takes
- *   less than 2,048 bytes; names that are each the beginning of the next, and bytes
- *   that are made to look so, take the most, 112 bytes for each level.
+ *   build and MISTROGU_STACK for every other call, conversions included, are enough
+ *   for any input, be it a book or not, with what the call itself pushes and without
+ *   what your own memcpy and memset take. On real names every call but those that
+ *   build or convert takes less than 2,048 bytes; names that are each the beginning
+ *   of the next, and bytes that are made to look so, take the most, 128 bytes for
+ *   each level.
  *   docs/BENCHMARKS.md says which guest can call what. The numbers are read out of
  *   the compiled code, by `host/bound`, for all inputs.
  * - An interrupt or signal handler that runs in the midst of a call leaves the 128
@@ -111,7 +122,7 @@ extern "C" {
 #endif
 
 /* The version, of which CHANGELOG.md says what it brought. */
-#define MISTROGU_VERSION "0.9.0"
+#define MISTROGU_VERSION "0.10.0"
 /* The most bytes of a name, and of a question. */
 #define MISTROGU_LONGEST_NAME 200
 /* The most names of a book. */
@@ -120,9 +131,10 @@ extern "C" {
 #define MISTROGU_LONGEST_BOOK 65535
 /* The most names of a block; the least is 1. */
 #define MISTROGU_LARGEST_BLOCK 64
-/* The last four bytes of a plain book, and of a folded one. */
+/* The last four bytes of a plain book, of a folded one, and of a column book. */
 #define MISTROGU_PLAIN_MARK "NBK2"
 #define MISTROGU_FOLDED_MARK "NBF2"
+#define MISTROGU_COLUMNS_MARK "NBC2"
 /* The most rows of a batch. */
 #define MISTROGU_MOST_ROWS 64
 /* The most positions of a route. */
@@ -132,13 +144,13 @@ extern "C" {
 /* Bytes of stack that are enough for a call that builds, whatever it is given. */
 #define MISTROGU_BUILD_STACK 7936
 /* Bytes of stack that are enough for every other call, whatever it is given. */
-#define MISTROGU_STACK 23552
+#define MISTROGU_STACK 26624
 
 /* The numbers given back when a call says no. */
 enum mistrogu_refusal {
     /* The question is longer than 200 bytes. */
     MISTROGU_QUESTION_TOO_LONG = 1,
-    /* The bytes are no book. */
+    /* The bytes are no book, or none of a kind that the call takes. */
     MISTROGU_NO_BOOK = 2,
     /* The position is at or above the number of names. */
     MISTROGU_NO_SUCH_POSITION = 3,
@@ -251,7 +263,7 @@ struct mistrogu_answer MISTROGU_CALL(book_build)(
  * Builds the folded book of a list, as book_build does the plain one. The list
  * has to strictly rise by letters, capitals counted as small ones: 6 is also given
  * to a name that is equal to the one before it once both are folded. A list that
- * rises for one kind need not for the other: Zoo, abbey is a list for a plain
+ * rises for one of the two need not for the other: Zoo, abbey is a list for a plain
  * book, and abbey, Zoo for a folded one.
  *
  * Accepted: (0, length of the book, 0).
@@ -264,10 +276,11 @@ struct mistrogu_answer MISTROGU_CALL(book_build_folded)(
 
 /*
  * Tells whether bytes are a book: exactly those that book_build or
- * book_build_folded writes for some list and block size. All of the bytes count,
- * so a book with one byte more is none. A plain book ends with the mark 4E 42 4B
- * 32, a folded one with 4E 42 46 32. One that ends with 4E 42 4B 31 was built
- * before nodes had widths, is none any more, and has to be built again.
+ * book_build_folded writes for some list and block size, or book_to_columns for
+ * some plain book. All of the bytes count, so a book with one byte more is none. A
+ * plain book ends with the mark 4E 42 4B 32, a folded one with 4E 42 46 32, and a
+ * column book with 4E 42 43 32. One that ends with 4E 42 4B 31 was built before
+ * nodes had widths, is none any more, and has to be built again.
  *
  * A book has no checksum, and a damaged one may be another book: one wrong bit
  * makes Marine of Marina, and the bytes are accepted. Whoever has to know that a
@@ -401,6 +414,38 @@ struct mistrogu_answer MISTROGU_CALL(book_batch)(
     MISTROGU_NEVER_NULL;
 
 /*
+ * Turns a plain book into the column book of the same names, at the front of the
+ * room: exactly the bytes that building gives for that kind, with the same list and
+ * block size. Both books are of one length, so a room as long as the book is long
+ * enough, and a shorter one never is. The room must not overlap the book: a book is
+ * not turned in place.
+ *
+ * Only the order of the numbers in the node table and the mark's third byte change.
+ * No list and no names are needed.
+ *
+ * Accepted: (0, length of the book, 0).
+ * Refused: 2 to anything but a sound plain book, so also to a folded book and to a
+ * column book; then 4.
+ */
+struct mistrogu_answer MISTROGU_CALL(book_to_columns)(
+    const uint8_t *book, size_t book_length,
+    uint8_t *room, size_t room_length)
+    MISTROGU_NEVER_NULL;
+
+/*
+ * Turns a column book into the plain book of the same names, as book_to_columns does
+ * the other way: exactly the bytes that book_build gives for the same list and block
+ * size. To columns and back is the same book, and so is back and to columns.
+ *
+ * Accepted: (0, length of the book, 0).
+ * Refused: 2 to anything but a sound column book; then 4.
+ */
+struct mistrogu_answer MISTROGU_CALL(book_from_columns)(
+    const uint8_t *book, size_t book_length,
+    uint8_t *room, size_t room_length)
+    MISTROGU_NEVER_NULL;
+
+/*
  * How many blocks a damaged book has, and so how many report rows book_salvage
  * takes. Any bytes will do: a trailer is read where there is one, and nothing else.
  * With n the number at length - 16 and k the one at length - 14, each of two bytes,
@@ -444,9 +489,9 @@ static inline size_t mistrogu_blocks_of(const uint8_t *card, size_t length)
  * The trailer and the block table make sense where there are at most 2,000 names,
  * in blocks of 1 to 64; where the parts meet without gaps at the places that the
  * trailer names, and the length and the mark are right, which is that of a plain
- * book: to a folded mark the answer is 13; and where the blocks'
- * starts strictly rise from 0 inside of the entries. Without names there are no
- * bytes of entries.
+ * book: to a folded book and to a column book the answer is 13; and where the
+ * blocks' starts strictly rise from 0 inside of the entries. Without names there
+ * are no bytes of entries.
  *
  * There are as many report rows as blocks: mistrogu_blocks_of tells how many. A
  * room of MISTROGU_MOST_SALVAGED bytes is always long enough.
@@ -517,11 +562,12 @@ struct mistrogu_head MISTROGU_CALL(list_head)(
 
 /*
  * The announcer: what is typed becomes the clip that is spoken, and a route becomes
- * a row of clips. Both calls take a book of either kind and a clip table. The table
- * has one clip for each name, the one at place i for the name at position i; any
- * numbers will do. So a table belongs to one book: when the book is built anew, the
- * table is made anew. No call can tell that a table is another book's, if it has as
- * many clips. Both calls check the whole book before they answer.
+ * a row of clips. Both calls take a book and a clip table. The book is plain or
+ * folded: a column book gets 2. The table has one clip for each name, the one at
+ * place i for the name at position i; any numbers will do. So a table belongs to one
+ * book: when the book is built anew, the table is made anew. No call can tell that a
+ * table is another book's, if it has as many clips. Both calls check the whole book
+ * before they answer.
  */
 
 /*

@@ -7,6 +7,7 @@
  *   call merge|judge FIRST SECOND                      two lists, the merge into a room as long as both
  *   call questions BOOKFILE                            the check, then 100 questions, each by all five calls, one call after the other
  *   call batch BOOKFILE                                64 of these questions in one call, in the five kinds by turns
+ *   call to_columns|from_columns BOOKFILE              a book, into a room for the longest
  *   call clip BOOKFILE TEXT                            the clip for that text; each name's clip is its own position
  *   call route BOOKFILE                                the clips of 120 positions all over the book
  *   call screen BOOKFILE TYPED                         the names that begin with what is typed, and the first ten of them read
@@ -134,6 +135,10 @@ static answer make(const char *call, size_t size, size_t second) {
         return COUNTED(book_build(input, size, second, room, MISTROGU_LONGEST_BOOK));
     if (!strcmp(call, "build_folded"))
         return COUNTED(book_build_folded(input, size, second, room, MISTROGU_LONGEST_BOOK));
+    if (!strcmp(call, "to_columns"))
+        return COUNTED(book_to_columns(input, size, room, MISTROGU_LONGEST_BOOK));
+    if (!strcmp(call, "from_columns"))
+        return COUNTED(book_from_columns(input, size, room, MISTROGU_LONGEST_BOOK));
     if (!strcmp(call, "salvage"))
         return COUNTED(book_salvage(input, size, room, MISTROGU_MOST_SALVAGED, report, second));
     if (!strcmp(call, "merge"))

@@ -5,6 +5,7 @@
 --     names-told, table-ask, table-is     behind trailer and entries that stand: what the walk over the table asks, and what it answers
 --     frame-fails, frame-stands, table-says     what both come to
 --     SoundBook, sound-book, checked-sound     what an accepting answer says
+--     no-book           what a refusing answer says
 --     sound-numbers, unsound-numbers     document 01's numbers for either answer
 -- Assumes nothing.
 use Prim.Native.Nat.{ℕ, _-_, _*_, _≤_}
@@ -195,6 +196,15 @@ sound-book b t bytes s = go (opened b) refl s
           book = parts-opened b bytes p ∙ ap (λ (x : Trailer). Book (kindOf b) (x .block) (namesOf b)) (sym is);
           count = ap (λ (x : Trailer). x .names) is ∙ names-told b (p .framed);
         }
+
+-- what a refusing check says
+pub no-book : (b : Bytes) (v : Checked) → v ≡ checkOn b (opened b) → v ≡ Unsound → opened b ≡ NoBook
+unfolding checkOn
+no-book b v s u = go (opened b) (sym u ∙ s)
+  where
+    go : (o : Opened) → Unsound ≡ checkOn b o → o ≡ NoBook
+    go NoBook q = refl
+    go (Book κ k xs) q = absurd (sound≠unsound (sym q))
 
 -- the numbers of what the check gives are the check's
 numbers-checked : (b : Bytes) (v : Checked) → v ≡ checkOn b (opened b) → checkedAs v ≡ checkOf (opened b)

@@ -7,7 +7,6 @@ ghost use Rattle.format.specs.Book.{opened, told, trailerSize};
 ghost use Rattle.format.specs.Outcomes.{checkOf};
 ghost use Rattle.format.specs.Spans.{isTable};
 ghost use Rattle.accept.specs.Parts.{Framed, FramedSays, PartsSay, checkOn, checkedAs};
-use kinds::Form;
 
 // A book, and what its trailer tells, which no one need read again; or that the bytes are no book.
 pub enum Checked {
@@ -34,20 +33,17 @@ fn is_framed(book: &[u8]) -> bool
     )
 }
 
-// Whether the table stands that the trailer tells of: an arm for each form of table.
+// Whether the table stands that the trailer tells of. Every form has nodes, and the walk over them goes by the map that the trailer tells.
 fn is_table(book: &[u8]) -> bool
     requires { ⌜ Framed (now book) ⌝ }
     ensures { λ r. ⌜ r ≡ isTable (now (book .entry)) (told (now (book .entry)) 3) (length (now (book .entry)) - trailerSize) ⌝ }
 {
-    let form = kinds::form_of(trailer::kind(book));
-    match form {
-        Form::Rows => inspect::check_table(
-            book,
-            trailer::nodes_at(book),
-            book.len() - trailer::SIZE,
-            trailer::names(book),
-        ),
-    }
+    inspect::check_table(
+        book,
+        trailer::nodes_at(book),
+        book.len() - trailer::SIZE,
+        trailer::names(book),
+    )
 }
 
 // Whether all parts of a book stand. It hands no number on: what it would keep of the trailer while it walks would lie below every level

@@ -15,3 +15,4 @@ pub mod Salvage
 pub mod Example
 pub mod Announcing
 pub mod Routes
+pub mod Converting

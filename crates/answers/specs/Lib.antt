@@ -10,3 +10,4 @@ pub mod Merging
 pub mod Salvage
 pub mod Announcing
 pub mod Routes
+pub mod Converting

@@ -1,5 +1,7 @@
 -- Laws of the whole book.
---     rows-counted, rows-put, rows-ask     the arm for node rows: what it counts, what it writes, what it asks
+--     nodes-counted                   what both arms count
+--     rows-put, rows-ask              the arm for node rows: what it writes, what it asks
+--     columns-put                     the arm for columns, which no full book has
 --     lengths-are                     the lengths that were noted
 --     sizes-are, table-fits, ..       the sizes, by counting
 --     trailer-is                      the trailer as eight numbers
@@ -15,11 +17,13 @@ use lib.ListN.{length, take, drop, length-append}
 use mir.Val.{Fits}
 use mir.Syntax.{w64}
 use Rattle.words.specs.Words.{Bytes, Rule, Words, word}
+use Rattle.words.proofs.Words.{false≠true}
+use Rattle.format.specs.Full.{byRows}
 use Rattle.format.specs.Kinds.{BookKind, countIn, formOf, markOf, recordSize, ruleOf, tableIn}
 use Rattle.format.specs.Book.{blockPart, book, entryPart, numbers, trailer}
 use Rattle.format.specs.Spans.{nodePart}
 use Rattle.format.specs.Nodes.{table, nodeSize}
-use Rattle.format.proofs.BookKinds.{all-full, kind-layout, mark-length}
+use Rattle.format.proofs.BookKinds.{kind-layout, mark-length}
 use Rattle.format.proofs.Book.{book-length, book-parts, full-nodes, node-length, node-number, table-length, trailerAt, trailerNumbers}
 use Rattle.format.proofs.Numbers.{numbers-length}
 use Rattle.format.proofs.Groups.{table-empty}
@@ -30,6 +34,9 @@ use Rattle.records.specs.Lists.{names, words}
 use Rattle.records.proofs.Starts.{ready-rises, words-length}
 use Rattle.symbols.specs.Rules.{ruleBy}
 use Rattle.symbols.specs.declared.Rule.{Rule as ByRule}
+use Rattle.kinds.specs.Known.{formBy}
+use Rattle.kinds.specs.declared.Form.{Form as CodeForm}
+use Rattle.kinds.specs.declared.Form.the-variants.{Columns as InColumns}
 use Rattle.nodes.specs.Writing.{NodesAsk, NodesPut}
 use Rattle.counting.specs.Counting.{NodeCount}
 use Rattle.blocks.specs.Writing.{LengthsAre, SumsAre}
@@ -39,22 +46,22 @@ use Rattle.assembly.specs.Whole.{BuildAsk, RecordCount, Sized, TablePut}
 abbrev pub put : Bytes → ℕ → ℕ → Bytes → Bytes
 put room from to x = take from room ++ (x ++ drop (to - from) (drop from room))
 
--- ---- the table by its form: node rows, which every kind has
+-- ---- the table by its form
 
 -- the words of a list's names, by a kind's rule
 names-words : (κ : BookKind) (s : Bytes) → map (word (ruleOf κ)) (names s) ≡ words (ruleOf κ) s
 unfolding words
 names-words κ s = refl
 
-pub rows-counted : (κ : BookKind) (n : ℕ) (shares : List ℕ) (m : ℕ) → NodeCount n shares m → RecordCount κ n shares m
+pub nodes-counted : (κ : BookKind) (n : ℕ) (shares : List ℕ) (m : ℕ) → NodeCount n shares m → RecordCount κ n shares m
 unfolding NodeCount RecordCount
-rows-counted κ n shares m p s lens counts ready = p (ruleOf κ) s lens counts ready ∙ ap (λ (ws : Words). length (table ws)) (sym (names-words κ s)) ∙ sym (node-number (formOf κ) (ruleOf κ) (names s))
+nodes-counted κ n shares m p s lens counts ready = p (ruleOf κ) s lens counts ready ∙ ap (λ (ws : Words). length (table ws)) (sym (names-words κ s)) ∙ sym (node-number (formOf κ) (ruleOf κ) (names s))
 
 pub rows-put : (κ : BookKind) (rule : ByRule) {s room after : Bytes} {m : ℕ} → ruleBy rule ≡ ruleOf κ → NodesPut (ruleBy rule) s room after m → TablePut κ s room after
 rows-put κ rule {s} {room} {after} {m} e p = record {
-  put = λ h.
+  put = λ full h.
       own .put (h ∙ sym (full-size (names s)) ∙ node-length (formOf κ) (ruleOf κ) (names s) ∙ ap (λ (x : ℕ). x * nodeSize) (node-number (formOf κ) (ruleOf κ) (names s) ∙ ap (λ (ws : Words). length (table ws)) (names-words κ s)))
-      ∙ ap (λ (ws : Words). nodePart (table ws)) (sym (names-words κ s)) ∙ sym (full-nodes κ (all-full κ) (ruleOf κ) (names s));
+      ∙ ap (λ (ws : Words). nodePart (table ws)) (sym (names-words κ s)) ∙ sym (full-nodes κ full (ruleOf κ) (names s));
 }
   where
     own : NodesPut (ruleOf κ) s room after m
@@ -62,6 +69,10 @@ rows-put κ rule {s} {room} {after} {m} e p = record {
 
     full-size : (xs : List Bytes) → length (numbers (tableIn (formOf κ) (ruleOf κ) xs)) ≡ countIn (formOf κ) (ruleOf κ) xs * recordSize (formOf κ)
     full-size xs = table-length (formOf κ) (ruleOf κ) xs
+
+-- columns are no full book's table
+pub columns-put : (κ : BookKind) (form : CodeForm) {s room after : Bytes} → formBy form ≡ formOf κ → form ≡ InColumns → TablePut κ s room after
+columns-put κ form e is = record { put = λ full h. absurd (false≠true (ap (λ (f : CodeForm). byRows (formBy f)) (sym is) ∙ ap byRows e ∙ full)) }
 
 -- the rule that is handed on is the kind's
 pub rows-ask : (κ : BookKind) (rule : ByRule) {s : Bytes} {n : ℕ} {lens shares : List ℕ} → ruleBy rule ≡ ruleOf κ → NodesAsk (ruleOf κ) s n lens shares → NodesAsk (ruleBy rule) s n lens shares
@@ -152,7 +163,7 @@ module _ {κ : BookKind} {s : Bytes} {n : ℕ} {lens counts shares : List ℕ} {
         r₂ = put r₁ nodes (total - 16) w
 
         w-is : w ≡ numbers (tableIn (formOf κ) (ruleOf κ) (names s))
-        w-is = q .put (table-part ∙ ap (λ (i : ℕ). i * recordSize (formOf κ)) (z .number))
+        w-is = q .put (a .full) (table-part ∙ ap (λ (i : ℕ). i * recordSize (formOf κ)) (z .number))
 
         l₂ : length w ≡ total - 16 - nodes
         l₂ = ap length w-is ∙ omega (arith, table-length (formOf κ) (ruleOf κ) (names s), ap (λ (i : ℕ). i * recordSize (formOf κ)) (z .number), z .whole)

@@ -22,18 +22,16 @@ pub struct Sizes {
     pub total: usize,
 }
 
-// How many records the table has: an arm for each form of table.
+// How many records the table has: in every form as many as there are nodes.
 fn count_records(kind: Kind, n: usize, shares: &[u8]) -> usize
     requires { ⌜ CountAsk n (now shares) ⌝ }
     ensures { λ r. ⌜ RecordCount (kindBy kind) n (now (shares .entry)) r ⌝ }
 {
-    let form = kinds::form_of(kind);
-    match form {
-        Form::Rows => counting::count_nodes(n, shares),
-    }
+    counting::count_nodes(n, shares)
 }
 
-// The table, where the part is as long: an arm for each form of table.
+// The table of a full book, where the part is as long: an arm for each form of table. Columns are not written here: a book by columns is made of
+// a full one.
 fn write_records(kind: Kind, list: &[u8], n: usize, lens: &[u8], shares: &[u8], part: &mut [u8])
     requires { ⌜ NodesAsk (ruleOf (kindBy kind)) (now list) n (now lens) (now shares) ⌝ }
     ensures { λ _. ⌜ TablePut (kindBy kind) (now (list .entry)) (now (part .entry)) (now (part .exit)) ⌝ }
@@ -44,6 +42,7 @@ fn write_records(kind: Kind, list: &[u8], n: usize, lens: &[u8], shares: &[u8], 
         Form::Rows => {
             nodes::write_nodes(rule, list, n, lens, shares, part);
         }
+        Form::Columns => {}
     }
 }
 

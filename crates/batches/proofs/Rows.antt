@@ -27,7 +27,7 @@ use Rattle.shapes.specs.declared.Answer.{Answer}
 use Rattle.shapes.proofs.Shapes.{answerOf}
 use Rattle.batches.specs.Batches.{closedBy, noTrailer, openingOf, takesRows}
 use Rattle.batches.specs.declared.Opening.{Opening}
-use Rattle.questions.proofs.Checks.{no-book}
+use Rattle.accept.proofs.Judging.{no-book}
 
 -- ---- how a batch opens
 

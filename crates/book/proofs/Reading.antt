@@ -25,11 +25,10 @@ use Rattle.trailer.specs.declared.Trailer.{Trailer}
 use Rattle.accept.specs.Parts.{PartsSay, checkOn}
 use Rattle.accept.specs.declared.Checked.{Checked}
 use Rattle.accept.specs.declared.Checked.the-variants.{Sound, Unsound}
-use Rattle.accept.proofs.Judging.{SoundBook, checked-sound, parts-long, parts-sound, parts-unsound, sound-book}
+use Rattle.accept.proofs.Judging.{SoundBook, checked-sound, no-book, parts-long, parts-sound, parts-unsound, sound-book}
 use Rattle.names.specs.Names.{Put}
 use Rattle.shapes.specs.Shapes.{answered, written}
 use Rattle.shapes.specs.declared.Answer.{Answer}
-use Rattle.questions.proofs.Checks.{no-book}
 
 -- ---- the check
 

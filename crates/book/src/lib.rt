@@ -10,8 +10,9 @@ pub use shapes::Kept;
 pub use shapes::Row;
 ghost use mathlib.Core.Path.{_≡_};
 ghost use mathlib.Core.List.{map};
-ghost use Rattle.format.specs.Kinds.{FoldedBook, PlainBook};
+ghost use Rattle.format.specs.Kinds.{ColumnBook, FoldedBook, PlainBook};
 ghost use Rattle.answers.specs.Calls.{batch, build, check, readBack};
+ghost use Rattle.answers.specs.Converting.{converted};
 ghost use Rattle.answers.specs.Counts.{countedQuestion};
 ghost use Rattle.answers.specs.Heads.{headOf, partOf};
 ghost use Rattle.answers.specs.Merging.{judgeLists, mergeLists};
@@ -34,6 +35,23 @@ pub extern "C" fn book_build_folded(list: &[u8], block: usize, room: &mut [u8]) 
     ensures { λ r. ⌜ written r (now (room .exit)) ≡ build FoldedBook (now (list .entry)) block (now (room .entry)) ⌝ }
 {
     build::build_list(Kind::Folded, list, block, room)
+}
+
+// The book by columns of a plain book: the same names in blocks of the same size, and the node table field by field. Refusals: 2, also for a
+// book of another kind than plain; 4.
+#[no_mangle]
+pub extern "C" fn book_to_columns(book: &[u8], room: &mut [u8]) -> Answer
+    ensures { λ r. ⌜ written r (now (room .exit)) ≡ converted PlainBook ColumnBook (now (book .entry)) (now (room .entry)) ⌝ }
+{
+    convert::convert(book, Kind::Plain, Kind::Columns, room)
+}
+
+// The plain book of a book by columns. Refusals: 2, also for a book of another kind than by columns; 4.
+#[no_mangle]
+pub extern "C" fn book_from_columns(book: &[u8], room: &mut [u8]) -> Answer
+    ensures { λ r. ⌜ written r (now (room .exit)) ≡ converted ColumnBook PlainBook (now (book .entry)) (now (room .entry)) ⌝ }
+{
+    convert::convert(book, Kind::Columns, Kind::Plain, room)
 }
 
 // Whether bytes are a book: then how many names it has, in blocks of how many. Refusal: 2.

@@ -1,5 +1,5 @@
 -- Document 02, CR 7: the kinds of book. A kind is a symbol rule, a form of table and a mark.
---     BookKind          document 01's kind and the folded one
+--     BookKind          document 01's kind, the folded one, and that of columns (CR 10)
 --     ruleOf, formOf, markOf     each kind's rule and form, and the last four bytes of its books
 --     kindOf, ruleIn    the kind that bytes are marked as, and its rule
 -- The laws are in proofs/BookKinds.antt. Assumes nothing: these are definitions.
@@ -14,21 +14,25 @@ pub use Rattle.format.specs.Forms.{Form, Rows, Columns, tableIn, countIn
 pub data BookKind : Type 0 where
   PlainBook : BookKind
   FoldedBook : BookKind
+  ColumnBook : BookKind
 
 abbrev pub ruleOf : BookKind → Rule
 ruleOf PlainBook = plain
 ruleOf FoldedBook = folded
+ruleOf ColumnBook = plain
 
 abbrev pub formOf : BookKind → Form
 formOf PlainBook = Rows
 formOf FoldedBook = Rows
+formOf ColumnBook = Columns
 
 abbrev pub markOf : BookKind → Bytes
 markOf PlainBook = 0x4E ∷ 0x42 ∷ 0x4B ∷ 0x32 ∷ []
 markOf FoldedBook = 0x4E ∷ 0x42 ∷ 0x46 ∷ 0x32 ∷ []
+markOf ColumnBook = 0x4E ∷ 0x42 ∷ 0x43 ∷ 0x32 ∷ []
 
 abbrev pub allKinds : List BookKind
-allKinds = PlainBook ∷ FoldedBook ∷ []
+allKinds = PlainBook ∷ FoldedBook ∷ ColumnBook ∷ []
 
 -- the first of some kinds whose mark has this third byte; document 01's where none has
 abbrev pub markedAs : ℕ → List BookKind → BookKind

@@ -15,18 +15,24 @@ pub enum Kind {
     Plain,
     // Capital letters count as small ones.
     Folded,
+    // Document 01's rule, and the node table by columns.
+    Columns,
 }
 
 // What stands between the block table and the trailer.
 pub enum Form {
     // Node records, one behind the other.
     Rows,
+    // The same numbers, column by column.
+    Columns,
 }
 
-// The backs of the marks, as numbers: 4B 32 for plain books, 46 32 for folded ones.
+// The backs of the marks, as numbers: 4B 32 for plain books, 46 32 for folded ones, 43 32 for those by columns.
 const PLAIN: usize = 0x324B;
 
 const FOLDED: usize = 0x3246;
+
+const COLUMNS: usize = 0x3243;
 
 // The kind that the third byte of a mark tells. Of a byte that is in no mark it says Plain; whether the whole mark stands is asked elsewhere.
 pub fn marked(third: u8) -> Kind
@@ -34,6 +40,9 @@ pub fn marked(third: u8) -> Kind
 {
     if third == 0x46 {
         return Kind::Folded;
+    }
+    if third == 0x43 {
+        return Kind::Columns;
     }
     Kind::Plain
 }
@@ -44,6 +53,7 @@ pub fn rule_of(kind: Kind) -> Rule
     match kind {
         Kind::Plain => Rule::Plain,
         Kind::Folded => Rule::Folded,
+        Kind::Columns => Rule::Plain,
     }
 }
 
@@ -53,6 +63,7 @@ pub fn form_of(kind: Kind) -> Form
     match kind {
         Kind::Plain => Form::Rows,
         Kind::Folded => Form::Rows,
+        Kind::Columns => Form::Columns,
     }
 }
 
@@ -63,6 +74,7 @@ pub fn mark_back(kind: Kind) -> usize
     match kind {
         Kind::Plain => PLAIN,
         Kind::Folded => FOLDED,
+        Kind::Columns => COLUMNS,
     }
 }
 
@@ -73,7 +85,10 @@ pub fn is_mark(back: usize) -> bool
     if back == PLAIN {
         return true;
     }
-    back == FOLDED
+    if back == FOLDED {
+        return true;
+    }
+    back == COLUMNS
 }
 
 // How many bytes a record of the table has: a node's at the most.
@@ -82,6 +97,7 @@ pub fn record_size(form: Form) -> usize
 {
     match form {
         Form::Rows => fields::SIZE,
+        Form::Columns => fields::SIZE,
     }
 }
 
@@ -92,5 +108,6 @@ pub fn is_full(kind: Kind) -> bool
     let form = form_of(kind);
     match form {
         Form::Rows => true,
+        Form::Columns => false,
     }
 }

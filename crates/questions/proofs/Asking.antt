@@ -32,13 +32,12 @@ use Rattle.trailer.specs.declared.Trailer.{Trailer}
 use Rattle.accept.specs.Parts.{checkOn}
 use Rattle.accept.specs.declared.Checked.{Checked}
 use Rattle.accept.specs.declared.Checked.the-variants.{Unsound}
-use Rattle.accept.proofs.Judging.{SoundBook, sound-book}
+use Rattle.accept.proofs.Judging.{SoundBook, no-book, sound-book}
 use Rattle.search.specs.Asks.{KindAsk}
 use Rattle.spots.specs.Spots.{Looked}
 use Rattle.shapes.specs.Shapes.{counted}
 use Rattle.shapes.specs.declared.Counted.{Counted}
 use Rattle.questions.specs.Asking.{Asking, KindNumber, Looking}
-use Rattle.questions.proofs.Checks.{no-book}
 
 pub ask-unsound : (kind : ℕ) (b q : Bytes) (r : Counted) → counted r ≡ unlooked 2 → (v : Checked) → v ≡ checkOn b (opened b) → v ≡ Unsound
     → counted r ≡ countedQuestion kind b q

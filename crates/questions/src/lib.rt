@@ -1,6 +1,5 @@
 // What the public calls stand on: a question to a book that the check has accepted.
 // Whoever asks here has to know what the check answered, but for `ask_alone`, which checks; the calls above ask nothing.
-use kinds::Form;
 use shapes::Counted;
 ghost use mathlib.Core.Path.{_≡_};
 ghost use Rattle.format.specs.Spans.{wordsIn};
@@ -12,18 +11,14 @@ ghost use Rattle.spots.specs.Spots.{Looked};
 ghost use Rattle.shapes.specs.Shapes.{counted};
 ghost use Rattle.questions.specs.Asking.{Asking, KindNumber, Looking};
 
-// The two numbers that an accepted book with names answers to a question of a kind from 1 to 5, and how far that looked: an arm for each form
-// of table.
+// The two numbers that an accepted book with names answers to a question of a kind from 1 to 5, and how far that looked. Every form of table has
+// nodes, and one engine searches them.
 fn look_up(book: &[u8], t: trailer::Trailer, kind: usize, question: &[u8]) -> search::Reply
     requires { ⌜ Looking (now book) t kind ⌝ }
     ensures { λ r. ⌜ pairOf r ≡ answerOf kind (askedIn (now (book .entry)) (now (question .entry))) (wordsIn (now (book .entry))) ⌝ }
     ensures { λ r. ⌜ Looked (now (book .entry)) (now (question .entry)) (r .visits) (r .entries) ⌝ }
 {
-    let book_kind = t.kind;
-    let form = kinds::form_of(book_kind);
-    match form {
-        Form::Rows => search::answer(book, t, kind, question),
-    }
+    search::answer(book, t, kind, question)
 }
 
 // A question of a kind from 1 to 5 to a book that the check has accepted, by what its trailer tells: whoever has many questions checks

@@ -9,6 +9,7 @@ pub mod Orders
 pub mod Questions
 pub mod Ranges
 pub mod Widths
+pub mod Columns
 pub mod Counts
 pub mod Letters
 pub mod Neighbours

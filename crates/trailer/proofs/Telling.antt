@@ -1,6 +1,6 @@
 -- The trailer, number by number.
 --     trailer-told      the numbers that were read are those that the trailer tells
---     rows-map          how far it is from a node to the next, and from a number of it to its next
+--     map-told          where the numbers of a node stand, by the form whose arm was taken
 --     rule-folded, rule-plain     the third byte of the mark tells the rule
 --     mark-kind         the back of the mark tells the kind
 --     size-is           the size of a record, by the kind that the third byte tells
@@ -19,10 +19,10 @@ use lib.Dec.{eqb}
 use borrow.Author.Tests.{ne-eqb}
 use Rattle.words.specs.Words.{Bytes, InBytes, pick}
 use Rattle.format.specs.Book.{number, numbers, told, trailer, trailerSize}
-use Rattle.format.specs.Kinds.{BookKind, FoldedBook, PlainBook, allKinds, formOf, kindOf, markOf, markedAs, recordSize}
+use Rattle.format.specs.Kinds.{BookKind, ColumnBook, FoldedBook, Form as TableForm, PlainBook, allKinds, formOf, kindOf, markOf, markedAs, recordSize}
 use Rattle.format.specs.Nodes.{nodeSize}
-use Rattle.format.proofs.BookKinds.{all-full, full-rows, third-tells}
-use Rattle.standing.specs.Maps.{mapOf}
+use Rattle.format.proofs.BookKinds.{third-tells}
+use Rattle.standing.specs.Maps.{mapIn, mapOf}
 use Rattle.numbers.proofs.Parts.{Held, held-bytes}
 use Rattle.symbols.specs.Rules.{byKind}
 use Rattle.symbols.specs.declared.Rule.the-variants.{Folded, Plain}
@@ -40,15 +40,20 @@ pub rule-folded : (b : Bytes) → getD b (length b - 2) 0 ≡ 0x46 → Folded �
 rule-folded b e = ap (λ (x : ℕ). byKind (markedAs x allKinds)) (sym e)
 
 pub rule-plain : (b : Bytes) → (getD b (length b - 2) 0 ≡ 0x46 → ⊥) → Plain ≡ byKind (kindOf b)
-rule-plain b n = rw (ne-eqb (getD b (length b - 2) 0) 0x46 n) (go (eqb (getD b (length b - 2) 0) 0x4B))
+rule-plain b n = rw (ne-eqb (getD b (length b - 2) 0) 0x46 n) (go (eqb (getD b (length b - 2) 0) 0x4B) (eqb (getD b (length b - 2) 0) 0x43))
   where
-    go : (t : Bool) → Plain ≡ byKind (pick t PlainBook PlainBook)
-    go true = refl
-    go false = refl
+    go : (t u : Bool) → Plain ≡ byKind (pick t PlainBook (pick u ColumnBook PlainBook))
+    go true u = refl
+    go false true = refl
+    go false false = refl
 
--- every kind of book has its nodes in rows
-pub rows-map : (b : Bytes) → (nodeSize ≡ mapOf b .stride) × (2 ≡ mapOf b .step)
-rows-map b = rw (full-rows (kindOf b) (all-full (kindOf b))) (refl, refl)
+-- the form of the table whose map is asked for, where its arm was taken
+module _ (b : Bytes) (kind : Kind) (form arm : Form) (k : kind ≡ kindFor (kindOf b)) (e : formBy form ≡ formOf (kindBy kind)) (is : form ≡ arm) where
+  form-told : formBy arm ≡ formOf (kindOf b)
+  form-told = ap formBy (sym is) ∙ e ∙ ap (λ (x : Kind). formOf (kindBy x)) k ∙ ap formOf (kind-told (kindOf b))
+
+  pub map-told : mapIn (formBy arm) (told b 3) (told b 4) ≡ mapOf b
+  map-told = ap (λ (f : TableForm). mapIn f (told b 3) (told b 4)) form-told
 
 -- ---- the mark
 
@@ -66,6 +71,7 @@ mark-kind b long bytes κ e = ap (λ (x : ℕ). markedAs x allKinds) (is κ e) �
     is : (μ : BookKind) → told b 7 ≡ markBack μ → getD b (length b - 2) 0 ≡ getD (markOf μ) 2 0
     is PlainBook h = omega (arith, third b long bytes 0x324B h, bytes (length b - 2), bytes (length b - 1))
     is FoldedBook h = omega (arith, third b long bytes 0x3246 h, bytes (length b - 2), bytes (length b - 1))
+    is ColumnBook h = omega (arith, third b long bytes 0x3243 h, bytes (length b - 2), bytes (length b - 1))
 
 -- the size of a record in the table of that kind
 pub size-is : (b : Bytes) (kind : Kind) (form : Form) (size : ℕ) → kind ≡ kindFor (kindOf b) → formBy form ≡ formOf (kindBy kind) → size ≡ recordSize (formBy form)
@@ -88,3 +94,4 @@ pub trailer-is : (κ : BookKind) (part : Bytes) (n k s u m total back : ℕ) →
 unfolding trailer numbers
 trailer-is PlainBook part n k s u m total back e h = h ∙ ap (λ (x : ℕ). numbers (n ∷ k ∷ s ∷ u ∷ m ∷ total ∷ markFront ∷ x ∷ [])) e
 trailer-is FoldedBook part n k s u m total back e h = h ∙ ap (λ (x : ℕ). numbers (n ∷ k ∷ s ∷ u ∷ m ∷ total ∷ markFront ∷ x ∷ [])) e
+trailer-is ColumnBook part n k s u m total back e h = h ∙ ap (λ (x : ℕ). numbers (n ∷ k ∷ s ∷ u ∷ m ∷ total ∷ markFront ∷ x ∷ [])) e

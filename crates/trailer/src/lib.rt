@@ -101,6 +101,7 @@ pub fn stride(book: &[u8]) -> usize
     let form = kinds::form_of(kind(book));
     match form {
         Form::Rows => fields::SIZE,
+        Form::Columns => fields::STEP,
     }
 }
 
@@ -112,6 +113,7 @@ pub fn step(book: &[u8]) -> usize
     let form = kinds::form_of(kind(book));
     match form {
         Form::Rows => fields::STEP,
+        Form::Columns => fields::STEP * number(book, 4),
     }
 }
 

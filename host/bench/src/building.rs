@@ -36,10 +36,11 @@ fn ready(kind: BookKind, words: &[String]) -> Result<Ready, String> {
     ))
 }
 
-/// Builds a book of this kind, by the call that is measured.
+/// Builds a book of this kind, by the call that is measured. A column book is made of
+/// the plain one, which is built here.
 pub fn build(kind: BookKind, list: &[u8], block: usize, room: &mut [u8]) -> proved::Answer {
     match kind {
-        BookKind::Plain => measured_build(list, block, room),
+        BookKind::Plain | BookKind::Columns => measured_build(list, block, room),
         BookKind::Folded => measured_build_folded(list, block, room),
     }
 }

@@ -12,8 +12,9 @@
 //! program's: a wrong answer is not worth measuring. `bench growth` and `bench
 //! worst` build, check and ask lists of many shapes, `bench worst_folded` those of
 //! folded books. `bench split` parts a list into two, to merge them again, `bench wear`
-//! damages a book, to salvage it, `bench book` writes the book of a list, and `bench
-//! fold` makes lists and books to be folded.
+//! damages a book, to salvage it, `bench book` writes the book of a list, `bench
+//! columns` the column book of a book, and `bench fold` makes lists and books to be
+//! folded.
 //!
 //! Another call is a module with one function, and one more line in [`CALLS`].
 
@@ -22,6 +23,7 @@ mod asking;
 mod batching;
 mod building;
 mod checking;
+mod converting;
 mod merging;
 mod mixed;
 mod reading;
@@ -109,7 +111,7 @@ impl From<model::Counted> for Given {
 }
 
 /// Every call that can be measured.
-const CALLS: [Call; 16] = [
+const CALLS: [Call; 18] = [
     Call {
         name: "build",
         words: "LISTFILE K",
@@ -159,6 +161,16 @@ const CALLS: [Call; 16] = [
         name: "batch",
         words: "BOOKFILE",
         ready: batching::ready,
+    },
+    Call {
+        name: "to_columns",
+        words: "BOOKFILE",
+        ready: converting::to_columns,
+    },
+    Call {
+        name: "from_columns",
+        words: "BOOKFILE",
+        ready: converting::from_columns,
     },
     Call {
         name: "clip",
@@ -227,6 +239,7 @@ fn run(words: &[String]) -> Result<String, String> {
         "split" => merging::split(rest),
         "wear" => salvaging::wear(rest),
         "fold" => building::fold(rest),
+        "columns" => converting::columns(rest),
         "book" => building::book(rest),
         _ => {
             let Ready {
@@ -294,5 +307,6 @@ fn usage() -> String {
     lines.push("bench wear BOOKFILE CARDFILE".to_string());
     lines.push("bench fold LISTFILE K NAME".to_string());
     lines.push("bench book LISTFILE K BOOKFILE".to_string());
+    lines.push("bench columns BOOKFILE NEW".to_string());
     lines.join("\n")
 }

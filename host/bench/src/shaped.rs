@@ -89,7 +89,7 @@ pub fn worst(kind: BookKind, words: &[String]) -> Result<String, String> {
     let seed = words.first().map_or(Ok(1), |word| read_number(word))?;
     let mut random = Random::from_seed(seed as u64);
     let shapes = match kind {
-        BookKind::Plain => plain_shapes(&mut random),
+        BookKind::Plain | BookKind::Columns => plain_shapes(&mut random),
         BookKind::Folded => folded_shapes(&mut random),
     };
     let mut room = vec![0; LONGEST_BOOK];

@@ -283,7 +283,7 @@ fn merging(about: &About, subjects: &[Subject], figures: &Figures) -> String {
     )
 }
 
-/// Books of both kinds, built and checked.
+/// Plain and folded books, built and checked.
 fn folding(about: &About, subjects: &[Subject], figures: &Figures) -> String {
     let row = |(name, step): (&str, Step)| counted(figures, subjects, name, step);
     let rows = [
@@ -294,7 +294,7 @@ fn folding(about: &About, subjects: &[Subject], figures: &Figures) -> String {
     ];
     let [names, bytes] = about.folded;
     format!(
-        "## Books of both kinds\n\nInstructions of building and checking the same names as a plain and as a folded book, which takes capitals as small \
+        "## Plain and folded books\n\nInstructions of building and checking the same names as a plain and as a folded book, which takes capitals as small \
          letters: {} names, {} bytes.\n\n{}",
         grouped(names as f64),
         grouped(bytes as f64),

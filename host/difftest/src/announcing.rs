@@ -4,11 +4,12 @@
 
 use crate::agreeing;
 use crate::asking::any_lent_question;
-use crate::books::any_book;
+use crate::books::{any_book, any_book_of};
 use crate::lent::{any_room_length, hex, lend, Lent};
 use fenced::{on_stack, Fenced};
 use format::{LONGEST_NAME, MOST_STOPS};
 use mistrogu::{Refusal, STACK};
+use model::BookKind;
 use proved::Answer;
 use vectors::announcing::{any_clip_count, any_route};
 use vectors::lists::Names;
@@ -70,6 +71,9 @@ fn answered(book: &[u8], clips: &[u16], text: &[u8]) -> Answer {
     let checked = on_stack(STACK, || proved::book_check(book));
     if checked.code != 0 {
         return checked;
+    }
+    if !is_served(book) {
+        return refused(Refusal::NoBook, 0);
     }
     if clips.len() != checked.first {
         return refused(Refusal::BadClipTable, 0);
@@ -160,16 +164,20 @@ fn announced(
 /// A name that is read back has the clip that stands at its position, as a text and
 /// in a route: 0, or the code of the refusal to read, or the whole case.
 pub fn by_names(random: &mut Random) -> Result<usize, String> {
-    let (book, names) = any_book(random);
+    let (book, names) = mostly_full_book(random);
     let checked = on_stack(STACK, || proved::book_check(&book));
     let clips = some_clips(random, checked.first);
     let position = word(random.around(names.len()));
     let mut room = lend(random, &[0; LONGEST_NAME]);
     let read = on_stack(STACK, || proved::book_read(&book, position, &mut room));
     let (row, _) = announced(random, &book, &clips, &[position]);
-    if read.code != 0 {
-        return match row.code == read.code {
-            true => Ok(read.code),
+    let expected = match is_served(&book) {
+        true => read.code,
+        false => Refusal::NoBook.number(),
+    };
+    if expected != 0 {
+        return match row.code == expected {
+            true => Ok(expected),
             false => Err(format!(
                 "{position}: {read:?}, {row:?}\n{}",
                 told(&book, &clips)
@@ -184,6 +192,12 @@ pub fn by_names(random: &mut Random) -> Result<usize, String> {
     }
     let (name, book) = (hex(&name), told(&book, &clips));
     Err(format!("{position}: {name}\n{found:?}, {row:?}\n{book}"))
+}
+
+/// Whether the announcer serves books with this mark: full ones of either rule.
+fn is_served(book: &[u8]) -> bool {
+    let kind = BookKind::of_marked(book);
+    kind.is_some_and(|kind| BookKind::FULL.contains(&kind))
 }
 
 /// The refusal, with this number beside it.
@@ -204,13 +218,23 @@ fn written(clips: usize) -> Answer {
     }
 }
 
-/// Any book and the names that went into it, with a table that mostly has as many
-/// clips.
+/// A book, mostly a full one, and the names that went into it, with a table that
+/// mostly has as many clips.
 fn any_book_with_clips(random: &mut Random) -> (Fenced<u8>, Fenced<u16>, Names) {
-    let (book, names) = any_book(random);
+    let (book, names) = mostly_full_book(random);
     let count = any_clip_count(random, names.len());
     let clips = some_clips(random, count);
     (book, clips, names)
+}
+
+/// A book of any kind, mostly of one that the announcer serves, and the names that
+/// went into it.
+fn mostly_full_book(random: &mut Random) -> (Fenced<u8>, Names) {
+    if random.once_in(8) {
+        return any_book(random);
+    }
+    let kind = *random.one_of(&BookKind::FULL);
+    any_book_of(random, kind)
 }
 
 /// So many clips, to be lent.

@@ -5,23 +5,29 @@ use crate::shapes::{any_kind, any_names};
 use fenced::Fenced;
 use format::MOST_NAMES;
 use model::{book_of, BookKind};
-use vectors::damage::{spoil_book, spoil_names, swap_mark};
+use vectors::damage::{mark_as, spoil_book, spoil_names};
 use vectors::hostile;
 use vectors::lists::{self, Names};
 use vectors::random::Random;
 
-/// The bytes of a book of either kind, to be lent, and the names that went into it.
+/// The bytes of a book of any kind, to be lent, and the names that went into it.
 /// Half of the books are spoilt: their bytes, their pieces, or the names or block
-/// size before the layout; some have hostile nodes, and some the mark of the other
+/// size before the layout; some have hostile nodes, and some the mark of another
 /// kind. Of the large lists some are too large for a book.
 pub fn any_book(random: &mut Random) -> (Fenced<u8>, Names) {
-    let (kind, block) = (any_kind(random), any_block(random));
+    let kind = any_kind(random);
+    any_book_of(random, kind)
+}
+
+/// The same, laid out as this kind.
+pub fn any_book_of(random: &mut Random, kind: BookKind) -> (Fenced<u8>, Names) {
+    let block = any_block(random);
     let (mut book, names) = match random.below(24) {
         0 => hostile_book(random, kind, block),
         _ => laid_out_book(random, kind, block),
     };
     if random.once_in(16) {
-        swap_mark(&mut book);
+        mark_as(any_kind(random), &mut book);
     }
     (lend(random, &book), names)
 }
@@ -42,18 +48,21 @@ fn laid_out_book(random: &mut Random, kind: BookKind, block: usize) -> (Vec<u8>,
 }
 
 /// The bytes of a book with hostile nodes: mostly of some hundreds of names, now
-/// and then with as many and as long ones as there can be. The latter are plain.
+/// and then with as many and as long ones as there can be. The latter are plain or of
+/// columns.
 fn hostile_book(random: &mut Random, kind: BookKind, block: usize) -> (Vec<u8>, Names) {
     let tables = hostile::kinds();
     let table = random.one_of(&tables);
     let book = match (kind, random.below(12)) {
-        (BookKind::Plain, 0) => table.largest(),
-        (BookKind::Plain, 1) => table.with_names(random.between(4, MOST_NAMES)),
-        (BookKind::Plain, 2..=5) => table.with_names(random.between(4, 500)),
-        _ => {
+        (BookKind::Folded, _) | (_, 6..) => {
             let names = several_names(random, kind, block);
             hostile::any(random, kind, block, &names)
         }
+        (_, 0) => table.largest().in_kind(kind),
+        (_, 1) => table
+            .with_names(random.between(4, MOST_NAMES))
+            .in_kind(kind),
+        (_, 2..=5) => table.with_names(random.between(4, 500)).in_kind(kind),
     };
     (book.bytes(), book.made_of)
 }

@@ -9,7 +9,8 @@
 //! it answers of a folded book with what it answers of the plain one of its names in
 //! small letters, and those of the announcer the clip of a text with the book's own
 //! answers, a route with its positions one by one, and both with the names that are
-//! read back. The seed is printed first; the same seed gives the same cases. While it
+//! read back; those of columns turn a book into columns and back, and compare what a
+//! plain book gives with what its column book gives. The seed is printed first; the same seed gives the same cases. While it
 //! runs it says how far it is, and at the end it prints a table. A difference is
 //! printed with the whole case, and the exit status is then 1.
 //!
@@ -29,6 +30,7 @@ mod batching;
 mod books;
 mod building;
 mod checking;
+mod converting;
 mod folding;
 mod laws;
 mod lent;
@@ -60,7 +62,7 @@ pub struct Kind {
 }
 
 /// Every kind of call, as often as the others.
-const KINDS: [Kind; 26] = [
+const KINDS: [Kind; 30] = [
     Kind {
         name: "build",
         run: building::plain,
@@ -164,6 +166,22 @@ const KINDS: [Kind; 26] = [
     Kind {
         name: "clips by names",
         run: announcing::by_names,
+    },
+    Kind {
+        name: "to columns",
+        run: converting::to_columns,
+    },
+    Kind {
+        name: "from columns",
+        run: converting::from_columns,
+    },
+    Kind {
+        name: "columns and back",
+        run: converting::there_and_back,
+    },
+    Kind {
+        name: "columns alike",
+        run: converting::alike,
     },
 ];
 

@@ -29,7 +29,7 @@ pub fn any_names(random: &mut Random, kind: BookKind, block: usize) -> Names {
 /// folded one they are also in capitals and in small letters by turns.
 fn in_any_spelling(random: &mut Random, kind: BookKind, names: Names) -> Names {
     match (kind, random.below(4)) {
-        (BookKind::Plain, 0..=2) => names,
+        (BookKind::Plain | BookKind::Columns, 0..=2) => names,
         (BookKind::Folded, 0) => by_turns(&lists::sorted_for(kind, names)),
         (BookKind::Folded, 1) => lists::sorted_for(kind, names),
         _ => names_respelt(random, kind, &names),

@@ -40,17 +40,23 @@ pub enum BookKind {
     Plain,
     /// Capitals, bytes 65 to 90, are the same letters as the bytes 32 higher.
     Folded,
+    /// As plain, with the node table stored as columns, one for each field.
+    Columns,
 }
 
 impl BookKind {
     /// Every kind.
-    pub const ALL: [BookKind; 2] = [BookKind::Plain, BookKind::Folded];
+    pub const ALL: [BookKind; 3] = [BookKind::Plain, BookKind::Folded, BookKind::Columns];
+
+    /// The kinds that are built from a list, and that the announcer takes.
+    pub const FULL: [BookKind; 2] = [BookKind::Plain, BookKind::Folded];
 
     /// The last four bytes of a book of this kind.
     pub const fn mark(self) -> [u8; 4] {
         match self {
             BookKind::Plain => *b"NBK2",
             BookKind::Folded => *b"NBF2",
+            BookKind::Columns => *b"NBC2",
         }
     }
 
@@ -79,7 +85,7 @@ impl BookKind {
     /// ```
     pub const fn compared(self, byte: u8) -> u8 {
         match self {
-            BookKind::Plain => byte,
+            BookKind::Plain | BookKind::Columns => byte,
             BookKind::Folded => byte.to_ascii_lowercase(),
         }
     }
@@ -105,6 +111,7 @@ impl BookKind {
         match self {
             BookKind::Plain => "plain",
             BookKind::Folded => "folded",
+            BookKind::Columns => "column",
         }
     }
 }

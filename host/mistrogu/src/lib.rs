@@ -2,15 +2,17 @@
 //!
 //! A **book** keeps a strictly rising list of names in at most 65,535 bytes. The
 //! calls that build a book, check it, read its names back and answer questions
-//! about them, that tell which recorded clip speaks a name, that salvage what is left
-//! of a damaged book, and that merge two lists, are proved: each does what its text
-//! says, for any bytes and any numbers. This crate gives them types. It needs no heap
-//! and no standard library, and has no unsafe line of its own.
+//! about them, that convert a book from one layout to another, that tell which recorded
+//! clip speaks a name, that salvage what is left of a damaged book, and that merge two
+//! lists, are proved: each does what its text says, for any bytes and any numbers. This
+//! crate gives them types. It needs no heap and no standard library, and has no unsafe
+//! line of its own.
 //!
 //! | You want to | Call |
 //! |---|---|
 //! | make a book | [`build`], from a [`List`] |
 //! | make one in which capitals and small letters are the same | [`build_folded`] |
+//! | have a book's node table stored field by field, or record by record again | [`to_columns`], [`from_columns`] |
 //! | make one list of two | [`merge`] |
 //! | show the names of two lists in their order | [`heads`] |
 //! | know whether two runs of bytes are lists | [`judge`] |
@@ -48,15 +50,24 @@
 //! byte strings: `[u8]`'s own. Positions count from 0. A list is a run of
 //! records, each one byte with the length of a name and then the name.
 //!
-//! # Two kinds of book
+//! # Three kinds of book
 //!
 //! In a **folded** book the capitals A to Z count as the letters a to z wherever
 //! names are compared, with each other or with a question; spelling comes back
-//! unchanged. Nothing else folds, and no letter with an accent does. Who builds a
-//! book says which [kind](BookKind) it is; from then on its mark tells it, and every
-//! call that takes a book goes by that. [`check`] tells it, too. Names for a folded
-//! book have to rise by [`BookKind::order`]. Merging and salvaging know plain lists
-//! and plain books only.
+//! unchanged. Nothing else folds, and no letter with an accent does. Names for a folded
+//! book have to rise by [`BookKind::order`].
+//!
+//! A **column** book is a plain book whose node table is stored field by field, for
+//! memory that is faster when one field is read at a time. Names, answers, counts and
+//! length are those of the plain book. [`to_columns`] makes it, and [`from_columns`]
+//! gives the plain book back.
+//!
+//! A book's mark, its last four bytes, tells its [kind](BookKind), and every call goes
+//! by that. [`check`] tells the kind, too. [`clip`] and [`route`] take plain and folded
+//! books, a conversion the kind that it turns, and [`salvage`] plain books: a sound
+//! book of another kind gets [`NoBook`](Refusal::NoBook) there, and
+//! [`NoMap`](Refusal::NoMap) from [`salvage`]. Every other call that takes a book takes
+//! each kind. Lists to be merged rise by bytes, as those of plain books do.
 //!
 //! ```
 //! use mistrogu::{build_folded, check, exact, read, BookKind};
@@ -115,6 +126,7 @@ mod readme {}
 
 mod announcer;
 mod batch;
+mod columns;
 pub mod counted;
 mod list;
 mod merging;
@@ -127,6 +139,7 @@ use proved::Answer;
 
 pub use announcer::{clip, route, RouteRefused, Spoken};
 pub use batch::{Batch, Replies, Reply};
+pub use columns::{from_columns, to_columns};
 #[doc(inline)]
 pub use format::{
     BookKind, Kind, LARGEST_BLOCK, LONGEST_BOOK, LONGEST_NAME, MOST_NAMES, MOST_ROWS,
@@ -144,7 +157,7 @@ pub const VERSION: &str = env!("CARGO_PKG_VERSION");
 pub const BUILD_STACK: usize = 7936;
 /// The bytes of stack that are enough for every other call, whatever is lent to
 /// it: a book, or bytes that are none.
-pub const STACK: usize = 23_552;
+pub const STACK: usize = 26_624;
 
 /// What a check tells of a book.
 #[derive(Clone, Copy, Debug, PartialEq, Eq, Hash)]
@@ -258,8 +271,9 @@ fn length_of_built(answer: Answer) -> Result<usize, Refused> {
 }
 
 /// Tells whether bytes are a book: exactly those that [`build`] or [`build_folded`]
-/// writes for some list and block size. All of the bytes count, so a book with one
-/// byte more is none. The kind is that of the mark that a book ends with.
+/// writes for some list and block size, or [`to_columns`] for some plain book. All of
+/// the bytes count, so a book with one byte more is none. The kind is that of the mark
+/// that a book ends with.
 ///
 /// A book has no checksum, and a damaged one may be another book: one wrong bit makes
 /// Marine of Marina, and the bytes are accepted.

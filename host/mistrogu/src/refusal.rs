@@ -10,13 +10,13 @@ use core::fmt;
 /// use mistrogu::Refusal;
 ///
 /// assert_eq!(Refusal::NoBook.number(), 2);
-/// assert_eq!(Refusal::NoBook.to_string(), "the bytes are no book");
+/// assert_eq!(Refusal::BadBlockSize.to_string(), "the block size is not 1 to 64");
 /// ```
 #[derive(Clone, Copy, Debug, PartialEq, Eq, Hash)]
 pub enum Refusal {
     /// The question is longer than 200 bytes.
     QuestionTooLong = 1,
-    /// The bytes are no book.
+    /// The bytes are no book, or none of a kind that the call takes.
     NoBook = 2,
     /// The position is at or above the number of names.
     NoSuchPosition = 3,
@@ -86,7 +86,7 @@ impl Refusal {
     pub const fn sentence(self) -> &'static str {
         match self {
             Refusal::QuestionTooLong => "the question is longer than 200 bytes",
-            Refusal::NoBook => "the bytes are no book",
+            Refusal::NoBook => "the bytes are no book, or none of a kind that the call takes",
             Refusal::NoSuchPosition => "the position is at or above the number of names",
             Refusal::RoomTooShort => "the lent room is shorter than the output",
             Refusal::BadRecord => "a record has length 0 or above 200, or runs past the list",

@@ -116,7 +116,7 @@ impl<'lent> Salvaged<'lent> {
 /// with names of 1 to 200 bytes, strictly rising, and greatest shared counts. So
 /// damage inside of one block's span changes neither verdict nor names of any other
 /// block. Nodes are never looked at. A damaged block that is sound with other names
-/// is kept with those. All of that goes for plain books: to the mark of a folded one
+/// is kept with those. All of that goes for plain books: to the mark of another kind
 /// the answer is [`NoMap`](Refusal::NoMap).
 ///
 /// A report of [`MOST_NAMES`] places is always long enough, and one of as many as

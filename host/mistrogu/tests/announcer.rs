@@ -1,6 +1,8 @@
 //! The clip for a text and the clips of a route, as the plain list of names has them.
 
-use mistrogu::{build, build_folded, clip, route, BookKind, List, Spoken, MOST_STOPS};
+use mistrogu::{
+    build, build_folded, clip, route, to_columns, BookKind, List, Refusal, Spoken, MOST_STOPS,
+};
 
 const NAMES: [&str; 8] = [
     "Alder Bridge",
@@ -24,17 +26,22 @@ fn book_of(kind: BookKind, names: &[&str]) -> Vec<u8> {
     }
     let mut room = vec![0; mistrogu::LONGEST_BOOK];
     let length = match kind {
-        BookKind::Plain => build(list.records(), 3, &mut room),
+        BookKind::Plain | BookKind::Columns => build(list.records(), 3, &mut room),
         BookKind::Folded => build_folded(list.records(), 3, &mut room),
     };
     room.truncate(length.unwrap());
+    if kind == BookKind::Columns {
+        let mut columns = vec![0; room.len()];
+        to_columns(&room, &mut columns).unwrap();
+        return columns;
+    }
     room
 }
 
 /// What the list says of a text: by its letters where the book is folded.
 fn by_the_list(kind: BookKind, text: &str) -> Spoken {
     let letters = |text: &str| match kind {
-        BookKind::Plain => text.to_string(),
+        BookKind::Plain | BookKind::Columns => text.to_string(),
         BookKind::Folded => text.to_ascii_lowercase(),
     };
     let text = letters(text);
@@ -52,7 +59,7 @@ fn by_the_list(kind: BookKind, text: &str) -> Spoken {
 
 #[test]
 fn every_beginning_of_every_name_and_what_misses_it_is_answered_by_the_list() {
-    for kind in BookKind::ALL {
+    for kind in BookKind::FULL {
         let book = book_of(kind, &NAMES);
         for name in NAMES {
             for length in 0..=name.len() {
@@ -83,7 +90,7 @@ fn a_name_has_its_own_clip_though_others_begin_with_it() {
 
 #[test]
 fn the_empty_text_means_the_only_name_there_is() {
-    for kind in BookKind::ALL {
+    for kind in BookKind::FULL {
         for names in 0..NAMES.len() {
             let book = book_of(kind, &NAMES[..names]);
             let expected = match names {
@@ -97,7 +104,7 @@ fn the_empty_text_means_the_only_name_there_is() {
 
 #[test]
 fn a_route_is_a_row_of_clips_in_its_order() {
-    for kind in BookKind::ALL {
+    for kind in BookKind::FULL {
         let book = book_of(kind, &NAMES);
         for length in [0, 1, 2, 17, MOST_STOPS] {
             let positions: Vec<usize> = (0..length).map(|stop| (5 * stop + 3) % 8).collect();
@@ -132,5 +139,21 @@ fn the_first_bad_position_is_told_whatever_stands_behind_it() {
             assert_eq!((refused.refusal.number(), refused.place), (3, place));
             assert_eq!(room, [0xAAAA; MOST_STOPS]);
         }
+    }
+}
+
+#[test]
+fn a_column_book_is_refused_with_2_before_all_else() {
+    let book = book_of(BookKind::Columns, &NAMES);
+    for clips in [&CLIPS[..], &CLIPS[1..]] {
+        for text in [&b"Mar"[..], &[b'M'; 201]] {
+            assert_eq!(clip(&book, clips, text), Err(Refusal::NoBook));
+        }
+        let mut room = [0xAAAA; 3];
+        for positions in [&[][..], &[1, 2], &[9; MOST_STOPS + 1]] {
+            let refused = route(&book, clips, positions, &mut room).unwrap_err();
+            assert_eq!((refused.refusal, refused.place), (Refusal::NoBook, 0));
+        }
+        assert_eq!(room, [0xAAAA; 3]);
     }
 }

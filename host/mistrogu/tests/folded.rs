@@ -125,7 +125,7 @@ fn the_order_of_a_kind_is_that_of_its_lists() {
             let list = list_of(&[one, other]);
             let mut room = [0; 200];
             let built = match kind {
-                BookKind::Plain => build(&list, 2, &mut room),
+                BookKind::Plain | BookKind::Columns => build(&list, 2, &mut room),
                 BookKind::Folded => build_folded(&list, 2, &mut room),
             };
             let rises = kind.order(one.as_bytes(), other.as_bytes()).is_lt();

@@ -79,9 +79,9 @@ fn kinds() {
 #[test]
 fn kinds_of_book() {
     for kind in BookKind::ALL {
-        let (name, mark) = (kind.name().to_uppercase(), kind.mark());
+        let (name, mark) = (in_c(&format!("{kind:?}")), kind.mark());
         let mark = str::from_utf8(&mark).unwrap();
-        let line = format!("#define MISTROGU_{name}_MARK \"{mark}\"");
+        let line = format!("#define {name}_MARK \"{mark}\"");
         assert!(HEADER.lines().any(|other| other == line), "{line}");
     }
 }
@@ -157,6 +157,8 @@ fn calls() {
         "book_check",
         "book_read",
         "book_batch",
+        "book_to_columns",
+        "book_from_columns",
         "book_salvage",
         "list_merge",
         "list_judge",

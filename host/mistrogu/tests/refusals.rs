@@ -2,8 +2,9 @@
 //! changed.
 
 use mistrogu::{
-    build, check, clip, exact, heads, judge, merge, nearest, place, range, read, route, width,
-    Batch, Kind, Refusal, Refused, RouteRefused, Spoken, Which, MOST_STOPS,
+    build, build_folded, check, clip, exact, from_columns, heads, judge, merge, nearest, place,
+    range, read, route, to_columns, width, Batch, Kind, Refusal, Refused, RouteRefused, Spoken,
+    Which, MOST_STOPS,
 };
 
 const LIST: &[u8] = b"\x03Mar\x06Marina\x0DMarket Square";
@@ -149,6 +150,47 @@ fn a_question_is_refused_with_2_then_1_then_10() {
     assert_eq!(nearest(&no_names, b"Mar"), Err(Refusal::NoNames));
     assert_eq!(exact(&no_names, b"Mar"), Ok(None));
     assert_eq!(width(&no_names, b"Mar"), Ok(0));
+}
+
+/// A call that converts a book.
+type Convert = for<'room> fn(&[u8], &'room mut [u8]) -> Result<&'room [u8], Refusal>;
+
+/// Asserts that a conversion is refused so, and leaves the room as it was.
+fn conversion_refused(convert: Convert, book: &[u8], room: usize, refusal: Refusal) {
+    let mut room = vec![0xAA; room];
+    assert_eq!(convert(book, &mut room), Err(refusal));
+    assert!(room.iter().all(|&byte| byte == 0xAA));
+}
+
+#[test]
+fn a_conversion_is_refused_with_2_then_4() {
+    let plain = book_of(LIST);
+    let mut columns = [0; 93];
+    to_columns(&plain, &mut columns).unwrap();
+    let mut folded = [0; 200];
+    let length = build_folded(b"\x03mar\x06marina", 2, &mut folded).unwrap();
+    let folded = &folded[..length];
+
+    let calls: [(Convert, &[u8], &[u8]); 2] = [
+        (to_columns, &plain, &columns),
+        (from_columns, &columns, &plain),
+    ];
+    for (convert, taken, other) in calls {
+        let mut longer = taken.to_vec();
+        longer.push(0);
+        for room in [0, 92, 93, 200] {
+            for none in [other, folded, &[], &taken[1..], &longer] {
+                conversion_refused(convert, none, room, Refusal::NoBook);
+            }
+        }
+        for room in [0, 92] {
+            conversion_refused(convert, taken, room, Refusal::RoomTooShort);
+        }
+        let mut room = [0xAA; 94];
+        assert_eq!(convert(taken, &mut room), Ok(other));
+        assert_eq!(room[93], 0xAA);
+        assert_eq!(convert(taken, &mut room[..93]), Ok(other));
+    }
 }
 
 /// Asserts that a batch of so many questions to these bytes is refused so.

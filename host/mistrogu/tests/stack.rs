@@ -54,13 +54,39 @@ fn hostile_folded_books() -> Vec<Lent> {
         .collect()
 }
 
+/// Books as column books: the same nodes, hostile or not, stored field by field.
+fn as_columns(books: Vec<Lent>) -> Vec<Lent> {
+    let books = books.into_iter();
+    books
+        .map(|lent| {
+            let mut bytes = lent.bytes;
+            let trailer = bytes.len() - 16;
+            let number = |at| usize::from(u16::from_le_bytes([bytes[at], bytes[at + 1]]));
+            let (start, nodes) = (number(trailer + 6), number(trailer + 8));
+            let rows = bytes[start..start + 12 * nodes].to_vec();
+            let columns = (0..6).flat_map(|field| {
+                let of_node = rows.chunks(12);
+                of_node.flat_map(move |row| [row[2 * field], row[2 * field + 1]])
+            });
+            let columns: Vec<u8> = columns.collect();
+            bytes[start..start + 12 * nodes].copy_from_slice(&columns);
+            bytes[trailer + 12..].copy_from_slice(&BookKind::Columns.mark());
+            Lent {
+                about: format!("columns, {}", lent.about),
+                bytes,
+                code: lent.code,
+            }
+        })
+        .collect()
+}
+
 /// Lists of the deepest, the widest and the largest books of this kind. In folded
 /// ones neighbours share no byte, so that what they share is found by going along
 /// the block.
 fn extreme_lists_for(kind: BookKind) -> Vec<(&'static str, Names)> {
     let lists = extreme_lists().into_iter();
     let for_kind = lists.map(|(about, names)| match kind {
-        BookKind::Plain => (about, names),
+        BookKind::Plain | BookKind::Columns => (about, names),
         BookKind::Folded => (about, by_turns(&lists::sorted_for(kind, names))),
     });
     for_kind
@@ -125,7 +151,42 @@ fn call_with_book(lent: &Lent, fence: Fence) {
     assert_eq!(batched.code, *code);
     say("clip and route", about);
     let announced = announce(&book, &question, checked.first, fence);
-    assert_eq!(announced.map(|answer| answer.code), [*code; 2], "{about}");
+    let kind = BookKind::of_marked(bytes);
+    let expected = match kind {
+        Some(BookKind::Columns) => 2,
+        _ => *code,
+    };
+    assert_eq!(
+        announced.map(|answer| answer.code),
+        [expected; 2],
+        "{about}"
+    );
+    say("to columns and from columns", about);
+    for (taken, convert) in CONVERSIONS {
+        let expected = match *code {
+            0 if kind == Some(taken) => [0, 4],
+            _ => [2; 2],
+        };
+        assert_eq!(convert_all(&book, convert, fence), expected, "{about}");
+    }
+}
+
+/// The two conversions, each with the kind that it takes.
+const CONVERSIONS: [(BookKind, Convert); 2] = [
+    (BookKind::Plain, proved::book_to_columns),
+    (BookKind::Columns, proved::book_from_columns),
+];
+
+/// A call that converts a book.
+type Convert = fn(&[u8], &mut [u8]) -> Answer;
+
+/// What a conversion says with a room of just the book's length, and with one of one
+/// byte less.
+fn convert_all(book: &[u8], convert: Convert, fence: Fence) -> [usize; 2] {
+    [book.len(), book.len().saturating_sub(1)].map(|space| {
+        let mut room = Fenced::of(&vec![0; space], fence);
+        on_stack(STACK, || convert(book, &mut room)).code
+    })
 }
 
 /// The clip for this text, and the clips of a route, by a table of so many clips.
@@ -202,7 +263,7 @@ fn build(kind: BookKind, lent: &Lent, fence: Fence) -> Answer {
     let list = Fenced::of(&lent.bytes, fence);
     let mut room = Fenced::of(&[0; LONGEST_BOOK], fence);
     let build = match kind {
-        BookKind::Plain => proved::book_build,
+        BookKind::Plain | BookKind::Columns => proved::book_build,
         BookKind::Folded => proved::book_build_folded,
     };
     on_stack(BUILD_STACK, || build(&list, 16, &mut room))
@@ -213,9 +274,17 @@ fn call_with_all(fence: Fence) {
     for lent in hostile_books() {
         call_with_book(&lent, fence);
         assert_eq!(salvage(&lent, fence).code, 0, "only nodes are hostile");
-        for kind in BookKind::ALL {
+        for kind in BookKind::FULL {
             assert_ne!(build(kind, &lent, fence).code, 0);
         }
+    }
+    for lent in as_columns(hostile_books()) {
+        call_with_book(&lent, fence);
+        assert_eq!(
+            salvage(&lent, fence).code,
+            13,
+            "the mark is that of columns"
+        );
     }
     for lent in hostile_folded_books() {
         call_with_book(&lent, fence);
@@ -243,7 +312,7 @@ fn call_with_names(kind: BookKind, about: &str, names: &Names, fence: Fence) {
     call_with_book(&worn(&book), fence);
     let salvaged = match kind {
         BookKind::Plain => 0,
-        BookKind::Folded => 13,
+        BookKind::Folded | BookKind::Columns => 13,
     };
     for card in [&book, &worn(&book)] {
         assert_eq!(salvage(card, fence).code, salvaged);

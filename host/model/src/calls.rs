@@ -1,6 +1,6 @@
 //! The public calls that have to do with a book; those of two lists stand in
-//! `merging`, that of a worn card in `salvage`, and those of the announcer in
-//! `announcer`.
+//! `merging`, that of a worn card in `salvage`, those of the announcer in
+//! `announcer`, and those that turn one kind of book into another in `converting`.
 //!
 //! Renders what document 01 says below the table of refusals: in which order
 //! each call looks for a refusal, what stands beside the code, and what is
@@ -137,7 +137,8 @@ pub fn book_build_folded(list: &[u8], block: usize, room: &mut [u8]) -> Answer {
     build_kind(BookKind::Folded, list, block, room)
 }
 
-/// Builds a book of this kind.
+/// Builds a book of this kind. No call builds a column book so; it is what
+/// conversion is held to.
 pub fn build_kind(kind: BookKind, list: &[u8], block: usize, room: &mut [u8]) -> Answer {
     if !(1..=LARGEST_BLOCK).contains(&block) {
         return refused(BAD_BLOCK_SIZE);

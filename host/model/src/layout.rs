@@ -2,9 +2,10 @@
 //!
 //! Renders document 01, "Layout of a book": entries, block table, node table,
 //! trailer, one behind the other without gaps. The size of a node is that of
-//! document 02, change request 1; the kinds of book are those of change request 7.
-//! A kind has a say in the nodes, which go by symbols, and in the mark. The
-//! entries go by bytes whatever the kind, so that spelling comes back unchanged.
+//! document 02, change request 1; the kinds of book are those of change requests 7
+//! and 10. A kind has a say in the nodes, which go by symbols, in the order of their
+//! numbers, and in the mark. The entries go by bytes whatever the kind, so that
+//! spelling comes back unchanged.
 //!
 //! No limit is applied here. A number that does not fit its one or two bytes
 //! is cut to the low ones; for a list and block size that a build accepts, and
@@ -27,7 +28,7 @@ pub const NODE_LENGTH: usize = 12;
 pub fn book_of(kind: BookKind, block: usize, names: &[Vec<u8>]) -> Vec<u8> {
     let entries = entries(block, names);
     let block_table = block_table(block, names);
-    let node_table = node_table(kind.rule(), names);
+    let node_table = node_table(kind, names);
     let trailer = trailer(kind, block, names, entries.len(), block_table.len());
     [entries, block_table, node_table, trailer].concat()
 }
@@ -83,26 +84,58 @@ pub fn block_table(block: usize, names: &[Vec<u8>]) -> Vec<u8> {
     bytes
 }
 
-/// Part 3: every node of the tree, twelve bytes each; none without names.
-pub fn node_table(rule: Rule, names: &[Vec<u8>]) -> Vec<u8> {
+/// Part 3: the six numbers of every node of the tree, two bytes each; none without
+/// names. They stand node by node, or column by column.
+pub fn node_table(kind: BookKind, names: &[Vec<u8>]) -> Vec<u8> {
+    let mut nodes = Vec::new();
+    if let Some(root) = tree(kind.rule(), names) {
+        list_node(&root, &mut nodes);
+    }
+    match kind {
+        BookKind::Plain | BookKind::Folded => record_by_record(&nodes),
+        BookKind::Columns => column_by_column(&nodes),
+    }
+}
+
+/// The six numbers of a node, in the order of the fields: symbol, depth, first name,
+/// number of names, number of nodes, greatest length.
+type Record = [usize; NODE_LENGTH / 2];
+
+/// A node, then its row of children, each of them with its own row.
+fn list_node(node: &Node, nodes: &mut Vec<Record>) {
+    nodes.push([
+        node.symbol,
+        node.depth,
+        node.first,
+        node.names,
+        node.nodes,
+        node.width,
+    ]);
+    for child in &node.children {
+        list_node(child, nodes);
+    }
+}
+
+/// All numbers of the first node, then all of the second, and so on.
+fn record_by_record(nodes: &[Record]) -> Vec<u8> {
     let mut bytes = Vec::new();
-    if let Some(root) = tree(rule, names) {
-        write_node(&root, &mut bytes);
+    for record in nodes {
+        for &number in record {
+            bytes.extend(two_bytes(number));
+        }
     }
     bytes
 }
 
-/// A node, then its row of children, each of them with its own row.
-fn write_node(node: &Node, bytes: &mut Vec<u8>) {
-    bytes.extend(two_bytes(node.symbol));
-    bytes.extend(two_bytes(node.depth));
-    bytes.extend(two_bytes(node.first));
-    bytes.extend(two_bytes(node.names));
-    bytes.extend(two_bytes(node.nodes));
-    bytes.extend(two_bytes(node.width));
-    for child in &node.children {
-        write_node(child, bytes);
+/// The symbols of all nodes, then the depths of all nodes, and so on.
+fn column_by_column(nodes: &[Record]) -> Vec<u8> {
+    let mut bytes = Vec::new();
+    for field in 0..NODE_LENGTH / 2 {
+        for record in nodes {
+            bytes.extend(two_bytes(record[field]));
+        }
     }
+    bytes
 }
 
 /// How many nodes the book of these names has: the trailer's number m.

@@ -2,8 +2,9 @@
 //!
 //! Everything that document 01 asks for, with what document 02's change requests
 //! 1 (width), 2 (merging), 3 (nearest's number), 5 (worn cards), 7 (folded books), 8
-//! (how far it looked) and 9 (the announcer) add to it or change of it, done over a
-//! plain sorted list of byte strings. Nothing here is fast and nothing is meant to be.
+//! (how far it looked), 9 (the announcer) and 10 (columns) add to it or change of it,
+//! done over a plain sorted list of byte strings. Nothing here is fast and nothing is
+//! meant to be.
 //! A reader with the documents in the other hand should be able to believe each
 //! function at sight, because test vectors for the proved library come from this
 //! crate. It shares no line with that library.
@@ -22,6 +23,7 @@
 //! | [`calls`] | the public calls, each with its refusals in their order |
 //! | [`merging`] | the calls of two lists: merge, judge and step (document 02) |
 //! | [`salvage`] | the names of those blocks of a worn card that are sound (document 02) |
+//! | [`converting`] | a plain book as a column book, and back (document 02) |
 //! | [`announcer`] | the clip of a typed text, and the clips of a route (document 02) |
 //! | [`programs`] | what the building and the listing program write |
 //!
@@ -32,6 +34,7 @@
 
 pub mod announcer;
 pub mod calls;
+pub mod converting;
 pub mod kinds;
 pub mod layout;
 pub mod merging;
@@ -48,6 +51,7 @@ pub use calls::{
     book_batch, book_build, book_build_folded, book_check, book_exact, book_nearest, book_place,
     book_range, book_read, book_width, build_kind, Answer, Counted, Row,
 };
+pub use converting::{book_from_columns, book_to_columns};
 pub use kinds::BookKind;
 pub use layout::book_of;
 pub use merging::{list_head, list_judge, list_merge, list_step, Head};

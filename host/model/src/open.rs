@@ -1,9 +1,9 @@
 //! Which runs of bytes are a book.
 //!
 //! Renders demand 3, to which refusal 2 of document 01 points, as document 02,
-//! change request 7, reads it: bytes are a book exactly when the layout yields them
-//! for some kind, some list that is sound for that kind and some block size from 1
-//! to 64, within 65,535 bytes.
+//! change requests 7 and 10, reads it: bytes are a book exactly when the layout yields
+//! them for some kind, some list that is sound for that kind and some block size from
+//! 1 to 64, within 65,535 bytes.
 //!
 //! The check does not look at each field on its own. It reads from the bytes
 //! the only kind, list and block size they could be the book of, lays that book

@@ -3,8 +3,8 @@
 //! Renders document 02, change request 5. The trailer and the block table are a
 //! map of the entries. Where the map makes sense, each block is judged by its own
 //! bytes and the number of names it ought to have, and by nothing else. Node
-//! records are never looked at. Salvage goes by the plain rule, and a folded mark
-//! makes no sense to it (change request 7).
+//! records are never looked at. Salvage serves the plain full mark, and that of
+//! another kind of book makes no sense to it (change requests 7 and 14).
 
 use crate::calls::{refused, write_out, Answer};
 use crate::kinds::BookKind;

@@ -494,7 +494,7 @@ fn a_route_gives_3_before_4() {
 #[test]
 fn the_clip_is_that_of_exact_s_or_range_s_position() {
     let list = names(&["Abbey", "Mar", "Marina", "Market Square", "Mill", "Zoo"]);
-    for kind in BookKind::ALL {
+    for kind in BookKind::FULL {
         let (book, clips) = (built_as(kind, &list, 3), many_clips(6));
         for text in [
             "", "A", "M", "Mar", "mar", "Mari", "MARK", "Mil", "Zoo", "q",

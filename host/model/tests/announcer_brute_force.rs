@@ -35,7 +35,7 @@ struct Codes {
 /// Bytes as a book of this kind compares them.
 fn compared(kind: BookKind, bytes: &[u8]) -> Vec<u8> {
     match kind {
-        BookKind::Plain => bytes.to_vec(),
+        BookKind::Plain | BookKind::Columns => bytes.to_vec(),
         BookKind::Folded => bytes.to_ascii_lowercase(),
     }
 }
@@ -179,7 +179,7 @@ fn every_route(positions: &[usize], longest: usize) -> Vec<Vec<usize>> {
 /// Six names for each kind of book. Those for a folded one do not rise as bytes.
 fn candidates(kind: BookKind) -> Vec<Vec<u8>> {
     match kind {
-        BookKind::Plain => names(&["A", "Aa", "a", "aa", "ab", "b"]),
+        BookKind::Plain | BookKind::Columns => names(&["A", "Aa", "a", "aa", "ab", "b"]),
         BookKind::Folded => names(&["a", "AA", "Ab", "b", "BA", "bB"]),
     }
 }
@@ -188,7 +188,7 @@ fn candidates(kind: BookKind) -> Vec<Vec<u8>> {
 fn every_list_of_six_names_and_every_short_text() {
     let texts = all_strings(b"aAbB", 3);
     let mut codes = Codes::default();
-    for kind in BookKind::ALL {
+    for kind in BookKind::FULL {
         for names in every_choice(&candidates(kind)) {
             let book = built_as(kind, &names, 2);
             for clips in tables(names.len()) {
@@ -205,7 +205,7 @@ fn every_list_of_six_names_and_every_short_text() {
 #[test]
 fn every_list_of_four_names_and_every_short_route() {
     let mut codes = Codes::default();
-    for kind in BookKind::ALL {
+    for kind in BookKind::FULL {
         for names in every_choice(&candidates(kind)[..4]) {
             let (count, book) = (names.len(), built_as(kind, &names, 3));
             let routes = every_route(&[0, 1, count, count + 1, usize::MAX], 4);
@@ -247,7 +247,7 @@ fn every_length_of_a_text_up_to_300() {
     let names = [1, 2, 100, 199, 200].map(|length| vec![b'n'; length]);
     let clips = clips(5);
     let mut codes = Codes::default();
-    for kind in BookKind::ALL {
+    for kind in BookKind::FULL {
         let book = built_as(kind, &names, 2);
         let held = Held::of(kind, &names, &book, &clips);
         for length in 0..300 {
@@ -261,7 +261,7 @@ fn every_length_of_a_text_up_to_300() {
 #[test]
 fn every_byte_of_a_book_changed() {
     let mut codes = Codes::default();
-    for kind in BookKind::ALL {
+    for kind in BookKind::FULL {
         let book = built_as(kind, &names(&["Mar", "marina", "market"]), 2);
         for at in 0..book.len() {
             for step in [1, 32, 255] {
@@ -338,7 +338,7 @@ fn random_books_texts_and_routes() {
     let mut codes = Codes::default();
     for seed in 60_000..60_800 {
         let mut random = Random::from_seed(seed);
-        for kind in BookKind::ALL {
+        for kind in BookKind::FULL {
             let names = random_names(kind, &mut random, 40);
             let book = built_as(kind, &names, 1 + random.below(9));
             for clips in tables(names.len()) {

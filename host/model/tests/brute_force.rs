@@ -28,7 +28,7 @@ const CASES: [u8; 8] = *b"aAbB@[`{";
 /// Bytes as a book of this kind looks at them.
 fn looked_at(kind: BookKind, bytes: &[u8]) -> Vec<u8> {
     match kind {
-        BookKind::Plain => bytes.to_vec(),
+        BookKind::Plain | BookKind::Columns => bytes.to_vec(),
         BookKind::Folded => bytes.to_ascii_lowercase(),
     }
 }

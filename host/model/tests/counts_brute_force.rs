@@ -17,7 +17,7 @@ use std::collections::BTreeSet;
 /// The symbols of a name or a question in a book of this kind, with the end.
 fn symbols(kind: BookKind, bytes: &[u8]) -> Vec<u16> {
     let bytes = match kind {
-        BookKind::Plain => bytes.to_vec(),
+        BookKind::Plain | BookKind::Columns => bytes.to_vec(),
         BookKind::Folded => bytes.to_ascii_lowercase(),
     };
     let own = bytes.iter().map(|&byte| u16::from(byte) + 1);

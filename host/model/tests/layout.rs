@@ -138,8 +138,14 @@ fn the_nodes_of_the_worked_example() {
 #[test]
 fn the_block_size_does_not_touch_the_node_table() {
     let book = |block| book_of(BookKind::Plain, block, &mar_names());
-    assert_eq!(book(2)[29..77], node_table(Rule::Plain, &mar_names())[..]);
-    assert_eq!(book(4)[24..72], node_table(Rule::Plain, &mar_names())[..]);
+    assert_eq!(
+        book(2)[29..77],
+        node_table(BookKind::Plain, &mar_names())[..]
+    );
+    assert_eq!(
+        book(4)[24..72],
+        node_table(BookKind::Plain, &mar_names())[..]
+    );
 }
 
 #[test]
@@ -309,7 +315,7 @@ fn the_parts_stand_without_gaps() {
     let parts = [
         entries(16, &list),
         block_table(16, &list),
-        node_table(Rule::Plain, &list),
+        node_table(BookKind::Plain, &list),
     ];
     let book = built(&list, 16);
     assert_eq!(book[..book.len() - 16], parts.concat());

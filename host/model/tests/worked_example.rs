@@ -43,7 +43,7 @@ fn the_parts_have_the_lengths_that_the_document_counts() {
         [0x00, 0x00, 0x0A, 0x00]
     );
     assert_eq!(
-        model::layout::node_table(Rule::Plain, &mar_names()).len(),
+        model::layout::node_table(BookKind::Plain, &mar_names()).len(),
         48
     );
     assert_eq!(model::layout::node_count(Rule::Plain, &mar_names()), 4);

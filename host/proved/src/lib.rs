@@ -121,7 +121,7 @@ pub fn book_build_folded(list: &[u8], block: usize, room: &mut [u8]) -> Answer {
     }
 }
 
-/// Checks a book of either kind: (0, how many names it has, its block size), or
+/// Checks a book of any kind: (0, how many names it has, its block size), or
 /// refusal 2.
 pub fn book_check(book: &[u8]) -> Answer {
     // SAFETY: the pointer comes with the length of its own slice, and nothing
@@ -204,6 +204,22 @@ pub fn book_batch(book: &[u8], questions: &[u8], rows: &[Row], answers: &mut [An
             answers.len(),
         )
     }
+}
+
+/// Turns a plain book into the column book of the same names, in the room: (0, its
+/// length, 0), or refusal 2 or 4, and then the room is as it was.
+pub fn book_to_columns(book: &[u8], room: &mut [u8]) -> Answer {
+    // SAFETY: each pointer comes with the length of its own slice. The room is
+    // borrowed for this call alone, so it does not overlap the book.
+    unsafe { raw::book_to_columns(book.as_ptr(), book.len(), room.as_mut_ptr(), room.len()) }
+}
+
+/// Turns a column book into the plain book of the same names, in the room: (0, its
+/// length, 0), or refusal 2 or 4, and then the room is as it was.
+pub fn book_from_columns(book: &[u8], room: &mut [u8]) -> Answer {
+    // SAFETY: each pointer comes with the length of its own slice. The room is
+    // borrowed for this call alone, so it does not overlap the book.
+    unsafe { raw::book_from_columns(book.as_ptr(), book.len(), room.as_mut_ptr(), room.len()) }
 }
 
 /// Salvages the names of a damaged book's sound blocks into the room, as list

@@ -30,7 +30,7 @@ extern "C" {
         room: *mut u8,
         room_len: usize,
     ) -> Answer;
-    /// Checks a book of either kind.
+    /// Checks a book of any kind.
     pub fn book_check(book: *const u8, book_len: usize) -> Answer;
     /// Reads a name back by its position.
     pub fn book_read(
@@ -85,6 +85,20 @@ extern "C" {
         rows_len: usize,
         answers: *mut Answer,
         answers_len: usize,
+    ) -> Answer;
+    /// Turns a plain book into a column book.
+    pub fn book_to_columns(
+        book: *const u8,
+        book_len: usize,
+        room: *mut u8,
+        room_len: usize,
+    ) -> Answer;
+    /// Turns a column book into a plain book.
+    pub fn book_from_columns(
+        book: *const u8,
+        book_len: usize,
+        room: *mut u8,
+        room_len: usize,
     ) -> Answer;
     /// Salvages the names of a damaged book.
     pub fn book_salvage(

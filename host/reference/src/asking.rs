@@ -4,7 +4,7 @@
 use crate::bytes::{byte, leading_letters, part, put, two};
 use crate::checking::Parts;
 use crate::rules::Rule;
-use crate::{LONGEST_NAME, LONGEST_PATH, NODE};
+use crate::{LONGEST_NAME, LONGEST_PATH};
 use core::marker::PhantomData;
 use core::mem::MaybeUninit;
 
@@ -141,7 +141,8 @@ impl<'lent, R: Rule> Sound<'lent, R> {
     /// There is such a node.
     #[inline(always)]
     unsafe fn field(self, node: usize, field: Field) -> usize {
-        let at = self.parts.nodes_at + NODE * node + 2 * field as usize;
+        let step = R::step(self.parts.nodes);
+        let at = self.parts.nodes_at + R::STRIDE * node + step * field as usize;
         two(self.book, at)
     }
 

@@ -3,8 +3,9 @@
 use crate::asking::Sound;
 use crate::building::{judge, Noted};
 use crate::checking::check;
+use crate::converting;
 use crate::merging::{self, Pair};
-use crate::rules::{Folded, Plain, Rule};
+use crate::rules::{Columns, Folded, Plain, Rule};
 use crate::salvaging::{self, Judged};
 use crate::{LARGEST_BLOCK, LONGEST_BOOK, LONGEST_NAME, MOST_NAMES};
 
@@ -158,10 +159,12 @@ fn build<R: Rule>(list: &[u8], block: usize, room: &mut [u8]) -> Answer {
     accepted(length, 0)
 }
 
-/// Checks a book of either kind: n and k. Refusal: 2.
+/// Checks a book of any kind: n and k. Refusal: 2.
 pub fn book_check(book: &[u8]) -> Answer {
     let parts = if Folded::marks(book) {
         check::<Folded>(book)
+    } else if Columns::marks(book) {
+        check::<Columns>(book)
     } else {
         check::<Plain>(book)
     };
@@ -171,17 +174,43 @@ pub fn book_check(book: &[u8]) -> Answer {
     }
 }
 
-/// A book of either kind.
+/// Turns a plain book into a column book: its length. Refusals: 2, 4.
+pub fn book_to_columns(book: &[u8], room: &mut [u8]) -> Answer {
+    convert::<Plain, Columns>(book, room)
+}
+
+/// Turns a column book into a plain book: its length. Refusals: 2, 4.
+pub fn book_from_columns(book: &[u8], room: &mut [u8]) -> Answer {
+    convert::<Columns, Plain>(book, room)
+}
+
+/// Turns a book of one kind into one of another.
+fn convert<From: Rule, To: Rule>(book: &[u8], room: &mut [u8]) -> Answer {
+    let Some(parts) = check::<From>(book) else {
+        return refused(2, 0);
+    };
+    if room.len() < book.len() {
+        return refused(4, 0);
+    }
+    // SAFETY: the check gave these parts, and the room is long enough.
+    unsafe { converting::write::<From, To>(book, parts, room) };
+    accepted(book.len(), 0)
+}
+
+/// A book of any kind.
 #[derive(Clone, Copy)]
 enum Book<'lent> {
     Plain(Sound<'lent, Plain>),
     Folded(Sound<'lent, Folded>),
+    Columns(Sound<'lent, Columns>),
 }
 
 /// The book, if it is one; its mark says of which kind.
 fn sound(book: &[u8]) -> Option<Book<'_>> {
     if Folded::marks(book) {
         sound_as(book).map(Book::Folded)
+    } else if Columns::marks(book) {
+        sound_as(book).map(Book::Columns)
     } else {
         sound_as(book).map(Book::Plain)
     }
@@ -201,6 +230,7 @@ impl Book<'_> {
         match self {
             Book::Plain(sound) => ask(sound, kind, question),
             Book::Folded(sound) => ask(sound, kind, question),
+            Book::Columns(sound) => ask(sound, kind, question),
         }
     }
 
@@ -209,6 +239,7 @@ impl Book<'_> {
         match self {
             Book::Plain(sound) => sound.names(),
             Book::Folded(sound) => sound.names(),
+            Book::Columns(sound) => sound.names(),
         }
     }
 
@@ -218,6 +249,7 @@ impl Book<'_> {
         match self {
             Book::Plain(sound) => read(sound, position, room),
             Book::Folded(sound) => read(sound, position, room),
+            Book::Columns(sound) => read(sound, position, room),
         }
     }
 }
@@ -394,6 +426,9 @@ pub fn list_head(first: &[u8], second: &[u8], passed_first: usize, passed_second
 /// that begins with it; (0, how many names begin with it) where there is neither.
 /// Refusals: 2, 16, 1.
 pub fn announce_clip(book: &[u8], clips: &[u16], text: &[u8]) -> Answer {
+    if Columns::marks(book) {
+        return refused(2, 0);
+    }
     let Some(book) = sound(book) else {
         return refused(2, 0);
     };
@@ -419,7 +454,7 @@ pub fn announce_clip(book: &[u8], clips: &[u16], text: &[u8]) -> Answer {
 /// place of the first bad position; 4.
 pub fn announce_route(book: &[u8], clips: &[u16], positions: &[usize], room: &mut [u16]) -> Answer {
     let checked = book_check(book);
-    if checked.code != 0 {
+    if checked.code != 0 || Columns::marks(book) {
         return refused(2, 0);
     }
     if clips.len() != checked.first {

@@ -196,14 +196,21 @@ const MOST_OPEN: usize = LONGEST_NAME;
 /// Two names share at most 199 bytes.
 const DEEPEST_FORK: usize = LONGEST_NAME - 1;
 
+/// The node table: the book's bytes, and how far a node's numbers stand apart.
+#[derive(Clone, Copy)]
+struct Table<'book> {
+    book: &'book [u8],
+    step: usize,
+}
+
 /// A number of the record that stands here.
 ///
 /// # Safety
 ///
 /// It lies inside.
 #[inline(always)]
-unsafe fn number(book: &[u8], record: usize, place: usize) -> usize {
-    two(book, record + 2 * place)
+unsafe fn number(table: Table, record: usize, place: usize) -> usize {
+    two(table.book, record + table.step * place)
 }
 
 /// Whether the record that stands here is the leaf of a name of this length.
@@ -212,10 +219,10 @@ unsafe fn number(book: &[u8], record: usize, place: usize) -> usize {
 ///
 /// It lies inside.
 #[inline(always)]
-unsafe fn is_leaf(book: &[u8], record: usize, length: usize) -> bool {
-    number(book, record, 1) == length + 1
-        && number(book, record, 4) == 1
-        && number(book, record, 5) == length
+unsafe fn is_leaf(table: Table, record: usize, length: usize) -> bool {
+    number(table, record, 1) == length + 1
+        && number(table, record, 4) == 1
+        && number(table, record, 5) == length
 }
 
 /// The fork that stands here, if it is inside the open node, deeper than
@@ -225,11 +232,11 @@ unsafe fn is_leaf(book: &[u8], record: usize, length: usize) -> bool {
 ///
 /// It lies inside.
 #[inline(always)]
-unsafe fn fork(book: &[u8], record: usize, position: usize, open: Open) -> Option<Open> {
-    let depth = number(book, record, 1);
-    let names = number(book, record, 3);
-    let nodes = number(book, record, 4);
-    let (end, stop) = (position + names, record + NODE * nodes);
+unsafe fn fork<R: Rule>(table: Table, record: usize, position: usize, open: Open) -> Option<Open> {
+    let depth = number(table, record, 1);
+    let names = number(table, record, 3);
+    let nodes = number(table, record, 4);
+    let (end, stop) = (position + names, record + R::STRIDE * nodes);
     let inside = end <= usize::from(open.end) && stop <= usize::from(open.stop);
     let fewer = end < usize::from(open.end) || position > usize::from(open.first);
     let deeper = depth > usize::from(open.depth) && depth <= DEEPEST_FORK;
@@ -238,7 +245,7 @@ unsafe fn fork(book: &[u8], record: usize, position: usize, open: Open) -> Optio
         end: end as u16,
         stop: stop as u16,
         depth: depth as u16,
-        width: number(book, record, 5) as u16,
+        width: number(table, record, 5) as u16,
         greatest: 0,
     })
 }
@@ -263,19 +270,19 @@ unsafe fn symbol<R: Rule>(entry: Entry, depth: usize) -> Option<usize> {
 /// # Safety
 ///
 /// The trailer's numbers agree, and there are nodes.
-unsafe fn root(book: &[u8], parts: Parts) -> Option<Open> {
+unsafe fn root<R: Rule>(table: Table, parts: Parts) -> Option<Open> {
     let record = parts.nodes_at;
-    let is_root = number(book, record, 0) == 0
-        && number(book, record, 1) <= DEEPEST_FORK
-        && number(book, record, 2) == 0
-        && number(book, record, 3) == parts.names
-        && number(book, record, 4) == parts.nodes;
+    let is_root = number(table, record, 0) == 0
+        && number(table, record, 1) <= DEEPEST_FORK
+        && number(table, record, 2) == 0
+        && number(table, record, 3) == parts.names
+        && number(table, record, 4) == parts.nodes;
     is_root.then_some(Open {
         first: 0,
         end: parts.names as u16,
-        stop: (record + NODE * parts.nodes) as u16,
-        depth: number(book, record, 1) as u16,
-        width: number(book, record, 5) as u16,
+        stop: (record + R::STRIDE * parts.nodes) as u16,
+        depth: number(table, record, 1) as u16,
+        width: number(table, record, 5) as u16,
         greatest: 0,
     })
 }
@@ -287,17 +294,21 @@ unsafe fn root(book: &[u8], parts: Parts) -> Option<Open> {
 /// The entries stand, and the shares are theirs.
 unsafe fn nodes_stand<R: Rule>(book: &[u8], parts: Parts, shares: &[u8; MOST_NAMES]) -> Option<()> {
     let record = parts.nodes_at;
+    let table = Table {
+        book,
+        step: R::step(parts.nodes),
+    };
     match (parts.names, parts.nodes) {
         (0, _) => Some(()),
         (_, 0) => None,
         (1, 1) => {
-            let is_root = number(book, record, 0) == 0
-                && number(book, record, 2) == 0
-                && number(book, record, 3) == 1;
-            (is_root && is_leaf(book, record, byte(book, 1))).then_some(())
+            let is_root = number(table, record, 0) == 0
+                && number(table, record, 2) == 0
+                && number(table, record, 3) == 1;
+            (is_root && is_leaf(table, record, byte(book, 1))).then_some(())
         }
         (1, _) => None,
-        _ => below_root::<R>(book, root(book, parts)?, record + NODE, shares),
+        _ => below_root::<R>(table, root::<R>(table, parts)?, record + R::STRIDE, shares),
     }
 }
 
@@ -309,15 +320,15 @@ unsafe fn nodes_stand<R: Rule>(book: &[u8], parts: Parts, shares: &[u8; MOST_NAM
 /// The entries stand, and the stored count is at most the open depth.
 #[inline(always)]
 unsafe fn begins<R: Rule>(
-    book: &[u8],
+    table: Table,
     record: usize,
     position: usize,
     entry: Entry,
     open: Open,
 ) -> Option<()> {
     let stands = record < usize::from(open.stop)
-        && number(book, record, 0) == symbol::<R>(entry, usize::from(open.depth))?
-        && number(book, record, 2) == position;
+        && number(table, record, 0) == symbol::<R>(entry, usize::from(open.depth))?
+        && number(table, record, 2) == position;
     stands.then_some(())
 }
 
@@ -332,7 +343,7 @@ unsafe fn begins<R: Rule>(
 /// The entries stand, the shares are theirs, and the first record stands here.
 #[inline(always)]
 unsafe fn below_root<R: Rule>(
-    book: &[u8],
+    table: Table,
     mut open: Open,
     mut record: usize,
     shares: &[u8; MOST_NAMES],
@@ -340,21 +351,21 @@ unsafe fn below_root<R: Rule>(
     let mut outer = [Open::default(); MOST_OPEN];
     let (mut count, mut at, mut position) = (0, 0, 0);
     loop {
-        let entry = Entry::standing(book, at);
+        let entry = Entry::standing(table.book, at);
         // The forks that begin with this name, down to its leaf.
         loop {
-            begins::<R>(book, record, position, entry, open)?;
-            if number(book, record, 3) == 1 {
+            begins::<R>(table, record, position, entry, open)?;
+            if number(table, record, 3) == 1 {
                 break;
             }
-            let inner = fork(book, record, position, open)?;
+            let inner = fork::<R>(table, record, position, open)?;
             *outer.get_unchecked_mut(count) = replace(&mut open, inner);
             count += 1;
-            record += NODE;
+            record += R::STRIDE;
         }
-        let mut is_right = is_leaf(book, record, entry.length());
+        let mut is_right = is_leaf(table, record, entry.length());
         open.greatest = open.greatest.max(entry.length() as u16);
-        record += NODE;
+        record += R::STRIDE;
         position += 1;
         at += 2 + entry.rest.len();
         while is_right && usize::from(open.end) == position {

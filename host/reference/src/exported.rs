@@ -36,6 +36,32 @@ unsafe extern "C" fn book_build_folded(
 }
 
 #[no_mangle]
+unsafe extern "C" fn book_to_columns(
+    book: *const u8,
+    length: usize,
+    room: *mut u8,
+    space: usize,
+) -> Answer {
+    crate::book_to_columns(
+        from_raw_parts(book, length),
+        from_raw_parts_mut(room, space),
+    )
+}
+
+#[no_mangle]
+unsafe extern "C" fn book_from_columns(
+    book: *const u8,
+    length: usize,
+    room: *mut u8,
+    space: usize,
+) -> Answer {
+    crate::book_from_columns(
+        from_raw_parts(book, length),
+        from_raw_parts_mut(room, space),
+    )
+}
+
+#[no_mangle]
 unsafe extern "C" fn book_check(book: *const u8, length: usize) -> Answer {
     crate::book_check(from_raw_parts(book, length))
 }

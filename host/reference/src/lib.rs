@@ -18,7 +18,8 @@
 //! | [`asking`] | a name read back and the five questions, of a book that passed |
 //! | [`salvaging`] | the blocks of a damaged book, judged alone and written |
 //! | [`merging`] | two lists judged, then gone through side by side |
-//! | [`rules`] | the two kinds of book: their marks and their letters |
+//! | [`converting`] | a plain book's nodes as columns, and back |
+//! | [`rules`] | the three kinds of book: their marks, letters and nodes |
 //! | [`bytes`] | bytes and numbers at an offset, without a test |
 
 #![no_std]
@@ -29,6 +30,7 @@ pub mod building;
 pub mod bytes;
 pub mod calls;
 pub mod checking;
+pub mod converting;
 #[cfg(feature = "archive")]
 mod exported;
 pub mod merging;
@@ -38,8 +40,9 @@ pub mod salvaging;
 
 pub use calls::{
     announce_clip, announce_route, book_batch, book_build, book_build_folded, book_check,
-    book_exact, book_nearest, book_place, book_range, book_read, book_salvage, book_width,
-    list_head, list_judge, list_merge, Answer, Counted, Head, Kept, Row,
+    book_exact, book_from_columns, book_nearest, book_place, book_range, book_read, book_salvage,
+    book_to_columns, book_width, list_head, list_judge, list_merge, Answer, Counted, Head, Kept,
+    Row,
 };
 
 /// A name has 1 to 200 bytes, a question up to 200.

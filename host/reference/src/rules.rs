@@ -1,6 +1,8 @@
-//! The two kinds of book, as types: which mark a book ends in, and which bytes
-//! are the same letter. The code is compiled once for each, so a plain book pays
-//! nothing for the folded ones.
+//! The three kinds of book, as types: which mark a book ends in, which bytes are the
+//! same letter, and where the numbers of a node stand. The code is compiled once for
+//! each, so a plain book pays nothing for the others.
+
+use crate::NODE;
 
 /// A kind of book.
 pub trait Rule: Copy {
@@ -9,6 +11,16 @@ pub trait Rule: Copy {
 
     /// Whether several bytes can be one letter.
     const FOLDS: bool;
+
+    /// How many bytes lie between a node and the next.
+    const STRIDE: usize = NODE;
+
+    /// How many bytes lie between a number of a node and its next, where there are so
+    /// many nodes.
+    #[inline(always)]
+    fn step(_nodes: usize) -> usize {
+        2
+    }
 
     /// A byte as it is compared: bytes of one letter are one.
     fn letter(byte: usize) -> usize;
@@ -30,6 +42,10 @@ pub trait Rule: Copy {
 #[derive(Clone, Copy)]
 pub struct Plain;
 
+/// As plain, with a column for each of a node's numbers.
+#[derive(Clone, Copy)]
+pub struct Columns;
+
 /// Capitals are the letters of the bytes 32 higher.
 #[derive(Clone, Copy)]
 pub struct Folded;
@@ -37,6 +53,22 @@ pub struct Folded;
 impl Rule for Plain {
     const MARK: [u8; 4] = *b"NBK2";
     const FOLDS: bool = false;
+
+    #[inline(always)]
+    fn letter(byte: usize) -> usize {
+        byte
+    }
+}
+
+impl Rule for Columns {
+    const MARK: [u8; 4] = *b"NBC2";
+    const FOLDS: bool = false;
+    const STRIDE: usize = 2;
+
+    #[inline(always)]
+    fn step(nodes: usize) -> usize {
+        2 * nodes
+    }
 
     #[inline(always)]
     fn letter(byte: usize) -> usize {

@@ -14,6 +14,11 @@ fn ours(answer: Answer) -> Numbers {
     (answer.code, answer.first, answer.second)
 }
 
+/// Whether the announcer takes books with this one's mark.
+fn is_full(book: &[u8]) -> bool {
+    BookKind::of_marked(book).is_some_and(|kind| BookKind::FULL.contains(&kind))
+}
+
 /// The clip for a text, as the second program's answers have it.
 fn clip_by(book: &[u8], clips: &[u16], text: &[u8]) -> Numbers {
     let [checked, exact, range] = [
@@ -22,6 +27,7 @@ fn clip_by(book: &[u8], clips: &[u16], text: &[u8]) -> Numbers {
         model::book_range(book, text).answer(),
     ];
     match (checked.code, exact.code) {
+        (0, _) if !is_full(book) => (2, 0, 0),
         (0, _) if clips.len() != checked.first => (16, 0, 0),
         (0, 0) if exact.second == 1 => (0, 1, clips[exact.first].into()),
         (0, 0) if range.second == 1 => (0, 1, clips[range.first].into()),
@@ -37,6 +43,7 @@ fn route_by(book: &[u8], clips: &[u16], positions: &[usize], room: &mut [u16]) -
         .iter()
         .position(|&position| position >= checked.first);
     match (checked.code, bad) {
+        (0, _) if !is_full(book) => (2, 0, 0),
         (0, _) if clips.len() != checked.first => (16, 0, 0),
         (0, _) if positions.len() > 120 => (12, 0, 0),
         (0, Some(place)) => (3, place, 0),

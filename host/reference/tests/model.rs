@@ -57,7 +57,7 @@ fn any_names(random: &mut Random, kind: BookKind) -> Names {
 type Build<Answer> = fn(&[u8], usize, &mut [u8]) -> Answer;
 fn builds(kind: BookKind) -> (Build<reference::Answer>, Build<model::Answer>) {
     match kind {
-        BookKind::Plain => (reference::book_build, model::book_build),
+        BookKind::Plain | BookKind::Columns => (reference::book_build, model::book_build),
         BookKind::Folded => (reference::book_build_folded, model::book_build_folded),
     }
 }
@@ -80,6 +80,27 @@ fn same_answers(random: &mut Random, book: &[u8], names: &Names) {
     let question = any_question(random, names);
     let question = respelt(random, &question);
     same_questions(book, &question);
+    same_conversions(book);
+}
+
+/// Both conversions, into a room that is long enough and into one that is not. What
+/// they give is converted back.
+fn same_conversions(book: &[u8]) {
+    for space in [(book.len() + 1), book.len().saturating_sub(1)] {
+        let (mut one, mut other) = (vec![7; space], vec![7; space]);
+        let answer = reference::book_to_columns(book, &mut one);
+        let expected = model::book_to_columns(book, &mut other);
+        assert_eq!((ours(answer), &one), (theirs(expected), &other));
+        if answer.code == 0 {
+            let mut back = vec![7; book.len()];
+            let answer = reference::book_from_columns(&one[..book.len()], &mut back);
+            assert_eq!((answer.code, &back[..]), (0, book));
+        }
+        let (mut one, mut other) = (vec![7; space], vec![7; space]);
+        let answer = reference::book_from_columns(book, &mut one);
+        let expected = model::book_from_columns(book, &mut other);
+        assert_eq!((ours(answer), one), (theirs(expected), other));
+    }
 }
 
 /// A question in all five kinds, with how far each of them looked.
@@ -115,7 +136,7 @@ fn same_questions(book: &[u8], question: &[u8]) {
 fn builds_the_same_books() {
     let mut random = Random::from_seed(1);
     for _ in 0..1200 {
-        let kind = any_kind(&mut random);
+        let kind = *random.one_of(&BookKind::FULL);
         let mut names = any_names(&mut random, kind);
         let block = random.below(67);
         if random.once_in(4) {
@@ -148,7 +169,7 @@ fn builds_the_largest_books() {
     ];
     for (names, kind) in lists
         .iter()
-        .flat_map(|names| BookKind::ALL.map(|kind| (names, kind)))
+        .flat_map(|names| BookKind::FULL.map(|kind| (names, kind)))
     {
         let list = model::write_list(&lists::sorted_for(kind, names.clone()));
         let (mut one, mut other) = (vec![7; 65_536], vec![7; 65_536]);
@@ -161,6 +182,7 @@ fn builds_the_largest_books() {
             ours(reference::book_check(book)),
             theirs(model::book_check(book))
         );
+        same_conversions(book);
     }
 }
 
@@ -236,6 +258,7 @@ fn answers_all_around_every_name() {
     for (kind, block, names) in [
         (BookKind::Plain, 2, lists::example()),
         (BookKind::Plain, 7, lists::stops()),
+        (BookKind::Columns, 7, lists::stops()),
         (BookKind::Folded, 7, by_turns),
     ] {
         let book = book_of(kind, block, &names);

@@ -4,7 +4,7 @@ use crate::files;
 use crate::layout::{self, Node, Trailer};
 use crate::outcome::Failure;
 use crate::progress::Progress;
-use crate::text::grouped;
+use crate::text::{counted, grouped};
 use mistrogu::{BookKind, LONGEST_BOOK, LONGEST_NAME};
 use std::ffi::OsStr;
 use std::ops::Range;
@@ -72,6 +72,34 @@ impl Book {
         self.kind
     }
 
+    /// The column book of a plain one, and the plain book of a column one. There is
+    /// none of a folded book.
+    pub fn converted(&self) -> Result<Book, Failure> {
+        let mut room = vec![0; self.bytes.len()];
+        let source = self.source.clone();
+        let converted = match self.kind {
+            BookKind::Plain => mistrogu::to_columns(&self.bytes, &mut room),
+            BookKind::Columns => mistrogu::from_columns(&self.bytes, &mut room),
+            BookKind::Folded => {
+                return Err(Failure::refused(format!(
+                    "{source} is a folded book, and only plain books and column books can be \
+                     converted; stopbook build makes a plain one from its names"
+                )))
+            }
+        };
+        converted.map_err(|refusal| Failure::refused(format!("{source}: {refusal}")))?;
+        Book::of(room, source.clone())
+            .map_err(|why| Failure::refused(format!("{source}: what was made is no book: {why}")))
+    }
+
+    /// What a sentence says of it: how many names, nodes and bytes it has.
+    pub fn numbers(&self) -> String {
+        let names = counted(self.names, "name");
+        let nodes = counted(self.trailer.nodes, "node");
+        let bytes = counted(self.bytes.len(), "byte");
+        format!("{names} in blocks of {}, {nodes}, {bytes}", self.block)
+    }
+
     /// The numbers of its trailer.
     pub fn trailer(&self) -> &Trailer {
         &self.trailer
@@ -113,7 +141,7 @@ impl Book {
 
     /// The node table.
     pub fn nodes(&self) -> Result<Vec<Node>, Failure> {
-        layout::nodes(&self.bytes, &self.trailer).ok_or_else(|| self.unreadable("nodes"))
+        layout::nodes(&self.bytes, self.kind, &self.trailer).ok_or_else(|| self.unreadable("nodes"))
     }
 
     /// A part that an accepted book always has.

@@ -19,11 +19,16 @@ pub const COMMAND: Command = Command {
     name: "build",
     shape: Shape {
         valued: &["-o", "--output", "--block"],
-        flags: &["--fold", reading::TRIM, reading::AS_IS, EMPTY],
+        flags: &[FOLD, COLUMNS, reading::TRIM, reading::AS_IS, EMPTY],
     },
     help: help::BUILD,
     run,
 };
+
+/// The option for a folded book.
+const FOLD: &str = "--fold";
+/// The option for a column book.
+const COLUMNS: &str = "--columns";
 
 /// The block size where none is given.
 const USUAL_BLOCK: usize = 16;
@@ -36,7 +41,7 @@ fn run(words: &Words, streams: &mut Streams) -> Outcome {
         [_, extra, ..] => return Err(extra_word(extra)),
     };
     let block = read_block(words)?;
-    let kind = read_kind(words);
+    let kind = read_kind(words)?;
     let taking = reading::read_taking(words)?;
     let output = words.output().map_err(Failure::Usage)?;
     let output = output.map_or_else(|| usual_output(input), OsStr::to_os_string);
@@ -79,10 +84,14 @@ fn read_block(words: &Words) -> Result<usize, Failure> {
 }
 
 /// The kind of book.
-fn read_kind(words: &Words) -> BookKind {
-    match words.has("--fold") {
-        true => BookKind::Folded,
-        false => BookKind::Plain,
+fn read_kind(words: &Words) -> Result<BookKind, Failure> {
+    match (words.has(FOLD), words.has(COLUMNS)) {
+        (false, false) => Ok(BookKind::Plain),
+        (true, false) => Ok(BookKind::Folded),
+        (false, true) => Ok(BookKind::Columns),
+        (true, true) => Err(Failure::usage(
+            "give --fold or --columns, not both: no folded book has columns",
+        )),
     }
 }
 
@@ -104,7 +113,7 @@ fn build(kind: BookKind, names: &[Vec<u8>], block: usize, source: &str) -> Resul
     let list = names::records(names);
     let mut room = vec![0; LONGEST_BOOK];
     let built = match kind {
-        BookKind::Plain => mistrogu::build(&list, block, &mut room),
+        BookKind::Plain | BookKind::Columns => mistrogu::build(&list, block, &mut room),
         BookKind::Folded => mistrogu::build_folded(&list, block, &mut room),
     };
     let length = match built {
@@ -121,8 +130,12 @@ fn build(kind: BookKind, names: &[Vec<u8>], block: usize, source: &str) -> Resul
         }
     };
     room.truncate(length);
-    Book::of(room, source.to_string())
-        .map_err(|why| Failure::refused(format!("{source}: what was built is no book: {why}")))
+    let book = Book::of(room, source.to_string())
+        .map_err(|why| Failure::refused(format!("{source}: what was built is no book: {why}")))?;
+    match kind {
+        BookKind::Plain | BookKind::Folded => Ok(book),
+        BookKind::Columns => book.converted(),
+    }
 }
 
 /// By how much a book is too long, and what would help.
@@ -156,14 +169,15 @@ fn full(names: usize, bytes: usize) -> String {
 
 /// The parts of a book.
 fn parts(book: &Book, size: &Size) -> String {
-    let folded = match book.kind() {
-        BookKind::Plain => "",
-        BookKind::Folded => ", folded",
+    let (folded, columns) = match book.kind() {
+        BookKind::Plain => ("", ""),
+        BookKind::Folded => (", folded", ""),
+        BookKind::Columns => ("", ", in columns"),
     };
     let block = counted(book.block(), "name");
     let nodes = counted(book.trailer().nodes, "node");
     let [entries, tables] = [size.entries, size.tables()].map(|part| counted(part, "byte"));
-    format!("blocks of {block}{folded}; {nodes}; entries {entries}, tables {tables}")
+    format!("blocks of {block}{folded}; {nodes}{columns}; entries {entries}, tables {tables}")
 }
 
 /// How the entries and the whole book compare with the plain list.

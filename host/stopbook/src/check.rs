@@ -4,7 +4,6 @@ use crate::args::{Shape, Words};
 use crate::book::{self, Book};
 use crate::files;
 use crate::outcome::{Failure, Outcome, Status, Streams};
-use crate::text::counted;
 use crate::{help, Command};
 
 /// The command.
@@ -38,10 +37,6 @@ fn run(words: &Words, streams: &mut Streams) -> Outcome {
 
 /// What is said of a book.
 fn verdict(book: &Book) -> String {
-    let source = book.source();
-    let names = counted(book.names(), "name");
-    let nodes = counted(book.trailer().nodes, "node");
-    let bytes = counted(book.bytes().len(), "byte");
-    let (block, kind) = (book.block(), book.kind().name());
-    format!("{source} is a {kind} book: {names} in blocks of {block}, {nodes}, {bytes}")
+    let (source, kind, numbers) = (book.source(), book.kind().name(), book.numbers());
+    format!("{source} is a {kind} book: {numbers}")
 }

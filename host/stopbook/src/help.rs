@@ -2,13 +2,14 @@
 
 /// Where no command is given.
 pub const NO_COMMAND: &str =
-    "give a command: build, merge, list, ask, clip, route, check, salvage, tree; see: stopbook --help";
+    "give a command: build, convert, merge, list, ask, clip, route, check, salvage, tree; see: stopbook --help";
 
 /// The help of the tool.
 pub const TOOL: &str = "\
 stopbook: books of stop names, built, checked, listed and asked by the proved library
 
   stopbook build NAMES.txt [-o BOOK] [--fold]      make a book from a list of names
+  stopbook convert BOOK -o NEW                     make a column book of a plain one, or back
   stopbook merge A.txt B.txt [-o TEXT]             make one list of names from two
   stopbook list BOOK [--long]                      print its names, or their numbers, too
   stopbook ask BOOK [KIND QUESTION]                ask it: exact, place, range, nearest, width
@@ -33,7 +34,7 @@ or a file that cannot be read or written; 3 salvaged, and some names are lost.
 
 /// The help of `build`.
 pub const BUILD: &str = "\
-stopbook build NAMES.txt [-o BOOK] [--block K] [--fold] [--trim | --as-is] [--empty]
+stopbook build NAMES.txt [-o BOOK] [--block K] [--fold | --columns] [--trim | --as-is] [--empty]
 
 Makes a book from a text in UTF-8 with a name on each line, in any order. Lines end with LF
 or CR LF; empty ones are skipped. Names are sorted by their bytes; doubles are dropped, and
@@ -51,12 +52,19 @@ or in how accents are composed (Latin letters).
 A folded book takes capitals A to Z as small letters wherever it compares, so that MAR is
 found by mar; letters with accents stay apart. It gives names back as they are spelt. Names
 that are the same but for their case are doubles then, and the first is kept; both
-spellings are told. Every command takes both kinds of book, but for salvage.
+spellings are told.
+
+A column book is a plain book whose node table is stored field by field, for memory that is
+faster when one field is read at a time. It has the same names, answers and length.
+
+Every command takes every kind of book, but for three: salvage takes plain books, clip and
+route take plain and folded ones. `stopbook convert` makes a plain book of a column book.
 
   -o BOOK, --output BOOK   where the book goes; without it NAMES.book, and standard output
                            where the names come from standard input
   --block K                names in a block, 1 to 64; without it 16
   --fold                   make a folded book
+  --columns                make a column book
   --trim                   take blanks off before and behind names; what is empty then is
                            left out. Blanks are the space, U+00A0, U+2007, U+202F, U+3000.
   --as-is                  take every line as it is, with control characters, too, and tell
@@ -67,6 +75,23 @@ Examples:
 
   stopbook build sample/stops.txt -o stops.book
   stopbook build sample/stops.txt --fold -o typed.book
+";
+
+/// The help of `convert`.
+pub const CONVERT: &str = "\
+stopbook convert BOOK -o NEW
+
+Makes a column book of a plain book, or a plain book of a column book, and says which. The new
+book is the one that `stopbook build` makes of the same names with the same block size, byte
+for byte, so to columns and back gives the old book again. Both have the same length, names
+and answers. A folded book cannot be converted.
+
+  -o NEW, --output NEW   where the new book goes; not to the file that is read
+
+Examples:
+
+  stopbook convert stops.book -o columns.book
+  stopbook convert columns.book -o rows.book
 ";
 
 /// The help of `merge`.
@@ -182,7 +207,8 @@ stopbook clip BOOK CLIPS TEXT [--tsv]
 
 Tells which recorded clip the announcer plays for a text: that of the stop of this name, or
 else of the only stop whose name begins with the text. Where there is neither, it tells how
-many names begin with the text. A folded book takes the text in any case.
+many names begin with the text. A folded book takes the text in any case. A column book is
+not taken; `stopbook convert` makes a plain one of it.
 
 CLIPS is a text with a number on each line, 0 to 65535: line 1 is for the first name that
 `stopbook list BOOK` prints, line 2 for the second, and so on. No line may be empty, and
@@ -215,7 +241,7 @@ stopbook route BOOK CLIPS [STOP ..] [--names] [--tsv]
 Tells the clips of a route, in its order. A route has up to 120 stops, and may come to a stop
 several times. A STOP is a position, as `stopbook list BOOK --long` prints it. Without a STOP
 they are read from standard input, one on each line; empty lines are skipped. Where one of
-them is no stop, nothing is printed but which.
+them is no stop, nothing is printed but which. The book is plain or folded, as for `clip`.
 
 CLIPS is a text with a number on each line, as `stopbook clip --help` says.
 
@@ -235,9 +261,9 @@ Examples:
 pub const CHECK: &str = "\
 stopbook check BOOK
 
-Says whether the bytes are a book, and if so whether it is a plain or a folded one, and
-how many names, names in a block, nodes and bytes it has. The exit status is 1 where they
-are none.
+Says whether the bytes are a book, and if so whether it is a plain, a folded or a column
+book, and how many names, names in a block, nodes and bytes it has. The exit status is 1 where
+they are none.
 
 A book has no checksum. If one letter of a name is damaged, the bytes are often another sound
 book: one wrong bit makes Marine of Marina, and check still says that it is a book. So keep a
@@ -260,8 +286,8 @@ Each block is judged alone, so damage in one block costs no name of another, and
 do not count. Standard error has the number of each block that is lost, from 0, how many
 names it had, and between which names they stood; and where a block is not above the one
 before it: then one of the two has other names than it had. Where the trailer or the block
-table makes no sense, where it is marked as a folded book, and where no name is left,
-nothing is written, and an old text stays as it was.
+table makes no sense, where it is marked as a folded or a column book, and where no name is
+left, nothing is written, and an old text stays as it was.
 
 A book has no checksum, so a damaged letter may not show: if one wrong bit makes Marine of
 Marina, the block is still sound, Marine is written, and nothing is said to be lost. Read what

@@ -75,22 +75,27 @@ pub fn stored_counts(bytes: &[u8], names: usize) -> Option<Vec<usize>> {
     Some(counts)
 }
 
-/// The whole node table.
-pub fn nodes(bytes: &[u8], trailer: &Trailer) -> Option<Vec<Node>> {
+/// The whole node table of a book of this kind.
+pub fn nodes(bytes: &[u8], kind: BookKind, trailer: &Trailer) -> Option<Vec<Node>> {
+    // From a node to the next, and from a field of a node to its next.
+    let (stride, step) = match kind {
+        BookKind::Plain | BookKind::Folded => (NODE, 2),
+        BookKind::Columns => (2, 2 * trailer.nodes),
+    };
     (0..trailer.nodes)
-        .map(|index| node(bytes, trailer.nodes_at + NODE * index))
+        .map(|index| node(bytes, trailer.nodes_at + stride * index, step))
         .collect()
 }
 
-/// The node at an offset.
-fn node(bytes: &[u8], at: usize) -> Option<Node> {
+/// The node whose first field is at an offset, with its fields so far apart.
+fn node(bytes: &[u8], at: usize, step: usize) -> Option<Node> {
     Some(Node {
         symbol: number(bytes, at)?,
-        depth: number(bytes, at + 2)?,
-        first: number(bytes, at + 4)?,
-        names: number(bytes, at + 6)?,
-        nodes: number(bytes, at + 8)?,
-        width: number(bytes, at + 10)?,
+        depth: number(bytes, at + step)?,
+        first: number(bytes, at + 2 * step)?,
+        names: number(bytes, at + 3 * step)?,
+        nodes: number(bytes, at + 4 * step)?,
+        width: number(bytes, at + 5 * step)?,
     })
 }
 
@@ -118,8 +123,8 @@ pub fn why_no_book(bytes: &[u8]) -> String {
         format!("its trailer tells of {told}, and it has {length}; copy it again, whole")
     } else {
         let mend = match BookKind::of_marked(bytes) {
-            Some(BookKind::Folded) => "build it again from its names",
-            _ => "build it again, or see what stopbook salvage finds",
+            Some(BookKind::Folded | BookKind::Columns) => "build it again from its names",
+            Some(BookKind::Plain) | None => "build it again, or see what stopbook salvage finds",
         };
         format!("its parts do not fit together, so it was damaged; {mend}")
     }
@@ -137,6 +142,18 @@ pub mod tests {
         \x6A\x00\x07\x00\x01\x00\x01\x00\x01\x00\x06\x00\
         \x6C\x00\x0E\x00\x02\x00\x01\x00\x01\x00\x0D\x00\
         \x03\x00\x02\x00\x19\x00\x1D\x00\x04\x00\x5D\x00\x4E\x42\x4B\x32";
+
+    /// The same book with its nodes as columns: symbols, depths, first names, numbers
+    /// of names, numbers of nodes, widths.
+    const COLUMNS: &[u8] = b"\x00\x03Mar\x03\x03ina\x00\x0DMarket Square\
+        \x00\x00\x0A\x00\
+        \x00\x00\x00\x00\x6A\x00\x6C\x00\
+        \x03\x00\x04\x00\x07\x00\x0E\x00\
+        \x00\x00\x00\x00\x01\x00\x02\x00\
+        \x03\x00\x01\x00\x01\x00\x01\x00\
+        \x04\x00\x01\x00\x01\x00\x01\x00\
+        \x0D\x00\x03\x00\x06\x00\x0D\x00\
+        \x03\x00\x02\x00\x19\x00\x1D\x00\x04\x00\x5D\x00\x4E\x42\x43\x32";
 
     #[test]
     fn the_trailer_of_document_01_is_read() {
@@ -172,8 +189,10 @@ pub mod tests {
             nodes,
             width,
         });
-        let trailer = trailer(EXAMPLE).unwrap();
-        assert_eq!(nodes(EXAMPLE, &trailer), Some(expected.to_vec()));
+        for (book, kind) in [(EXAMPLE, BookKind::Plain), (COLUMNS, BookKind::Columns)] {
+            let trailer = trailer(book).unwrap();
+            assert_eq!(nodes(book, kind, &trailer), Some(expected.to_vec()));
+        }
     }
 
     #[test]
@@ -181,7 +200,9 @@ pub mod tests {
         assert_eq!(trailer(&EXAMPLE[78..]), None);
         assert_eq!(stored_counts(&EXAMPLE[..11], 3), None);
         let trailer = trailer(EXAMPLE).unwrap();
-        assert_eq!(nodes(&EXAMPLE[..76], &trailer), None);
+        for kind in BookKind::ALL {
+            assert_eq!(nodes(&EXAMPLE[..76], kind, &trailer), None);
+        }
     }
 
     #[test]
@@ -189,7 +210,9 @@ pub mod tests {
         for length in 0..200 {
             let bytes = vec![0xFF; length];
             if let Some(trailer) = trailer(&bytes) {
-                let _ = nodes(&bytes, &trailer);
+                for kind in BookKind::ALL {
+                    let _ = nodes(&bytes, kind, &trailer);
+                }
             }
             let _ = stored_counts(&bytes, 2_000);
             assert!(!why_no_book(&bytes).is_empty());
@@ -209,8 +232,10 @@ pub mod tests {
         changed[30] = 1;
         assert!(why_no_book(&changed).contains("damaged"));
         assert!(why_no_book(&changed).contains("salvage"));
-        changed[91] = b'F';
-        assert!(why_no_book(&changed).contains("damaged; build it again from its names"));
+        for letter in [b'F', b'C'] {
+            changed[91] = letter;
+            assert!(why_no_book(&changed).contains("damaged; build it again from its names"));
+        }
         changed[91..].copy_from_slice(b"K1");
         assert!(why_no_book(&changed).contains("build it again from its names"));
     }

@@ -25,7 +25,7 @@
 //! | [`empty`] | outputs without names, which have to be asked for |
 //! | [`size`] | how long the book of some names will be |
 //! | [`progress`] | how far a long reading is |
-//! | [`build`], [`merge`], [`list`], [`ask`], [`announcer`], [`check`], [`salvage`], [`tree`] | the commands |
+//! | [`build`], [`convert`], [`merge`], [`list`], [`ask`], [`announcer`], [`check`], [`salvage`], [`tree`] | the commands |
 
 #![forbid(unsafe_code)]
 #![warn(missing_docs)]
@@ -37,6 +37,7 @@ mod ask;
 mod book;
 mod build;
 mod check;
+mod convert;
 mod empty;
 mod files;
 mod help;
@@ -77,8 +78,9 @@ pub struct Command {
 }
 
 /// Every command, in the order of the help.
-const COMMANDS: [Command; 9] = [
+const COMMANDS: [Command; 10] = [
     build::COMMAND,
+    convert::COMMAND,
     merge::COMMAND,
     list::COMMAND,
     ask::COMMAND,

@@ -56,10 +56,12 @@ fn run(words: &Words, streams: &mut Streams) -> Outcome {
 /// Why nothing can be salvaged.
 fn why_not(data: &[u8], refusal: Refusal) -> String {
     match BookKind::of_marked(data) {
-        Some(BookKind::Folded) => "it is marked as a folded book, and only plain ones can be; \
-             build it again from its names"
-            .to_string(),
-        _ => refusal.to_string(),
+        Some(kind @ (BookKind::Folded | BookKind::Columns)) => format!(
+            "it is marked as a {} book, and only plain ones can be; \
+             build it again from its names",
+            kind.name()
+        ),
+        Some(BookKind::Plain) | None => refusal.to_string(),
     }
 }
 

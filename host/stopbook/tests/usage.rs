@@ -6,8 +6,8 @@ use common::{Folder, EXAMPLE};
 use std::io::Read;
 use std::process::{Command, Stdio};
 
-const COMMANDS: [&str; 9] = [
-    "build", "merge", "list", "ask", "clip", "route", "check", "salvage", "tree",
+const COMMANDS: [&str; 10] = [
+    "build", "convert", "merge", "list", "ask", "clip", "route", "check", "salvage", "tree",
 ];
 
 #[test]
@@ -52,6 +52,13 @@ fn the_outputs_in_the_readme_are_what_the_program_prints() {
     let lines = b"exact Mar\nrange Harb\n";
     let ran = folder.run_with(&["ask", "stops.book", "--tsv"], lines);
     assert_in_readme(ran.out());
+    let converted = [
+        &["convert", "stops.book", "-o", "columns.book"][..],
+        &["convert", "columns.book", "-o", "rows.book"],
+        &["check", "columns.book"],
+    ]
+    .map(|words| folder.run(words).out().to_string());
+    assert_in_readme(&converted.concat());
     let clips: String = (301..=320).map(|clip| format!("{clip}\n")).collect();
     folder.write("clips.txt", clips.as_bytes());
     let typed = ["Mar", "Mark", "Harb"];
@@ -96,12 +103,19 @@ fn the_version_is_that_of_the_crate() {
 fn wrong_usage_has_exit_status_2_and_says_where_to_look() {
     let folder = Folder::with("mar.book", EXAMPLE);
     folder.write("mar.txt", b"1\n2\n3\n");
-    let cases: [(&[&str], &str); 24] = [
+    let cases: [(&[&str], &str); 28] = [
         (&[], "give a command"),
         (&["bild", "x"], "bild is no command"),
         (&["help", "bild"], "bild is no command"),
         (&["build"], "give the file with the names"),
         (&["build", "a", "b"], "b is too many"),
+        (
+            &["build", "mar.txt", "--fold", "--columns"],
+            "give --fold or --columns, not both",
+        ),
+        (&["convert"], "give one book"),
+        (&["convert", "a", "b", "-o", "c"], "give one book"),
+        (&["convert", "mar.book"], "give where the new book goes"),
         (&["merge"], "give two files with names"),
         (&["merge", "a"], "give two files with names"),
         (&["merge", "a", "b", "c"], "c is too many"),
@@ -139,6 +153,7 @@ fn wrong_usage_has_exit_status_2_and_says_where_to_look() {
     for words in [
         &["list", "gone"][..],
         &["check", "gone"],
+        &["convert", "gone", "-o", "new.book"],
         &["salvage", "gone"],
         &["tree", "gone"],
         &["ask", "gone"],

@@ -115,6 +115,7 @@ pub const SET: Set<Announce> = Set {
         spoilt_pieces,
         random_books,
         books_spoilt_at_random,
+        column_books,
     ],
 };
 
@@ -882,7 +883,7 @@ fn random_books() -> Cases {
     let mut random = Random::from_seed(91);
     let mut cases = Vec::new();
     for turn in 0..16 {
-        let kind = BookKind::ALL[turn % 2];
+        let kind = BookKind::FULL[turn % 2];
         let names = any_names(&mut random, kind);
         let book = book_of(kind, random.between(1, 6), &names);
         let calls: Vec<Announce> = (0..6).map(|_| any_call(&mut random, &names)).collect();
@@ -896,12 +897,37 @@ fn books_spoilt_at_random() -> Cases {
     let mut random = Random::from_seed(92);
     let mut cases = Vec::new();
     for turn in 0..40 {
-        let kind = BookKind::ALL[turn % 2];
+        let kind = BookKind::FULL[turn % 2];
         let names = any_names(&mut random, kind);
         let block = random.between(1, 6);
         let book = spoil_book(&mut random, kind, block, &names);
         let call = any_call(&mut random, &names);
         cases.extend(of_bytes("spoilt at random", book, [call]));
+    }
+    cases
+}
+
+/// Sound column books, which the announcer does not serve: 2, before 16, 1, 12 and 3.
+fn column_books() -> Cases {
+    let mut cases = Vec::new();
+    for names in [
+        Names::new(),
+        texts(&["Mar"]),
+        lists::example(),
+        lists::stops(),
+    ] {
+        let count = names.len();
+        let book = book_of(BookKind::Columns, 2, &names);
+        let calls = [
+            Announce::of(count)
+                .text("Mar")
+                .route(turning(count.max(1), 3)),
+            Announce::of(count).clips(count + 1).text("Mari"),
+            Announce::of(count)
+                .text(vec![b'M'; 201])
+                .route(vec![0; 121]),
+        ];
+        cases.extend(of_bytes("column book", book, calls));
     }
     cases
 }

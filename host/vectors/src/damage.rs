@@ -291,7 +291,13 @@ pub fn old_books(book: &Pieces) -> Spoilt {
         });
         let (front, rest) = bytes.split_at(book.trailer.node_table);
         let (nodes, trailer) = rest.split_at(nodes);
-        let nodes: Vec<&[u8]> = nodes.chunks(NODE).map(|node| &node[..2 * WIDTH]).collect();
+        let nodes: Vec<&[u8]> = match book.kind {
+            BookKind::Plain | BookKind::Folded => {
+                nodes.chunks(NODE).map(|node| &node[..2 * WIDTH]).collect()
+            }
+            // the widths are the last column
+            BookKind::Columns => vec![&nodes[..2 * WIDTH * book.nodes.len()]],
+        };
         [front, &nodes.concat(), trailer].concat()
     };
     let marked = changed(book, |pieces| pieces.trailer.mark = OLD_MARK);
@@ -432,14 +438,18 @@ pub(crate) fn spoil_number(random: &mut Random, trailer: &mut Trailer) {
     *number = near(random, *number);
 }
 
-/// Puts the mark of the other kind of book in place of the last four bytes.
+/// Puts the mark of the other kind of full book in place of the last four bytes.
 pub fn swap_mark(book: &mut [u8]) {
-    let mark = match BookKind::of_marked(book) {
-        Some(BookKind::Plain) => BookKind::Folded.mark(),
-        _ => BookKind::Plain.mark(),
-    };
+    match BookKind::of_marked(book) {
+        Some(BookKind::Plain) => mark_as(BookKind::Folded, book),
+        _ => mark_as(BookKind::Plain, book),
+    }
+}
+
+/// Puts the mark of this kind of book in place of the last four bytes.
+pub fn mark_as(kind: BookKind, book: &mut [u8]) {
     if let Some(end) = book.last_chunk_mut() {
-        *end = mark;
+        *end = kind.mark();
     }
 }
 

@@ -21,6 +21,7 @@
 //! | [`salvaging`] | the set of `book_salvage`, likewise |
 //! | [`announcing`] | the set of the announcer's two calls, likewise |
 //! | [`folded`] | the sets of folded books, of `book_build_folded` and of all calls that take a book |
+//! | [`columns`] | the sets of column books: of the two conversions, and of all calls that take a book |
 //! | [`checksum`] | two small numbers that stand for many |
 //! | [`lists`] | lists of names by their shape |
 //! | [`questions`] | questions by how they stand to a list's names |
@@ -48,6 +49,7 @@ pub mod batching;
 pub mod building;
 pub mod checking;
 pub mod checksum;
+pub mod columns;
 pub mod damage;
 pub mod folded;
 pub mod growth;
@@ -84,7 +86,15 @@ pub const SETS: [&dyn Files; 12] = [
 ];
 
 /// Every set that no such program runs, but a test of the linked archive.
-pub const TESTED_SETS: [&dyn Files; 2] = [&salvaging::SET, &announcing::SET];
+pub const TESTED_SETS: [&dyn Files; 7] = [
+    &salvaging::SET,
+    &announcing::SET,
+    &columns::CONVERT,
+    &columns::CHECK,
+    &columns::READ,
+    &columns::ASK,
+    &columns::BATCH,
+];
 
 /// What a program that runs every set must print: the sets' texts, one after
 /// the other.

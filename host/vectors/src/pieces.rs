@@ -60,6 +60,8 @@ pub struct Trailer {
 /// A book in pieces.
 #[derive(Clone)]
 pub struct Pieces {
+    /// The kind that the book was made as: it says how the node table stands.
+    pub kind: BookKind,
     /// The names that the book was made of.
     pub made_of: Names,
     /// An entry for each name.
@@ -75,11 +77,17 @@ pub struct Pieces {
 impl Pieces {
     /// The book of this kind of these names with this block size.
     pub fn of(kind: BookKind, block: usize, names: &Names) -> Pieces {
-        let nodes = numbers(&node_table(kind.rule(), names));
+        // A column book has the plain one's nodes; they are taken node by node here.
+        let by_nodes = match kind {
+            BookKind::Plain | BookKind::Columns => BookKind::Plain,
+            BookKind::Folded => BookKind::Folded,
+        };
+        let nodes = numbers(&node_table(by_nodes, names));
         let nodes = nodes
             .chunks(NODE_FIELDS.len())
             .map(|node| node.try_into().unwrap());
         let mut pieces = Pieces {
+            kind,
             made_of: names.clone(),
             entries: Vec::new(),
             starts: numbers(&block_table(block, names)),
@@ -96,6 +104,27 @@ impl Pieces {
         }
         pieces.settle_trailer();
         pieces
+    }
+
+    /// The same pieces as a book of this kind, with its mark: the numbers stay, and
+    /// the node table stands as that kind has it.
+    pub fn in_kind(mut self, kind: BookKind) -> Pieces {
+        self.kind = kind;
+        self.trailer.mark = kind.mark();
+        self
+    }
+
+    /// The numbers of all nodes in the order in which they stand.
+    fn node_numbers(&self) -> Vec<usize> {
+        match self.kind {
+            BookKind::Plain | BookKind::Folded => self.nodes.concat(),
+            BookKind::Columns => {
+                let fields = 0..NODE_FIELDS.len();
+                fields
+                    .flat_map(|field| self.nodes.iter().map(move |node| node[field]))
+                    .collect()
+            }
+        }
     }
 
     /// Stores this name again, with this count.
@@ -156,7 +185,7 @@ impl Pieces {
             trailer.nodes,
             trailer.length,
         ];
-        for &number in starts.chain(self.nodes.iter().flatten()).chain(&last) {
+        for &number in starts.chain(&self.node_numbers()).chain(&last) {
             bytes.extend((number as u16).to_le_bytes());
         }
         bytes.extend(trailer.mark);

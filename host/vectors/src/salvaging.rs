@@ -419,6 +419,10 @@ fn trailers() -> Cases {
     cases.push(fitting("old mark", worn_example(89, b"NBK1")));
     let folded = BookKind::Folded.mark();
     cases.push(fitting("folded mark", worn_example(89, &folded)));
+    let columns = BookKind::Columns.mark();
+    cases.push(fitting("column mark", worn_example(89, &columns)));
+    let sound = book_of(BookKind::Columns, 2, &lists::example());
+    cases.push(fitting("column book", sound));
     cases
 }
 

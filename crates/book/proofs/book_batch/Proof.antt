@@ -65,7 +65,7 @@ use Rattle.shapes.proofs.Row.Laws as R′
 use Rattle.shapes.proofs.Answer as P
 use Rattle.shapes.proofs.Answer.Laws as P′
 use Rattle.kinds.specs.declared.Kind.{Kind}
-use Rattle.kinds.specs.declared.Kind.the-variants.{Folded, Plain}
+use Rattle.kinds.specs.declared.Kind.the-variants.{Columns, Folded, Plain}
 use Rattle.batches.specs.Batches.{Accepted}
 use Rattle.batches.specs.declared.Opening.{Opening}
 use Rattle.batches.proofs.Opening as O
@@ -95,6 +95,7 @@ vals-are o = by-kind (o .answer) (o .trailer .names) (o .trailer .block) (o .tra
         LL.vals O.the-type O′.the-laws x ≡ O′.lowered x ∷ []
     by-kind a n k s u m Plain = refl
     by-kind a n k s u m Folded = refl
+    by-kind a n k s u m Columns = refl
 
 abbrev stayed : Stays (f.ended .signature .params) (f.ended .kept)
 stayed = (stay-dropped (shrSliceOf (0 ∷ []) tt (plainOf (λ _. u8))) yes, (stay-dropped (shrSliceOf (1 ∷ []) tt (plainOf (λ _. u8))) yes, (stay-dropped (shrSliceOf (2 ∷ []) tt (plainOf (λ _. R.the-row))) yes, (stay-slice (3 ∷ []) tt (plainOf (λ _. P.the-row)), tt))))

@@ -1,7 +1,5 @@
--- `questions::look_up` meets its contract: every form of table has its arm. What the engine is asked is given its places, so that another
--- kind of question shows.
+-- `questions::look_up` meets its contract. What the engine is asked is given its places, so that another kind of question shows.
 -- Assumes nothing.
-use borrow.Author.Needs.{needs}
 use Rattle.questions.proofs.Asking.{askable}
 use Rattle.questions.proofs.look_up.Statement.{statement}
 use Rattle.questions.proofs.look_up.Tie as tie
@@ -10,6 +8,5 @@ pub look-up-spec : {M : Type 1} → statement M
 look-up-spec =
     tie.close
     (tie.spec
-    (λ c κs. search needs)
-    (λ c κs. let known = c .before .before in askable _ _ (known .before .args .kind) (known .shared-slice-known .given) (known .before .pre))
+    (λ c κs. askable _ _ (c .before .before .args .kind) (c .before .shared-slice-known .given) (c .before .before .pre))
     (λ c. c .answer .ensures))

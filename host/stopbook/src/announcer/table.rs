@@ -36,11 +36,15 @@ pub fn open(
         Ok(_) => Ok((book, clips)),
         Err(RouteRefused { refusal, .. }) => {
             let (names, has) = (counted(book.names(), "name"), counted(clips.len(), "clip"));
-            let book = book.source();
+            let (kind, book) = (book.kind().name(), book.source());
             Err(Failure::refused(match refusal {
                 Refusal::BadClipTable => format!(
                     "{source} has {has}, and {book} has {names}; give one clip for each name, \
                      in the order of `stopbook list`"
+                ),
+                Refusal::NoBook => format!(
+                    "{book} is a {kind} book, and the announcer takes plain and folded ones; \
+                     stopbook convert makes a plain book of a column book"
                 ),
                 other => format!("{book}: {other}"),
             }))

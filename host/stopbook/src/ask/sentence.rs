@@ -61,7 +61,7 @@ pub fn refusal(book: &Book, question: &Question, refusal: Refusal) -> Failure {
 fn tell_stop(book: &mut Book, text: &[u8], position: usize) -> Result<String, Failure> {
     let spelt = match book.kind() {
         // No name is read for it: it is the question.
-        BookKind::Plain => String::new(),
+        BookKind::Plain | BookKind::Columns => String::new(),
         BookKind::Folded => match book.name(position)? {
             name if name == text => String::new(),
             name => format!(", spelt {}", shown(name)),

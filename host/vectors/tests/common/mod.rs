@@ -9,7 +9,7 @@ use model::BookKind;
 /// How many leading bytes two names share in a book of this kind.
 pub fn shared(kind: BookKind, one: &[u8], other: &[u8]) -> usize {
     let is_same = |(one, other): &(&u8, &u8)| match kind {
-        BookKind::Plain => one == other,
+        BookKind::Plain | BookKind::Columns => one == other,
         BookKind::Folded => one.eq_ignore_ascii_case(other),
     };
     one.iter().zip(other).take_while(is_same).count()
