@@ -74,7 +74,7 @@ pub fn answer_row(book: &[u8], opening: Opening, questions: &[u8], row: Row) -> 
     }
     let start = row.start;
     let end = start + row.length;
-    let alone = questions::ask(book, opening.trailer, row.kind, &questions[start..end]);
+    let alone = questions::ask(book, row.kind, &questions[start..end]);
     Answer {
         code: alone.code,
         first: alone.first,

@@ -7,6 +7,7 @@ ghost use lib.ListN.{getD, length};
 ghost use Rattle.format.specs.Book.{numbers};
 ghost use Rattle.format.specs.Nodes.{fieldCount, nodeSize, fields};
 ghost use Rattle.standing.specs.Maps.{Roomy, recordAt};
+ghost use Rattle.fields.specs.Counts.{countsIn};
 ghost use Rattle.fields.specs.Node.{nodeOf};
 
 // How many bytes a record has.
@@ -14,6 +15,9 @@ pub const SIZE: usize = 12;
 
 // How many bytes of a record that stands in one piece each of its numbers takes.
 pub const STEP: usize = 2;
+
+// Which of a record's numbers tells how many nodes there are.
+pub const NODES: usize = 4;
 
 // A node's numbers, in the record's order.
 pub struct Node {
@@ -76,6 +80,15 @@ pub fn nodes(book: &[u8], at: usize, step: usize) -> usize
     ensures { λ r. ⌜ (r ≡ recordAt step (now (book .entry)) at .nodes) × (r < 65536) ⌝ }
 {
     field(book, at, step, 4)
+}
+
+// The same, read from `counts`, the part of the book that begins with the number of nodes that a record at 0 would have. Who reads many of
+// them cuts that part once, and no step is added where one is read.
+pub fn nodes_in(book: &[u8], counts: &[u8], at: usize, step: usize) -> usize
+    requires { ⌜ Roomy step (now book) at × (now counts ≡ countsIn step (now book)) ⌝ }
+    ensures { λ r. ⌜ (r ≡ recordAt step (now (book .entry)) at .nodes) × (r < 65536) ⌝ }
+{
+    numbers::number_at(counts, at)
 }
 
 pub fn width(book: &[u8], at: usize, step: usize) -> usize

@@ -110,8 +110,9 @@ pub fn check_table(book: &[u8], start: usize, end: usize, n: usize) -> bool
     if end - start < fields::SIZE {
         return false;
     }
-    let stride = trailer::stride(book);
-    let step = trailer::step(book);
+    let pace = trailer::pace_of(book);
+    let stride = pace.stride;
+    let step = pace.step;
     if fields::symbol(book, start, step) != 0 {
         return false;
     }

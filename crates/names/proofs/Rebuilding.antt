@@ -1,12 +1,12 @@
 -- A name that is read back and put into a room.
 --     position-..       an accepting check lets each position be asked
---     block-none        the block of a position where k is 0
+--     block-none, rest-none     the block of a position where k is 0, and how many names stand before it there
 --     BlockFound, found, place-ask, found-asks, found-name      where the block of a position starts, and what streams from there
 --     found-entries     how many entries are read from there on
 --     put-short, put-all            the room is too short; it holds the name
 -- Assumes nothing.
 use Prim.Native.Nat.{ℕ, _*_, _+_, _-_, _/_, _%_, _<_, _≤_}
-use native.Mathlib.Nat.{div-add-mod', div-le-self, div-zero}
+use native.Mathlib.Nat.{div-add-mod', div-le-self, div-zero, mod-zero}
 use native.Mathlib.Omega.{arith}
 use mathlib.Core.Path.{_≡_, _∙_, ap, refl, subst, sym}
 use mathlib.Core.List.{List, []}
@@ -50,63 +50,60 @@ position-ask b t position held v s u n ne h = position-sound (checked-sound b t 
 pub block-none : (position : ℕ) {k : ℕ} → k ≡ 0 → 0 ≡ position / k
 block-none position e = sym (ap (λ (n : ℕ). position / n) e ∙ div-zero position)
 
-pub record BlockFound (b : Bytes) (k position table block : ℕ) : Type 0 where
+pub rest-none : (position : ℕ) {k : ℕ} → k ≡ 0 → position ≡ position % k
+rest-none position e = sym (ap (λ (n : ℕ). position % n) e ∙ mod-zero position)
+
+pub record BlockFound (b : Bytes) (position table block rest : ℕ) : Type 0 where
   pub room : table + 2 * block + 2 ≤ length b
   pub few : position ≤ 2000
   pub below : block ≤ position
-  pub first : block * k ≤ position
-  pub reads : ReadAsk b (number b (table + 2 * block)) (position - block * k)
-  pub gives : (name : Bytes) (len : ℕ) → NameIs b (number b (table + 2 * block)) (position - block * k) name len
-      → Named (getD (namesOf b) position []) len name
+  pub reads : ReadAsk b (number b (table + 2 * block)) rest
+  pub gives : (name : Bytes) (len : ℕ) → NameIs b (number b (table + 2 * block)) rest name len → Named (getD (namesOf b) position []) len name
 
-found-told : (b : Bytes) (k table position : ℕ) → PlaceAsk b k table position → BlockFound b k position (told b 2) (position / k)
+found-told : (b : Bytes) (k table position : ℕ) → PlaceAsk b k table position → BlockFound b position (told b 2) (position / k) (position % k)
 found-told b k table position a =
     let p = a .framed in
     let has = p .entries in
     let inside : told b 2 ≤ length b = omega (arith, p .trail .total, p .trail .order) in
     let ns : namesOf b ≡ has .names = has-names (ruleIn b) b (told b 1) (told b 2) (told b 3) (told b 0) inside has (p .trail .low) refl in
     let within : position < length (has .names) = subst (λ (xs : List Bytes). position < length xs) ns (a .within) in
-    let first : position / k * k ≤ position = omega (arith, div-add-mod' position k) in
+    let d : position / k * k + position % k ≡ position = omega (arith, div-add-mod' position k) in
     let r = subst (λ (n : ℕ). Rest (ruleIn b) b n (told b 2) (told b 3) (told b 2) 0 [] (has .names)) (sym (a .block)) (has .rest) in
     let f = block-from (ruleIn b) (kind-sure (kindOf b)) b k (told b 2) (told b 3) (omega (arith, a .block, p .trail .low)) (p .trail .short) inside (omega (arith, p .trail .total))
     (position / k) (position / k * k) (told b 2) 0 [] (has .names) (omega arith) inside r refl (omega arith) in
-    let d : position / k * k + (position - position / k * k) ≡ position = omega arith in
-    let u : position - position / k * k < length (drop (position / k * k) (has .names)) = omega (arith, length-drop (position / k * k) (has .names)) in
+    let u : position % k < length (drop (position / k * k) (has .names)) = omega (arith, d, length-drop (position / k * k) (has .names)) in
     record {
       room = omega (arith, f .room, p .trail .total);
       few = omega (arith, within, has .count, p .trail .few);
       below = div-le-self position k;
-      first = first;
       reads = record { names = drop (position / k * k) (has .names); stream = f .stream; within = u; few = omega (arith, within, has .count, p .trail .few) };
       gives = λ name len n. record {
         name-is = n .named (drop (position / k * k) (has .names)) (f .stream) u
-            ∙ getD-drop (position / k * k) (has .names) (position - position / k * k) []
+            ∙ getD-drop (position / k * k) (has .names) (position % k) []
             ∙ ap (λ (i : ℕ). getD (has .names) i []) d ∙ ap (λ (xs : List Bytes). getD xs position []) (sym ns);
         room = n .room;
         size = n .size;
       };
     }
 
-pub found : {b : Bytes} {k position table block : ℕ} → PlaceAsk b k table position → block ≡ position / k → BlockFound b k position table block
-found {b} {k} {position} {table} a f =
-    subst (BlockFound b k position table) (sym f)
-    (subst (λ (o : ℕ). BlockFound b k position o (position / k)) (sym (a .blocks)) (found-told b k table position a))
+pub found : {b : Bytes} {k position table block rest : ℕ} → PlaceAsk b k table position → block ≡ position / k → rest ≡ position % k → BlockFound b position table block rest
+found {b} {k} {position} {table} a f g = rw (f, g, a .blocks) (found-told b k table position a)
 
 -- by what was read out of the trailer
 pub place-ask : {b : Bytes} {x y k table position : ℕ} → PlaceAsk b x y position → k ≡ x → table ≡ y → PlaceAsk b k table position
 place-ask a ke te = record { framed = a .framed; block = ke ∙ a .block; blocks = te ∙ a .blocks; within = a .within }
 
 -- with the offset that the code has read
-module _ {b : Bytes} {k position table block start : ℕ} (f : BlockFound b k position table block) (e : start ≡ number b (table + 2 * block)) where
-  pub found-asks : ReadAsk b start (position - block * k)
-  found-asks = subst (λ (n : ℕ). ReadAsk b n (position - block * k)) (sym e) (f .reads)
+module _ {b : Bytes} {position table block rest start : ℕ} (f : BlockFound b position table block rest) (e : start ≡ number b (table + 2 * block)) where
+  pub found-asks : ReadAsk b start rest
+  found-asks = subst (λ (n : ℕ). ReadAsk b n rest) (sym e) (f .reads)
 
-  pub found-name : (name : Bytes) (len : ℕ) → NameIs b start (position - block * k) name len → Named (getD (namesOf b) position []) len name
-  found-name name len n = f .gives name len (subst (λ (o : ℕ). NameIs b o (position - block * k) name len) e n)
+  pub found-name : (name : Bytes) (len : ℕ) → NameIs b start rest name len → Named (getD (namesOf b) position []) len name
+  found-name name len n = f .gives name len (subst (λ (o : ℕ). NameIs b o rest name len) e n)
 
 -- from the block's first entry on
-pub found-entries : {b : Bytes} {k position table block : ℕ} → PlaceAsk b k table position → block ≡ position / k → (r : ℕ) → r ≡ position - block * k + 1 → r ≡ entriesTo (told b 1) position
-found-entries {b} {k} {position} a f r e = e ∙ omega (arith, ap (λ (n : ℕ). n * k) f, div-add-mod' position k, ap (λ (n : ℕ). position % n) (a .block))
+pub found-entries : {b : Bytes} {k position table rest : ℕ} → PlaceAsk b k table position → rest ≡ position % k → (r : ℕ) → r ≡ rest + 1 → r ≡ entriesTo (told b 1) position
+found-entries {b} {k} {position} a f r e = e ∙ omega (arith, f, ap (λ (n : ℕ). position % n) (a .block))
 
 -- ---- at the front of a room
 

@@ -1,7 +1,7 @@
 // A name read back from a book, from the start of its block on.
 ghost use mathlib.Core.Path.{_≡_};
 ghost use mathlib.Core.List.{[]};
-ghost use Prim.Native.Nat.{_/_};
+ghost use Prim.Native.Nat.{_/_, _%_};
 ghost use lib.ListN.{getD};
 ghost use Rattle.format.specs.Book.{namesOf, told};
 ghost use Rattle.names.specs.Names.{Named, PlaceAsk, PositionAsk, Put, entriesTo};
@@ -17,6 +17,16 @@ fn block_of(k: usize, position: usize) -> usize
     position / k
 }
 
+// How many names its block has before it. One division gives both.
+fn rest_of(k: usize, position: usize) -> usize
+    ensures { λ r. ⌜ r ≡ position % k ⌝ }
+{
+    if k == 0 {
+        return position;
+    }
+    position % k
+}
+
 // The name at a position of a book in blocks of k names, of which the block table at `table` tells where they begin.
 pub fn read_at(book: &[u8], k: usize, table: usize, position: usize) -> entries::Entry
     requires { ⌜ PlaceAsk (now book) k table position ⌝ }
@@ -25,7 +35,7 @@ pub fn read_at(book: &[u8], k: usize, table: usize, position: usize) -> entries:
 {
     let block = block_of(k, position);
     let start = numbers::number_at(book, table + 2 * block);
-    entries::name_of(book, start, position - block * k)
+    entries::name_of(book, start, rest_of(k, position))
 }
 
 // The same by what the book's trailer tells.

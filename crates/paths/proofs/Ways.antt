@@ -1,6 +1,7 @@
 -- The way down: what the functions of the descent keep, and how each of their ways ends.
 --     AtOffset, here-.., at-here    a node by its offset: its record, by the node's number
 --     row-.., end-fits          a row of children, by offsets and by numbers
+--     none-below, some-below    a node whose nodes end where its row would begin has none below it; one that ends further on has some
 --     own-rule                  the rule that the trailer tells is the bytes' own
 --     asked-length, asked-at    a question has as many symbols as bytes; its symbol at a depth
 --     SeekingAt, seek-..        the loop of `seek`
@@ -9,7 +10,7 @@
 --     root-here, Going, go-..   the loop of `descend`
 -- Assumes nothing.
 use Prim.Native.Nat.{ℕ, _+_, _-_, _*_, _≤_, _<_}
-use native.Mathlib.Nat.{lt-irrefl, mul-le-mul, mul-pos}
+use native.Mathlib.Nat.{le-refl, lt-irrefl, mul-le-mul, mul-pos}
 use native.Mathlib.Omega.{arith}
 use mathlib.Core.Path.{_≡_, _∙_, ap, ap₂, subst, sym}
 use mathlib.Core.Logic.{_⊎_, inl, inr}
@@ -50,6 +51,21 @@ strides-few p h = mul-le-mul {n₂ = 65535} (omega arith) (p .few)
 
 pub row-fits : {b : Bytes} {μ : Map} {x : ℕ} → Searchable (ruleIn b) b μ → x < 65536 → Fits w64 (x * μ .stride)
 row-fits s h = omega (arith, strides-few (s .paced) h)
+
+module _ {b : Bytes} {μ : Map} {x : ℕ} (s : Searchable (ruleIn b) b μ) (o : ℕ) where
+  pub none-below : o + x * μ .stride ≤ o + μ .stride → x < 2
+  none-below h = go (apart x 2)
+    where
+      go : (x < 2) ⊎ (2 ≤ x) → x < 2
+      go (inl l) = l
+      go (inr m) = omega (arith, s .paced .some, mul-le-mul m (le-refl (μ .stride)))
+
+  pub some-below : o + μ .stride < o + x * μ .stride → 2 ≤ x
+  some-below h = go (apart x 2)
+    where
+      go : (x < 2) ⊎ (2 ≤ x) → 2 ≤ x
+      go (inl l) = let few : x ≤ 1 = omega arith in omega (arith, mul-le-mul few (le-refl (μ .stride)))
+      go (inr m) = m
 
 module _ {b : Bytes} {μ : Map} {o : ℕ} (h : AtOffset b μ o) where
   pub here-room : Roomy (μ .step) b o

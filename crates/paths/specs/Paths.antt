@@ -1,12 +1,13 @@
 -- What the functions of the way down ask and give. A node is told by its offset; which number it has is the map's to say.
 --     tableMap              the map of the node table, which starts where the trailer tells, by its other two numbers
 --     AtNode, AtFork        a node; a node of several names
+--     AtRow                 the row of such a node, up to its end, and the part of the book that tells numbers of nodes
 --     SoughtAt              the child that a symbol leads to, or the end of the row
 --     WayOf                 where a question goes from a node
 --     DescentSays           the nodes that a question passes, by their offsets
 --     OnPath, HighestAt     offsets of nodes, each deeper than the one before; the highest of them that is deep enough
 -- Assumes nothing: these are definitions.
-use Prim.Native.Nat.{ℕ, suc, _<_, _≤_}
+use Prim.Native.Nat.{ℕ, suc, _+_, _*_, _<_, _≤_}
 use mathlib.Core.Path.{_≡_}
 use mathlib.Core.List.{List, map}
 use mathlib.Core.Logic.{_⊎_}
@@ -17,6 +18,7 @@ use Rattle.descent.specs.Vocabulary.{Descended, Halts, Searchable, Sits, Sought
 use Rattle.format.specs.Spans.{wordsIn}
 use Rattle.format.specs.Book.{told}
 use Rattle.standing.specs.Maps.{Map, Placed, Roomy, numberIn, recordAt}
+use Rattle.fields.specs.Counts.{countsIn}
 use Rattle.paths.specs.declared.Way.{Way}
 use Rattle.paths.specs.declared.Way.the-variants.{Down, Stay}
 
@@ -33,6 +35,11 @@ pub record AtNode (b : Bytes) (μ : Map) (o : ℕ) : Type 0 where
 pub record AtFork (b : Bytes) (μ : Map) (o : ℕ) : Type 0 where
   pub at-node : AtNode b μ o
   pub several : node (wordsIn b) (numberIn μ o) .names ≡ 1 → ⊥
+
+pub record AtRow (b : Bytes) (μ : Map) (counts : Bytes) (o end : ℕ) : Type 0 where
+  pub fork : AtFork b μ o
+  pub part : counts ≡ countsIn (μ .step) b
+  pub ends : end ≡ o + recordAt (μ .step) b o .nodes * μ .stride
 
 -- the first child of the node at o whose symbol is not below s stands at c, or its row ends there
 pub record SoughtAt (b : Bytes) (μ : Map) (o s c : ℕ) : Type 0 where

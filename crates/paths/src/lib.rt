@@ -5,7 +5,8 @@ ghost use mathlib.Core.Path.{_≡_};
 ghost use Rattle.format.specs.Book.{told};
 ghost use Rattle.format.specs.Kinds.{ruleIn};
 ghost use Rattle.descent.specs.Vocabulary.{Searchable, askedIn};
-ghost use Rattle.paths.specs.Paths.{AtFork, AtNode, DescentSays, HighestAt, OnPath, SoughtAt, WayOf, tableMap};
+ghost use Rattle.fields.specs.Counts.{countsIn};
+ghost use Rattle.paths.specs.Paths.{AtNode, AtRow, DescentSays, HighestAt, OnPath, SoughtAt, WayOf, tableMap};
 
 // The offsets of the nodes that a question passes from the root on, how many they are, and the last of them.
 pub struct Descent {
@@ -20,31 +21,39 @@ pub enum Way {
     Stay,
 }
 
-// The first child of the node at o whose symbol is not below s, or the end of its row where there is none.
-pub fn seek(book: &[u8], stride: usize, step: usize, o: usize, s: usize) -> usize
-    requires { ⌜ AtFork (now book) (tableMap (now book) stride step) o ⌝ }
+// The first child of the node at o whose symbol is not below s, or the end of its row where there is none. The row ends at `end`; `counts` is the
+// part of the book that tells numbers of nodes.
+pub fn seek(
+    book: &[u8],
+    counts: &[u8],
+    stride: usize,
+    step: usize,
+    o: usize,
+    end: usize,
+    s: usize,
+) -> usize
+    requires { ⌜ AtRow (now book) (tableMap (now book) stride step) (now counts) o end ⌝ }
     ensures { λ r. ⌜ SoughtAt (now (book .entry)) (tableMap (now (book .entry)) stride step) o s r ⌝ }
 {
-    let end = o + fields::nodes(book, o, step) * stride;
     let mut c = o + stride;
     while c < end {
         if s <= fields::symbol(book, c, step) {
             return c;
         }
-        c += fields::nodes(book, c, step) * stride;
+        c += fields::nodes_in(book, counts, c, step) * stride;
     }
     c
 }
 
 // Where the question goes from the node at o: to the child with its symbol at that node's depth. It stays at a leaf, where the depth
-// exceeds its length, and where no child fits. A leaf is told by its nodes and not by its names: `seek` reads them too, and `nodes < 2`
-// is what its loop asks first, so the compiler makes one test of the two.
-fn child(book: &[u8], stride: usize, step: usize, question: &[u8], o: usize) -> Way
-    requires { ⌜ AtNode (now book) (tableMap (now book) stride step) o ⌝ }
+// exceeds its length, and where no child fits. A leaf is told by its nodes, which end where its row would begin: the loop of `seek` asks the
+// same first, so the compiler makes one test of the two.
+fn child(book: &[u8], counts: &[u8], stride: usize, step: usize, question: &[u8], o: usize) -> Way
+    requires { ⌜ AtNode (now book) (tableMap (now book) stride step) o × (now counts ≡ countsIn step (now book)) ⌝ }
     ensures { λ r. ⌜ WayOf (now (book .entry)) (tableMap (now (book .entry)) stride step) (askedIn (now (book .entry)) (now (question .entry))) o r ⌝ }
 {
-    let nodes = fields::nodes(book, o, step);
-    if nodes < 2 {
+    let end = o + fields::nodes_in(book, counts, o, step) * stride;
+    if end <= o + stride {
         return Way::Stay;
     }
     let d = fields::depth(book, o, step);
@@ -52,8 +61,8 @@ fn child(book: &[u8], stride: usize, step: usize, question: &[u8], o: usize) -> 
         return Way::Stay;
     }
     let s = symbols::symbol_at(trailer::rule(book), question, 0, d);
-    let c = seek(book, stride, step, o, s);
-    if o + nodes * stride <= c {
+    let c = seek(book, counts, stride, step, o, end, s);
+    if end <= c {
         return Way::Stay;
     }
     if fields::symbol(book, c, step) != s {
@@ -67,12 +76,13 @@ pub fn descend(book: &[u8], stride: usize, step: usize, start: usize, question: 
     requires { ⌜ Searchable (ruleIn (now book)) (now book) (tableMap (now book) stride step) × (start ≡ told (now book) 3) ⌝ }
     ensures { λ r. ⌜ DescentSays (now (book .entry)) (tableMap (now (book .entry)) stride step) (askedIn (now (book .entry)) (now (question .entry))) (r .path) (r .len) (r .last) ⌝ }
 {
+    let counts = &book[fields::NODES * step..];
     let mut path = [0u16; 202];
     let mut n: usize = 1;
     let mut o = start;
     path[0] = start as u16;
     loop {
-        match child(book, stride, step, question, o) {
+        match child(book, counts, stride, step, question, o) {
             Way::Down(c) => {
                 path[n] = c as u16;
                 n += 1;

@@ -1,6 +1,6 @@
 -- How a question ends, by the ways that the functions go.
 --     ask-unsound       no book
---     ask-long          the question is too long
+--     ask-trailed, ask-long     the book has a trailer; the question is too long
 --     ask-none, nearest-none    the book has no names: nothing is found, and nearest is refused
 --     askable, ask-some, ask-lit     an accepted book with names can be searched; what the search answers, and of nearest's number what can be lit
 -- Assumes nothing.
@@ -14,7 +14,7 @@ use Rattle.words.specs.Words.{Bytes, InBytes, word}
 use Rattle.standing.proofs.Maps.{map-starts}
 use Rattle.format.specs.Kinds.{formOf, kindOf, ruleIn}
 use Rattle.format.specs.Spans.{wordsIn, wordsOf}
-use Rattle.format.specs.Book.{namesOf, opened, told}
+use Rattle.format.specs.Book.{namesOf, opened, told, trailerSize}
 use Rattle.format.specs.Records.{longest}
 use Rattle.format.specs.Outcomes.{given, refused}
 use Rattle.answers.specs.Calls.{namesAnswer}
@@ -56,25 +56,23 @@ none-found (suc (suc (suc (suc (suc zero))))) h n q = refl
 none-found (suc (suc (suc (suc (suc (suc kind)))))) h n q = absurd (lt-irrefl 5 (omega (arith, h .high)))
 
 -- an accepted book with names can be searched
-pub askable : (b : Bytes) (t : Trailer) (kind : ℕ) → Held b → Looking b t kind → KindAsk b t kind
-askable b t kind held l =
-    let f = sound-book b t (held-bytes b held) (l .asking .checked) in
+pub askable : (b : Bytes) (kind : ℕ) → Held b → Looking b kind → KindAsk b kind
+askable b kind held l =
+    let f = sound-book b (l .asking .trailer) (held-bytes b held) (l .asking .checked) in
+    let count : told b 0 ≡ length (namesOf b) = sym (ap (λ (x : Trailer). x .names) (f .told)) ∙ f .count in
     record {
-      askable = record {
-        parts = f .parts;
-        block = ap (λ (x : Trailer). x .block) (f .told);
-        blocks = ap (λ (x : Trailer). x .«blocks_at») (f .told);
-        nodes = ap (λ (x : Trailer). x .«nodes_at») (f .told);
-        root = map-starts (formOf (kindOf b)) (told b 3) (told b 4);
-        searchable = opened-searchable (kindOf b) b (t .block) (namesOf b) (f .book) (held-bytes b held) (omega (arith, f .count, l .some));
-      };
+      parts = f .parts;
+      searchable = opened-searchable (kindOf b) b (l .asking .trailer .block) (namesOf b) (f .book) (held-bytes b held) (omega (arith, count, l .some));
       low = l .asking .number .low;
       high = l .asking .number .high;
     }
 
-module _ (b q : Bytes) (t : Trailer) (kind : ℕ) (held : Held b) (s : Asking b t kind) where
+module _ (b q : Bytes) (kind : ℕ) (held : Held b) (s : Asking b kind) where
   abbrev n : ℕ
-  n = t .names
+  n = told b 0
+
+  abbrev t : Trailer
+  t = s .trailer
 
   bytes : InBytes b
   bytes = held-bytes b held
@@ -83,12 +81,16 @@ module _ (b q : Bytes) (t : Trailer) (kind : ℕ) (held : Held b) (s : Asking b 
   shown : SoundBook b t
   shown = sound-book b t bytes (s .checked)
 
+  -- there is a trailer
+  pub ask-trailed : trailerSize ≤ length b
+  ask-trailed = omega (arith, shown .parts .framed .trail .total)
+
   asks : countedQuestion kind b q ≡ namesCounted (ruleIn b) (t .block) kind q (namesOf b)
   unfolding countedQuestion countedOf
   asks = ap (countedOf kind q) (shown .book)
 
   names : n ≡ length (namesOf b)
-  names = shown .count
+  names = sym (ap (λ (x : Trailer). x .names) (shown .told)) ∙ shown .count
 
   refuses : (r : Counted) (code : ℕ) → (code ≡ 0 → ⊥) → counted r ≡ unlooked code → namesAnswer (ruleIn b) kind q (namesOf b) ≡ refused code → counted r ≡ countedQuestion kind b q
   refuses r code z e f = e ∙ sym (asks ∙ counted-no (ruleIn b) (t .block) kind q (namesOf b) code z f)

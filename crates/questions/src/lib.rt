@@ -13,39 +13,41 @@ ghost use Rattle.questions.specs.Asking.{Asking, KindNumber, Looking};
 
 // The two numbers that an accepted book with names answers to a question of a kind from 1 to 5, and how far that looked. Every form of table has
 // nodes, and one engine searches them.
-fn look_up(book: &[u8], t: trailer::Trailer, kind: usize, question: &[u8]) -> search::Reply
-    requires { ⌜ Looking (now book) t kind ⌝ }
+fn look_up(book: &[u8], kind: usize, question: &[u8]) -> search::Reply
+    requires { ⌜ Looking (now book) kind ⌝ }
     ensures { λ r. ⌜ pairOf r ≡ answerOf kind (askedIn (now (book .entry)) (now (question .entry))) (wordsIn (now (book .entry))) ⌝ }
     ensures { λ r. ⌜ Looked (now (book .entry)) (now (question .entry)) (r .visits) (r .entries) ⌝ }
 {
-    search::answer(book, t, kind, question)
+    search::answer(book, kind, question)
 }
 
-// A question of a kind from 1 to 5 to a book that the check has accepted, by what its trailer tells: whoever has many questions checks
-// once. Of what nearest's name shares, what can be lit of the question is given. Refusals: 1, 10.
-pub fn ask(book: &[u8], t: trailer::Trailer, kind: usize, question: &[u8]) -> Counted
-    requires { ⌜ Asking (now book) t kind ⌝ }
+// A question of a kind from 1 to 5 to a book that the check has accepted: whoever has many questions checks once. Of what nearest's name
+// shares, what can be lit of the question is given; nearest is told apart first, so that its number need not be kept over the search.
+// Refusals: 1, 10.
+pub fn ask(book: &[u8], kind: usize, question: &[u8]) -> Counted
+    requires { ⌜ Asking (now book) kind ⌝ }
     ensures { λ r. ⌜ counted r ≡ countedQuestion kind (now (book .entry)) (now (question .entry)) ⌝ }
 {
     if 200 < question.len() {
         return shapes::look_at_nothing(1);
     }
-    if t.names == 0 {
+    if trailer::names(book) == 0 {
         if kind == 4 {
             return shapes::look_at_nothing(10);
         }
         return shapes::look_at_nothing(0);
     }
-    let reply = look_up(book, t, kind, question);
     if kind == 4 {
+        let near = look_up(book, 4, question);
         return Counted {
             code: 0,
-            first: reply.first,
-            second: letters::lit_part(question, reply.second),
-            visits: reply.visits,
-            entries: reply.entries,
+            first: near.first,
+            second: letters::lit_part(question, near.second),
+            visits: near.visits,
+            entries: near.entries,
         };
     }
+    let reply = look_up(book, kind, question);
     Counted {
         code: 0,
         first: reply.first,
@@ -63,6 +65,6 @@ pub fn ask_alone(book: &[u8], kind: usize, question: &[u8]) -> Counted
     let checked = accept::check_book(book);
     match checked {
         accept::Checked::Unsound => shapes::look_at_nothing(2),
-        accept::Checked::Sound(t) => ask(book, t, kind, question),
+        accept::Checked::Sound(_) => ask(book, kind, question),
     }
 }

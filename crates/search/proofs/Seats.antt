@@ -155,13 +155,13 @@ module _ {b : Bytes} {μ : Map} (q : Bytes) (o : Searchable (ruleIn b) b μ) whe
     not-there : (nth (wordsIn b) r ≡ askedIn b q → ⊥) → (0, 0) ≡ exact (askedIn b q) (wordsIn b)
     not-there n = sym (exact-nowhere (wordsIn b) (askedIn b q) (o .rises) positive (λ i h f. n (ap (nth (wordsIn b)) (sym (e .there .only i h f)) ∙ f)))
 
-    pub exact-short : m < length q → (0, 0) ≡ exact (askedIn b q) (wordsIn b)
-    exact-short h = not-there (λ f. lt-irrefl m (omega (arith, e .shares, ap (shared (askedIn b q)) f ∙ shared-self (askedIn b q), asked-length b q)))
+    pub exact-short : (m ≡ length q → ⊥) → (0, 0) ≡ exact (askedIn b q) (wordsIn b)
+    exact-short h = not-there (λ f. h (e .shares ∙ ap (shared (askedIn b q)) f ∙ shared-self (askedIn b q) ∙ asked-length b q))
 
-    pub exact-longer : length q ≤ m → m < l → (0, 0) ≡ exact (askedIn b q) (wordsIn b)
-    exact-longer h g = not-there (λ f. lt-irrefl m (omega (arith, e .size, ap length f, asked-length b q)))
+    pub exact-longer : m ≡ length q → (m ≡ l → ⊥) → (0, 0) ≡ exact (askedIn b q) (wordsIn b)
+    exact-longer h g = not-there (λ f. g (h ∙ sym (asked-length b q) ∙ sym (ap length f) ∙ sym (e .size)))
 
-    pub exact-found : length q ≤ m → l ≤ m → (r, 1) ≡ exact (askedIn b q) (wordsIn b)
+    pub exact-found : m ≡ length q → m ≡ l → (r, 1) ≡ exact (askedIn b q) (wordsIn b)
     exact-found h g =
         let x : List ℕ = nth (wordsIn b) r in
         let ends : at (askedIn b q) m ≡ at x m = at-past (askedIn b q) m (omega (arith, asked-length b q)) ∙ sym (at-past x m (omega (arith, e .size))) in

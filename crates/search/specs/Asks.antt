@@ -6,12 +6,15 @@ use Prim.Native.Nat.{ℕ, _≤_}
 use Rattle.words.specs.Words.{Bytes}
 use Rattle.answers.specs.Widths.{lastKind}
 use Rattle.answers.specs.Questions.{Pair as Numbers}
-use Rattle.trailer.specs.declared.Trailer.{Trailer}
-use Rattle.spots.specs.Spots.{Askable}
+use Rattle.format.specs.Kinds.{ruleIn}
+use Rattle.standing.specs.Maps.{mapOf}
+use Rattle.descent.specs.Vocabulary.{Searchable}
+use Rattle.accept.specs.Parts.{Parts}
 use Rattle.search.specs.declared.Reply.{Reply}
 
-pub record KindAsk (b : Bytes) (t : Trailer) (kind : ℕ) : Type 0 where
-  pub askable : Askable b (t .block) (t .«blocks_at») (t .«nodes_at»)
+pub record KindAsk (b : Bytes) (kind : ℕ) : Type 0 where
+  pub parts : Parts b
+  pub searchable : Searchable (ruleIn b) b (mapOf b)
   pub low : 1 ≤ kind
   pub high : kind ≤ lastKind
 

@@ -36,20 +36,22 @@ fn seat(book: &[u8], stride: usize, step: usize, question: &[u8], spot: Spot) ->
         }
         return first;
     }
-    let c = paths::seek(book, stride, step, o, s);
-    if c < o + fields::nodes(book, o, step) * stride {
+    let end = o + fields::nodes(book, o, step) * stride;
+    let counts = &book[fields::NODES * step..];
+    let c = paths::seek(book, counts, stride, step, o, end, s);
+    if c < end {
         return fields::first(book, c, step);
     }
     past
 }
 
 // (position, 1) where a name equals the question, else (0, 0).
-fn ask_exact(book: &[u8], k: usize, table: usize, start: usize, question: &[u8]) -> Reply
-    requires { ⌜ Askable (now book) k table start ⌝ }
+fn ask_exact(book: &[u8], stride: usize, step: usize, question: &[u8]) -> Reply
+    requires { ⌜ Askable (now book) stride step ⌝ }
     ensures { λ r. ⌜ pairOf r ≡ exact (askedIn (now (book .entry)) (now (question .entry))) (wordsIn (now (book .entry))) ⌝ }
     ensures { λ r. ⌜ Looked (now (book .entry)) (now (question .entry)) (r .visits) (r .entries) ⌝ }
 {
-    let met = spots::meet(book, k, table, start, question);
+    let met = spots::meet(book, stride, step, question);
     let visits = met.visits;
     let entries = met.entries;
     let missed = Reply {
@@ -58,10 +60,10 @@ fn ask_exact(book: &[u8], k: usize, table: usize, start: usize, question: &[u8])
         visits,
         entries,
     };
-    if met.shared < question.len() {
+    if met.shared != question.len() {
         return missed;
     }
-    if met.shared < met.len {
+    if met.shared != met.len {
         return missed;
     }
     Reply {
@@ -73,14 +75,13 @@ fn ask_exact(book: &[u8], k: usize, table: usize, start: usize, question: &[u8])
 }
 
 // (how many names are less, 0).
-fn ask_place(book: &[u8], k: usize, table: usize, start: usize, question: &[u8]) -> Reply
-    requires { ⌜ Askable (now book) k table start ⌝ }
+fn ask_place(book: &[u8], stride: usize, step: usize, question: &[u8]) -> Reply
+    requires { ⌜ Askable (now book) stride step ⌝ }
     ensures { λ r. ⌜ pairOf r ≡ (place (askedIn (now (book .entry)) (now (question .entry))) (wordsIn (now (book .entry))), 0) ⌝ }
     ensures { λ r. ⌜ Looked (now (book .entry)) (now (question .entry)) (r .visits) (r .entries) ⌝ }
 {
-    let spot = spots::locate(book, k, table, start, question);
-    let stride = trailer::stride(book);
-    let first = seat(book, stride, trailer::step(book), question, spot);
+    let spot = spots::locate(book, stride, step, question);
+    let first = seat(book, stride, step, question, spot);
     let visits = spot.visits;
     Reply {
         first,
@@ -91,14 +92,13 @@ fn ask_place(book: &[u8], k: usize, table: usize, start: usize, question: &[u8])
 }
 
 // (the question's place, how many names begin with it).
-fn ask_range(book: &[u8], k: usize, table: usize, start: usize, question: &[u8]) -> Reply
-    requires { ⌜ Askable (now book) k table start ⌝ }
+fn ask_range(book: &[u8], stride: usize, step: usize, question: &[u8]) -> Reply
+    requires { ⌜ Askable (now book) stride step ⌝ }
     ensures { λ r. ⌜ pairOf r ≡ range (askedIn (now (book .entry)) (now (question .entry))) (wordsIn (now (book .entry))) ⌝ }
     ensures { λ r. ⌜ Looked (now (book .entry)) (now (question .entry)) (r .visits) (r .entries) ⌝ }
 {
-    let step = trailer::step(book);
-    let spot = spots::locate(book, k, table, start, question);
-    let first = seat(book, trailer::stride(book), step, question, spot);
+    let spot = spots::locate(book, stride, step, question);
+    let first = seat(book, stride, step, question, spot);
     if spot.shared < question.len() {
         return Reply {
             first,
@@ -117,12 +117,12 @@ fn ask_range(book: &[u8], k: usize, table: usize, start: usize, question: &[u8])
 }
 
 // (the position reached, the symbols that its name and the question share).
-fn ask_nearest(book: &[u8], k: usize, table: usize, start: usize, question: &[u8]) -> Reply
-    requires { ⌜ Askable (now book) k table start ⌝ }
+fn ask_nearest(book: &[u8], stride: usize, step: usize, question: &[u8]) -> Reply
+    requires { ⌜ Askable (now book) stride step ⌝ }
     ensures { λ r. ⌜ pairOf r ≡ nearest (askedIn (now (book .entry)) (now (question .entry))) (wordsIn (now (book .entry))) ⌝ }
     ensures { λ r. ⌜ Looked (now (book .entry)) (now (question .entry)) (r .visits) (r .entries) ⌝ }
 {
-    let met = spots::meet(book, k, table, start, question);
+    let met = spots::meet(book, stride, step, question);
     Reply {
         first: met.position,
         second: met.shared,
@@ -132,12 +132,12 @@ fn ask_nearest(book: &[u8], k: usize, table: usize, start: usize, question: &[u8
 }
 
 // (the greatest length of the names that begin with the question, 0): of those the node tells it, and no name of the range is read.
-fn ask_width(book: &[u8], k: usize, table: usize, start: usize, question: &[u8]) -> Reply
-    requires { ⌜ Askable (now book) k table start ⌝ }
+fn ask_width(book: &[u8], stride: usize, step: usize, question: &[u8]) -> Reply
+    requires { ⌜ Askable (now book) stride step ⌝ }
     ensures { λ r. ⌜ pairOf r ≡ (width (askedIn (now (book .entry)) (now (question .entry))) (wordsIn (now (book .entry))), 0) ⌝ }
     ensures { λ r. ⌜ Looked (now (book .entry)) (now (question .entry)) (r .visits) (r .entries) ⌝ }
 {
-    let spot = spots::locate(book, k, table, start, question);
+    let spot = spots::locate(book, stride, step, question);
     if spot.shared != question.len() {
         return Reply {
             first: 0,
@@ -147,7 +147,7 @@ fn ask_width(book: &[u8], k: usize, table: usize, start: usize, question: &[u8])
         };
     }
     Reply {
-        first: fields::width(book, spot.node, trailer::step(book)),
+        first: fields::width(book, spot.node, step),
         second: 0,
         visits: spot.visits,
         entries: spot.entries,
@@ -156,25 +156,25 @@ fn ask_width(book: &[u8], k: usize, table: usize, start: usize, question: &[u8])
 
 // A question of a kind by its number, 1 to 5 in this order. Halved first: of five equal tests in a row the compiler would make a table of
 // places to go to.
-pub fn answer(book: &[u8], t: trailer::Trailer, kind: usize, question: &[u8]) -> Reply
-    requires { ⌜ KindAsk (now book) t kind ⌝ }
+pub fn answer(book: &[u8], kind: usize, question: &[u8]) -> Reply
+    requires { ⌜ KindAsk (now book) kind ⌝ }
     ensures { λ r. ⌜ pairOf r ≡ ask kind (askedIn (now (book .entry)) (now (question .entry))) (wordsIn (now (book .entry))) ⌝ }
     ensures { λ r. ⌜ Looked (now (book .entry)) (now (question .entry)) (r .visits) (r .entries) ⌝ }
 {
-    let k = numbers::wide16(t.block);
-    let table = numbers::wide16(t.blocks_at);
-    let start = numbers::wide16(t.nodes_at);
+    let pace = trailer::pace_of(book);
+    let stride = pace.stride;
+    let step = pace.step;
     if kind < 3 {
         if kind == 1 {
-            return ask_exact(book, k, table, start, question);
+            return ask_exact(book, stride, step, question);
         }
-        return ask_place(book, k, table, start, question);
+        return ask_place(book, stride, step, question);
     }
     if kind == 3 {
-        return ask_range(book, k, table, start, question);
+        return ask_range(book, stride, step, question);
     }
     if kind == 4 {
-        return ask_nearest(book, k, table, start, question);
+        return ask_nearest(book, stride, step, question);
     }
-    ask_width(book, k, table, start, question)
+    ask_width(book, stride, step, question)
 }

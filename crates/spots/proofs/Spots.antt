@@ -3,12 +3,13 @@
 --     end-..               the last node of the path; the name that is reached; how many nodes were visited
 --     spot                 the highest node that is deep enough is the one with the names that share most
 --     looked               how far the search looked
---     own-map, starts, spot-in, spot-at     the map of the node table is the one that the trailer tells of
 --     name-ask             the name that is reached can be read
+--     spot-at              the node that was found, to go on from
+--     own-askable          an accepted book, by the map that its trailer tells of
 -- Assumes nothing.
 use Prim.Native.Nat.{ℕ, suc, _-_, _≤_, _<_}
 use native.Mathlib.Omega.{arith}
-use mathlib.Core.Path.{_≡_, _∙_, ap, ap₂, subst, sym}
+use mathlib.Core.Path.{_≡_, _∙_, ap, ap₂, refl, subst, sym}
 use mathlib.Core.Logic.{_⊎_}
 use mathlib.Core.List.{List, [], map}
 use lib.ListN.{getD, length, length-map, take}
@@ -16,7 +17,7 @@ use lib.Seq.{length-take-le}
 use Rattle.words.specs.Rising.{nth}
 use Rattle.words.specs.Words.{Bytes, Rule, at, shared, word}
 use Rattle.words.proofs.Rising.{nth-word}
-use Rattle.format.specs.Kinds.{kindOf, ruleIn}
+use Rattle.format.specs.Kinds.{formOf, kindOf, ruleIn}
 use Rattle.symbols.specs.Rules.{byKind, ruleBy}
 use Rattle.symbols.specs.declared.Rule.{Rule as ByRule}
 use Rattle.format.specs.Nodes.{Node, table}
@@ -27,10 +28,12 @@ use Rattle.standing.specs.Maps.{Map, Placed, mapOf, numberIn, recordAt}
 use Rattle.descent.proofs.Paths.{found, only-reached, passed-deepens, passed-sits, reached-is, visits-are}
 use Rattle.format.specs.Spans.{wordsIn, wordsOf}
 use Rattle.format.specs.Book.{namesOf, told}
-use Rattle.names.specs.Names.{Named, PlaceAsk, entriesTo}
+use Rattle.names.specs.Names.{Named, entriesTo}
+use Rattle.accept.specs.Parts.{Parts}
+use Rattle.standing.proofs.Maps.{map-starts}
 use Rattle.paths.specs.Paths.{DescentSays, HighestAt, OnPath, tableMap}
 use Rattle.paths.proofs.Ways.{AtOffset, here-room, here-told, own-rule, path-at}
-use Rattle.spots.specs.Spots.{Askable, AtSpot, Looked, MetSays, NearSays, SpotSays}
+use Rattle.spots.specs.Spots.{Askable, AtSpot, Looked, MetSays, NameAsk, NearSays, SpotSays}
 
 -- ---- `compare` and `meet`
 
@@ -125,40 +128,20 @@ module _ (b q : Bytes) {μ : Map} (s : Searchable (ruleIn b) b μ) {p : List ℕ
 pub looked : {b q : Bytes} {r seen read : ℕ} → Reached (wordsIn b) (askedIn b q) r → seen ≡ visits (askedIn b q) (wordsIn b) → read ≡ entriesTo (told b 1) r → Looked b q seen read
 looked {b} o e f = record { nodes = e; name = f ∙ ap (entriesTo (told b 1)) (o .is) }
 
--- the trailer tells of the map: x bytes from a node to the next, y from a number of a node to its next
-module _ {b : Bytes} {k table start x y : ℕ} (a : Askable b k table start) (xe : x ≡ mapOf b .stride) (ye : y ≡ mapOf b .step) where
-  own-map : mapOf b ≡ tableMap b x y
-  own-map = ap (λ (s : ℕ). at-start s) (a .root) ∙ ap₂ (λ (u v : ℕ). tableMap b u v) (sym xe) (sym ye)
-    where
-      at-start : ℕ → Map
-      at-start s = record { start = s; stride = mapOf b .stride; step = mapOf b .step }
-
-  pub own-searchable : Searchable (ruleIn b) b (tableMap b x y)
-  own-searchable = subst (λ (μ : Map). Searchable (ruleIn b) b μ) own-map (a .searchable)
-
-  -- the table starts where the trailer tells
-  pub starts : Searchable (ruleIn b) b (tableMap b x y) × (start ≡ told b 3)
-  starts = (own-searchable, a .nodes)
-
-  pub spot-in : {q : List ℕ} {o m s : ℕ} → SpotSays b (tableMap b x y) q o m s → SpotSays b (mapOf b) q o m s
-  spot-in {q} {o} {m} {s} = subst (λ (μ : Map). SpotSays b μ q o m s) (sym own-map)
-
-  pub spot-at : (q : Bytes) {o m s : ℕ} → SpotSays b (mapOf b) (askedIn b q) o m s → AtSpot b (tableMap b x y) q o m s
-  spot-at q {o} {m} {s} p = record {
-    searchable = own-searchable;
-    spot = subst (λ (μ : Map). SpotSays b μ (askedIn b q) o m s) own-map p;
-  }
-
 -- the name that is reached can be read
-pub name-ask : {b : Bytes} {k table start r : ℕ} (q : List ℕ) → Askable b k table start → Reached (wordsIn b) q r → PlaceAsk b k table r
+pub name-ask : {b : Bytes} {stride step r : ℕ} (q : List ℕ) → Askable b stride step → Reached (wordsIn b) q r → NameAsk b r
 unfolding wordsOf
-name-ask {b} q a o = record {
-  framed = a .parts .framed;
-  block = a .block;
-  blocks = a .blocks;
-  within = omega (arith, o .within, length-map (namesOf b) (word (ruleIn b)));
-}
+name-ask {b} q a o = record { framed = a .parts .framed; block = refl; blocks = refl; within = omega (arith, o .within, length-map (namesOf b) (word (ruleIn b))) }
 
--- by what was read out of the trailer
-pub askable-by : {b : Bytes} {x y z k table start : ℕ} → Askable b x y z → k ≡ x → table ≡ y → start ≡ z → Askable b k table start
-askable-by a ke te se = record { parts = a .parts; block = ke ∙ a .block; blocks = te ∙ a .blocks; nodes = se ∙ a .nodes; root = a .root; searchable = a .searchable }
+pub spot-at : {b q : Bytes} {stride step o m s : ℕ} → Askable b stride step → SpotSays b (tableMap b stride step) (askedIn b q) o m s → AtSpot b (tableMap b stride step) q o m s
+spot-at a p = record { searchable = a .searchable; spot = p }
+
+-- the map of the node table is the one that the trailer tells of: x bytes from a node to the next, y from a number of a node to its next
+pub own-askable : {b : Bytes} {x y : ℕ} → Parts b → Searchable (ruleIn b) b (mapOf b) → x ≡ mapOf b .stride → y ≡ mapOf b .step → Askable b x y
+own-askable {b} {x} {y} p s xe ye = record { parts = p; searchable = subst (λ (μ : Map). Searchable (ruleIn b) b μ) own-map s }
+  where
+    at-start : ℕ → Map
+    at-start u = record { start = u; stride = mapOf b .stride; step = mapOf b .step }
+
+    own-map : mapOf b ≡ tableMap b x y
+    own-map = ap at-start (map-starts (formOf (kindOf b)) (told b 3) (told b 4)) ∙ ap₂ (λ (u v : ℕ). tableMap b u v) (sym xe) (sym ye)

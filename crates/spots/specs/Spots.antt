@@ -1,8 +1,9 @@
 -- What finding a question's place in the node table asks and gives. The way down is `Paths.antt` of `paths`.
+--     NameAsk               the name at a position can be read
 --     MetSays               how a name stands to a question
 --     NearSays              the name that a question reaches, what they share, and its length
 --     SpotSays, AtSpot      the node whose names share most with a question
---     Askable               what an accepted book with names is to a search
+--     Askable               what an accepted book with names is to a search, by the map of its node table
 --     Looked                how far the search for a question looked
 -- Assumes nothing: these are definitions.
 use Prim.Native.Nat.{ℕ}
@@ -17,11 +18,15 @@ use Rattle.answers.specs.Counts.{visits}
 use Rattle.descent.specs.Vocabulary.{Located, Reached, Searchable, askedIn}
 use Rattle.format.specs.Spans.{wordsIn}
 use Rattle.format.specs.Book.{told}
-use Rattle.standing.specs.Maps.{Map, Placed, mapOf, numberIn}
+use Rattle.standing.specs.Maps.{Map, Placed, numberIn}
 use Rattle.accept.specs.Parts.{Parts}
-use Rattle.names.specs.Names.{entriesTo}
+use Rattle.names.specs.Names.{PlaceAsk, entriesTo}
+use Rattle.paths.specs.Paths.{tableMap}
 
 -- ---- the name that is reached
+
+abbrev pub NameAsk : Bytes → ℕ → Type 0
+NameAsk b position = PlaceAsk b (told b 1) (told b 2) position
 
 -- the name at a position shares m symbols with q, and then comes its symbol s
 pub record MetSays (ws : Words) (q : List ℕ) (position m s : ℕ) : Type 0 where
@@ -46,13 +51,9 @@ pub record AtSpot (b : Bytes) (μ : Map) (q : Bytes) (o m s : ℕ) : Type 0 wher
 
 -- ---- the questions
 
-pub record Askable (b : Bytes) (k table start : ℕ) : Type 0 where
+pub record Askable (b : Bytes) (stride step : ℕ) : Type 0 where
   pub parts : Parts b
-  pub block : k ≡ told b 1
-  pub blocks : table ≡ told b 2
-  pub nodes : start ≡ told b 3
-  pub root : mapOf b .start ≡ told b 3
-  pub searchable : Searchable (ruleIn b) b (mapOf b)
+  pub searchable : Searchable (ruleIn b) b (tableMap b stride step)
 
 -- the nodes on its way down, and the entries up to the name that it reached
 pub record Looked (b q : Bytes) (seen read : ℕ) : Type 0 where

@@ -1,18 +1,17 @@
 // What a question comes to in the node table of an accepted book. One way down serves all five kinds (crate `paths`). The name that it
 // reaches is rebuilt and compared, since the way down passes over bytes that it never looks at. Beside what is found stands how far that
 // looked: the nodes on the way, and the entries that were read for the name. A node is told by the offset of its first number; the next node
-// stands `stride` bytes further on, and a node's next number `step` bytes. What the trailer tells is handed on as numbers, the block size k and
-// where the two tables start: a struct would go through memory.
+// stands `stride` bytes further on, and a node's next number `step` bytes. What else the trailer tells is read there where it is wanted: what
+// would be kept for later takes registers from the way down.
 ghost use mathlib.Core.Path.{_≡_};
 ghost use Rattle.format.specs.Book.{told};
 ghost use Rattle.format.specs.Kinds.{ruleIn};
 ghost use Rattle.format.specs.Spans.{wordsIn};
-ghost use Rattle.standing.specs.Maps.{mapOf};
 ghost use Rattle.answers.specs.Counts.{visits};
 ghost use Rattle.descent.specs.Vocabulary.{Reached, Searchable, askedIn};
-ghost use Rattle.names.specs.Names.{PlaceAsk, entriesTo};
+ghost use Rattle.names.specs.Names.{entriesTo};
 ghost use Rattle.paths.specs.Paths.{tableMap};
-ghost use Rattle.spots.specs.Spots.{Askable, Looked, MetSays, NearSays, SpotSays};
+ghost use Rattle.spots.specs.Spots.{Askable, Looked, MetSays, NameAsk, NearSays, SpotSays};
 
 // How a name stands to a question: how many symbols they share, and the name's next one; and the entries that were read for it.
 pub struct Met {
@@ -47,12 +46,13 @@ pub struct Near {
 }
 
 // The name at a position, rebuilt, and how it stands to the question.
-fn compare(book: &[u8], k: usize, table: usize, position: usize, question: &[u8]) -> Met
-    requires { ⌜ PlaceAsk (now book) k table position ⌝ }
+fn compare(book: &[u8], position: usize, question: &[u8]) -> Met
+    requires { ⌜ NameAsk (now book) position ⌝ }
     ensures { λ r. ⌜ MetSays (wordsIn (now (book .entry))) (askedIn (now (book .entry)) (now (question .entry))) position (r .shared) (r .symbol) ⌝ }
     ensures { λ r. ⌜ r .entries ≡ entriesTo (told (now (book .entry)) 1) position ⌝ }
 {
-    let entry = names::read_at(book, k, table, position);
+    let k = trailer::block(book);
+    let entry = names::read_at(book, k, trailer::blocks_at(book), position);
     let name = entry.name;
     let len = entry.len;
     let rule = trailer::rule(book);
@@ -66,11 +66,12 @@ fn compare(book: &[u8], k: usize, table: usize, position: usize, question: &[u8]
 }
 
 // The position that the question reaches, and the nodes that it visits on the way.
-fn reach(book: &[u8], stride: usize, step: usize, start: usize, question: &[u8]) -> Goal
-    requires { ⌜ Searchable (ruleIn (now book)) (now book) (tableMap (now book) stride step) × (start ≡ told (now book) 3) ⌝ }
+fn reach(book: &[u8], stride: usize, step: usize, question: &[u8]) -> Goal
+    requires { ⌜ Searchable (ruleIn (now book)) (now book) (tableMap (now book) stride step) ⌝ }
     ensures { λ r. ⌜ Reached (wordsIn (now (book .entry))) (askedIn (now (book .entry)) (now (question .entry))) (r .position) ⌝ }
     ensures { λ r. ⌜ r .visits ≡ visits (askedIn (now (book .entry)) (now (question .entry))) (wordsIn (now (book .entry))) ⌝ }
 {
+    let start = trailer::nodes_at(book);
     let way = paths::descend(book, stride, step, start, question);
     let passed = way.len;
     Goal {
@@ -81,16 +82,15 @@ fn reach(book: &[u8], stride: usize, step: usize, start: usize, question: &[u8])
 
 // The name that a question reaches, rebuilt and compared. Exact and nearest ask for no more: the node whose names share most, and the
 // path to it, are what place, range and width want (`locate`).
-pub fn meet(book: &[u8], k: usize, table: usize, start: usize, question: &[u8]) -> Near
-    requires { ⌜ Askable (now book) k table start ⌝ }
+pub fn meet(book: &[u8], stride: usize, step: usize, question: &[u8]) -> Near
+    requires { ⌜ Askable (now book) stride step ⌝ }
     ensures { λ r. ⌜ NearSays (wordsIn (now (book .entry))) (askedIn (now (book .entry)) (now (question .entry))) (r .position) (r .shared) (r .len) ⌝ }
     ensures { λ r. ⌜ Looked (now (book .entry)) (now (question .entry)) (r .visits) (r .entries) ⌝ }
 {
-    let stride = trailer::stride(book);
-    let step = trailer::step(book);
-    let goal = reach(book, stride, step, start, question);
+    let goal = reach(book, stride, step, question);
     let position = goal.position;
-    let entry = names::read_at(book, k, table, position);
+    let k = trailer::block(book);
+    let entry = names::read_at(book, k, trailer::blocks_at(book), position);
     let name = entry.name;
     let len = entry.len;
     let shared = symbols::shared_symbols(trailer::rule(book), question, &name[0..len]);
@@ -104,16 +104,15 @@ pub fn meet(book: &[u8], k: usize, table: usize, start: usize, question: &[u8]) 
 }
 
 // The node with the names that share most with the question.
-pub fn locate(book: &[u8], k: usize, table: usize, start: usize, question: &[u8]) -> Spot
-    requires { ⌜ Askable (now book) k table start ⌝ }
-    ensures { λ r. ⌜ SpotSays (now (book .entry)) (mapOf (now (book .entry))) (askedIn (now (book .entry)) (now (question .entry))) (r .node) (r .shared) (r .symbol) ⌝ }
+pub fn locate(book: &[u8], stride: usize, step: usize, question: &[u8]) -> Spot
+    requires { ⌜ Askable (now book) stride step ⌝ }
+    ensures { λ r. ⌜ SpotSays (now (book .entry)) (tableMap (now (book .entry)) stride step) (askedIn (now (book .entry)) (now (question .entry))) (r .node) (r .shared) (r .symbol) ⌝ }
     ensures { λ r. ⌜ Looked (now (book .entry)) (now (question .entry)) (r .visits) (r .entries) ⌝ }
 {
-    let stride = trailer::stride(book);
-    let step = trailer::step(book);
+    let start = trailer::nodes_at(book);
     let way = paths::descend(book, stride, step, start, question);
     let position = fields::first(book, way.last, step);
-    let met = compare(book, k, table, position, question);
+    let met = compare(book, position, question);
     let visits = way.len;
     let node = paths::highest(book, step, way, met.shared);
     Spot {

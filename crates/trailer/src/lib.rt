@@ -33,6 +33,12 @@ pub struct Trailer {
     pub kind: Kind,
 }
 
+// How many bytes it is from a node to the next, and from a number of a node to its next one.
+pub struct Pace {
+    pub stride: usize,
+    pub step: usize,
+}
+
 // Number j of the trailer.
 fn number(book: &[u8], j: usize) -> usize
     requires { ⌜ (trailerSize ≤ length (now book)) × (j < 8) ⌝ }
@@ -93,27 +99,21 @@ pub fn rule(book: &[u8]) -> Rule
     Rule::Plain
 }
 
-// How many bytes it is from a node to the next, in the table that the trailer tells of: an arm for each form of table that has nodes.
-pub fn stride(book: &[u8]) -> usize
+// How the numbers of the table stand that the trailer tells of: an arm for each form of table that has nodes.
+pub fn pace_of(book: &[u8]) -> Pace
     requires { ⌜ trailerSize ≤ length (now book) ⌝ }
-    ensures { λ r. ⌜ r ≡ mapOf (now (book .entry)) .stride ⌝ }
+    ensures { λ r. ⌜ (r .stride ≡ mapOf (now (book .entry)) .stride) × (r .step ≡ mapOf (now (book .entry)) .step) ⌝ }
 {
     let form = kinds::form_of(kind(book));
     match form {
-        Form::Rows => fields::SIZE,
-        Form::Columns => fields::STEP,
-    }
-}
-
-// How many bytes it is from a number of a node to its next one.
-pub fn step(book: &[u8]) -> usize
-    requires { ⌜ trailerSize ≤ length (now book) ⌝ }
-    ensures { λ r. ⌜ r ≡ mapOf (now (book .entry)) .step ⌝ }
-{
-    let form = kinds::form_of(kind(book));
-    match form {
-        Form::Rows => fields::STEP,
-        Form::Columns => fields::STEP * number(book, 4),
+        Form::Rows => Pace {
+            stride: fields::SIZE,
+            step: fields::STEP,
+        },
+        Form::Columns => Pace {
+            stride: fields::STEP,
+            step: fields::STEP * number(book, 4),
+        },
     }
 }
 

@@ -14,6 +14,8 @@ ask-alone-spec =
     (λ c. search needs)
     (λ c κs. search needs)
     (λ c. search needs)
-    (λ c κs. search check-opens)
+    (λ c κs.
+    let told = c .enum-told2 .given in
+    record { trailer = told .0 .0; checked = check-opens _ _ _ (c .before .before .check-book .ensures .1) (told .1); number = c .before .before .before .before .before .pre })
     (λ c. search ask-unsound)
     (λ c. search needs))

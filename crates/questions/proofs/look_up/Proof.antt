@@ -8,5 +8,5 @@ pub look-up-spec : {M : Type 1} → statement M
 look-up-spec =
     tie.close
     (tie.spec
-    (λ c κs. askable _ _ (c .before .before .args .kind) (c .before .shared-slice-known .given) (c .before .before .pre))
+    (λ c κs. askable _ (c .before .before .args .kind) (c .before .shared-slice-known .given) (c .before .before .pre))
     (λ c. c .answer .ensures))

@@ -3,14 +3,14 @@
 use native.Mathlib.Omega.{arith}
 use borrow.Author.Needs.{needs}
 use Rattle.spots.specs.Spots.{Askable}
-use Rattle.spots.proofs.Spots.{askable-by}
+use Rattle.spots.proofs.Spots.{own-askable}
 use Rattle.search.proofs.Seats.{by-exact, by-nearest, by-place, by-range, by-width}
 use Rattle.search.proofs.answer.Statement.{statement}
 use Rattle.search.proofs.answer.Tie as tie
 
--- what the trailer tells, as numbers
-known : (c : tie.After-wide163) → let b = c .before .before .before .before .before .args .book .now in Askable b (c .before .before .wide16 .result) (c .before .wide162 .result) (c .wide163 .result)
-known c = askable-by (c .before .before .before .before .before .pre .askable) (c .before .before .wide16 .ensures .0) (c .before .wide162 .ensures .0) (c .wide163 .ensures .0)
+-- by the map that the trailer tells of
+known : (c : tie.After-pace-of) → Askable (c .before .before .before .args .book .now) (c .pace-of .result .stride) (c .pace-of .result .step)
+known c = let ask = c .before .before .before .pre in own-askable (ask .parts) (ask .searchable) (c .pace-of .ensures .0) (c .pace-of .ensures .1)
 
 returns : tie.Need-returns
 returns c = (by-exact _ _ _ (omega arith) (c .ask-exact .ensures .0), c .ask-exact .ensures .1)
@@ -31,8 +31,6 @@ pub answer-spec : {M : Type 1} → statement M
 answer-spec =
     tie.close
     (tie.spec
-    (λ c κs. search needs)
-    (λ c κs. search needs)
     (λ c κs. search needs)
     (λ c κs. known (c .before .before))
     returns

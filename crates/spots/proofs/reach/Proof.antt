@@ -9,7 +9,7 @@ use Rattle.spots.proofs.reach.Tie as tie
 returns : tie.Need-returns
 returns c =
     let way = c .before in
-    let map = way .before .before .before .pre .0 in
+    let map = way .before .before .before .before .pre in
     (end-reached _ _ map (way .descend .ensures) (c .first .ensures .0), end-visits _ _ map (way .descend .ensures))
 
 pub reach-spec : {M : Type 1} → statement M
@@ -17,5 +17,6 @@ reach-spec =
     tie.close
     (tie.spec
     (λ c κs. search needs)
-    (λ c κs. here-room (end-here _ _ (c .before .before .before .pre .0) (c .descend .ensures)))
+    (λ c κs. (c .before .before .before .pre, c .nodes-at .ensures .0))
+    (λ c κs. here-room (end-here _ _ (c .before .before .before .before .pre) (c .descend .ensures)))
     returns)
