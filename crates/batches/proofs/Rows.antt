@@ -1,5 +1,4 @@
 -- How a batch opens and what a row gets, by the ways that the functions go.
---     closed-is                  an opening that refuses
 --     crowded, unsound-opens, sound-opens      too many rows, or unequal numbers; no book; a book
 --     row-refused, row-answered  a row that can't be asked, and one that can
 -- Assumes nothing.
@@ -13,56 +12,45 @@ use borrow.Author.Tests.{eq-eqb, eqb-true, le-leb, leb-true}
 use Rattle.words.specs.Words.{Bytes}
 use Rattle.words.proofs.Words.{both-true}
 use Rattle.format.specs.Book.{Book, NoBook, Opened, opened}
-use Rattle.format.specs.Outcomes.{Answer as Numbers, refused}
+use Rattle.format.specs.Outcomes.{given, refused}
 use Rattle.answers.specs.Calls.{Row as Question, question, questionOf, rowAnswer}
 use Rattle.answers.proofs.Calls.{GoodRow, row-bad, row-good}
-use Rattle.trailer.specs.Trailer.{trailerIn}
 use Rattle.trailer.specs.declared.Trailer.{Trailer}
 use Rattle.accept.specs.Parts.{checkOn}
 use Rattle.accept.specs.declared.Checked.{Checked}
 use Rattle.accept.specs.declared.Checked.the-variants.{Sound, Unsound}
-use Rattle.accept.proofs.Judging.{sound≠unsound}
+use Rattle.accept.proofs.Judging.{no-book, sound≠unsound}
 use Rattle.shapes.specs.Shapes.{answered}
 use Rattle.shapes.specs.declared.Answer.{Answer}
-use Rattle.shapes.proofs.Shapes.{answerOf}
-use Rattle.batches.specs.Batches.{closedBy, noTrailer, openingOf, takesRows}
-use Rattle.batches.specs.declared.Opening.{Opening}
-use Rattle.accept.proofs.Judging.{no-book}
+use Rattle.batches.specs.Batches.{openingOf, takesRows}
 
 -- ---- how a batch opens
 
--- an opening that refuses nothing
-abbrev accepting : ℕ → Trailer → Opening
-accepting rows t = record { answer = record { code = 0; first = rows; second = 0 }; trailer = t }
-
-pub closed-is : (r : Answer) (code : ℕ) → answered r ≡ refused code → record { answer = r; trailer = noTrailer } ≡ closedBy code
-closed-is r code e = ap (λ (a : Numbers). record { answer = answerOf a; trailer = noTrailer }) e
-
 module _ (b : Bytes) (rows places : ℕ) where
-  pub crowded : (r : Opening) → r ≡ closedBy 12 → (rows ≤ 64 → rows ≡ places → ⊥) → r ≡ openingOf b rows (takesRows rows places) (opened b)
+  pub crowded : (r : Answer) → answered r ≡ refused 12 → (rows ≤ 64 → rows ≡ places → ⊥) → answered r ≡ openingOf rows (takesRows rows places) (opened b)
   unfolding openingOf
   crowded r e h = e ∙ go (takesRows rows places) refl (opened b)
     where
-      go : (t : Bool) → takesRows rows places ≡ t → (o : Opened) → closedBy 12 ≡ openingOf b rows t o
+      go : (t : Bool) → takesRows rows places ≡ t → (o : Opened) → refused 12 ≡ openingOf rows t o
       go true p o = let f = both-true (leb rows 64) (eqb rows places) p in absurd (h (leb-true rows 64 (f .0)) (eqb-true rows places (f .1)))
       go false p NoBook = refl
       go false p (Book κ k xs) = refl
 
   module _ (few : rows ≤ 64) (equal : rows ≡ places) where
-    taken : openingOf b rows (takesRows rows places) (opened b) ≡ openingOf b rows true (opened b)
+    taken : openingOf rows (takesRows rows places) (opened b) ≡ openingOf rows true (opened b)
     taken = rw (le-leb rows 64 few, eq-eqb rows places equal) refl
 
-    pub unsound-opens : (r : Opening) → r ≡ closedBy 2 → (v : Checked) → v ≡ checkOn b (opened b) → v ≡ Unsound → r ≡ openingOf b rows (takesRows rows places) (opened b)
+    pub unsound-opens : (r : Answer) → answered r ≡ refused 2 → (v : Checked) → v ≡ checkOn b (opened b) → v ≡ Unsound → answered r ≡ openingOf rows (takesRows rows places) (opened b)
     unfolding openingOf
-    unsound-opens r e v s u = e ∙ sym (taken ∙ ap (openingOf b rows true) (no-book b v s u))
+    unsound-opens r e v s u = e ∙ sym (taken ∙ ap (openingOf rows true) (no-book b v s u))
 
-    pub sound-opens : (t : Trailer) (v : Checked) → v ≡ checkOn b (opened b) → v ≡ Sound t → accepting rows t ≡ openingOf b rows (takesRows rows places) (opened b)
+    pub sound-opens : (t : Trailer) (v : Checked) → v ≡ checkOn b (opened b) → v ≡ Sound t → given rows 0 ≡ openingOf rows (takesRows rows places) (opened b)
     unfolding openingOf checkOn
     sound-opens t v s u = go (opened b) (sym u ∙ s) ∙ sym taken
       where
-        go : (o : Opened) → Sound t ≡ checkOn b o → accepting rows t ≡ openingOf b rows true o
+        go : (o : Opened) → Sound t ≡ checkOn b o → given rows 0 ≡ openingOf rows true o
         go NoBook q = absurd (sound≠unsound q)
-        go (Book κ j xs) q = let is : t ≡ trailerIn b = cc in ap (accepting rows) is
+        go (Book κ j xs) q = refl
 
 -- ---- what a row gets
 

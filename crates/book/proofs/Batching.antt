@@ -16,13 +16,13 @@ use Rattle.words.proofs.Words.{both-true}
 use Rattle.format.specs.Book.{Book, NoBook, Opened, opened}
 use Rattle.format.specs.Outcomes.{Answer as Numbers, given, refused}
 use Rattle.answers.specs.Calls.{Batched, batch, batchOf, rowAnswer}
+use Rattle.trailer.specs.Trailer.{trailerIn}
 use Rattle.accept.specs.Parts.{checkOn}
 use Rattle.shapes.specs.Shapes.{answered, rowOf, batched}
 use Rattle.shapes.specs.declared.Answer.{Answer}
 use Rattle.shapes.specs.declared.Row.{Row}
 use Rattle.shapes.proofs.Shapes.{answerOf}
 use Rattle.batches.specs.Batches.{Accepted, openingOf, takesRows}
-use Rattle.batches.specs.declared.Opening.{Opening}
 use Rattle.book.proofs.Filling.{filled, filled-all}
 
 -- ---- the rows
@@ -40,8 +40,8 @@ gets b buffer row = answerOf (rowAnswer (opened b) buffer (rowOf row))
 abbrev pub turned : Bytes → Bytes → List Row → ℕ → Answer
 turned b buffer rows i = gets b buffer (getD rows i noRow)
 
-abbrev pub opening : Bytes → List Row → List Answer → Opening
-opening b rows old = openingOf b (length rows) (takesRows (length rows) (length old)) (opened b)
+abbrev pub opening : Bytes → List Row → List Answer → Answer
+opening b rows old = answerOf (openingOf (length rows) (takesRows (length rows) (length old)) (opened b))
 
 module _ (b buffer : Bytes) (rows : List Row) (old : List Answer) where
   abbrev outcome : Batched
@@ -55,28 +55,27 @@ module _ (b buffer : Bytes) (rows : List Row) (old : List Answer) where
   unfolding batch
   decides = rw (length-map rows rowOf, length-map old answered) refl
 
-  pub batch-refused : (opening b rows old .answer .code ≡ 0 → ⊥) → batched (opening b rows old .answer) old ≡ outcome
+  pub batch-refused : (opening b rows old .code ≡ 0 → ⊥) → batched (opening b rows old) old ≡ outcome
   unfolding batchOf openingOf
   batch-refused ne = go (takesRows (length rows) (length old)) (opened b) ne ∙ sym decides
     where
-      go : (t : Bool) (o : Opened) → (openingOf b (length rows) t o .answer .code ≡ 0 → ⊥) → batched (openingOf b (length rows) t o .answer) old ≡ decided t o
+      go : (t : Bool) (o : Opened) → (openingOf (length rows) t o .code ≡ 0 → ⊥) → batched (answerOf (openingOf (length rows) t o)) old ≡ decided t o
       go false NoBook h = refl
       go false (Book κ k xs) h = refl
       go true NoBook h = refl
       go true (Book κ k xs) h = absurd (h refl)
 
-  pub opening-accepts : opening b rows old .answer .code ≡ 0 → Accepted b (opening b rows old) × (length rows ≡ length old)
+  pub opening-accepts : opening b rows old .code ≡ 0 → Accepted b × (length rows ≡ length old)
   unfolding openingOf checkOn
   opening-accepts z = go (takesRows (length rows) (length old)) refl (opened b) refl z
     where
-      go : (t : Bool) → takesRows (length rows) (length old) ≡ t → (o : Opened) → opened b ≡ o → openingOf b (length rows) t o .answer .code ≡ 0
-          → Accepted b (openingOf b (length rows) t o) × (length rows ≡ length old)
+      go : (t : Bool) → takesRows (length rows) (length old) ≡ t → (o : Opened) → opened b ≡ o → openingOf (length rows) t o .code ≡ 0 → Accepted b × (length rows ≡ length old)
       go false p NoBook q e = absurd (omega (arith, e))
       go false p (Book κ k xs) q e = absurd (omega (arith, e))
       go true p NoBook q e = absurd (omega (arith, e))
-      go true p (Book κ k xs) q e = (record { checked = sym (ap (checkOn b) q) }, eqb-true (length rows) (length old) (both-true (leb (length rows) 64) (eqb (length rows) (length old)) p .1))
+      go true p (Book κ k xs) q e = (record { trailer = trailerIn b; checked = sym (ap (checkOn b) q) }, eqb-true (length rows) (length old) (both-true (leb (length rows) 64) (eqb (length rows) (length old)) p .1))
 
-  pub batch-answered : opening b rows old .answer .code ≡ 0 → batched (opening b rows old .answer) (filled (turned b buffer rows) old (length rows)) ≡ outcome
+  pub batch-answered : opening b rows old .code ≡ 0 → batched (opening b rows old) (filled (turned b buffer rows) old (length rows)) ≡ outcome
   unfolding batchOf openingOf
   batch-answered z = go (takesRows (length rows) (length old)) (opened b) refl z ∙ sym decides
     where
@@ -91,8 +90,8 @@ module _ (b buffer : Bytes) (rows : List Row) (old : List Answer) where
           ap (map answered) all-filled ∙ map-map answered (gets b buffer) rows
           ∙ ap (λ (x : Opened). map (λ (row : Row). rowAnswer x buffer (rowOf row)) rows) q ∙ sym (map-map (rowAnswer o buffer) rowOf rows)
 
-      go : (t : Bool) (o : Opened) → opened b ≡ o → openingOf b (length rows) t o .answer .code ≡ 0
-          → batched (openingOf b (length rows) t o .answer) (filled (turned b buffer rows) old (length rows)) ≡ decided t o
+      go : (t : Bool) (o : Opened) → opened b ≡ o → openingOf (length rows) t o .code ≡ 0
+          → batched (answerOf (openingOf (length rows) t o)) (filled (turned b buffer rows) old (length rows)) ≡ decided t o
       go false NoBook q e = absurd (omega (arith, e))
       go false (Book κ k xs) q e = absurd (omega (arith, e))
       go true NoBook q e = absurd (omega (arith, e))

@@ -146,15 +146,15 @@ pub extern "C" fn book_batch(
     ensures { λ r. ⌜ batched r (now (answers .exit)) ≡ batch (now (book .entry)) (now (questions .entry)) (map rowOf (now (rows .entry))) (map answered (now (answers .entry))) ⌝ }
 {
     let opening = batches::open_batch(book, rows.len(), answers.len());
-    if opening.answer.code != 0 {
-        return opening.answer;
+    if opening.code != 0 {
+        return opening;
     }
     let mut i = 0;
     while i < rows.len() {
-        answers[i] = batches::answer_row(book, opening, questions, rows[i]);
+        answers[i] = batches::answer_row(book, questions, rows[i]);
         i += 1;
     }
-    opening.answer
+    opening
 }
 
 // Whether two lists can be merged: both read well. Refusals, with the record's number and the list's: 5, 6 of the first, then of the second.

@@ -35,5 +35,5 @@ answer-row-spec =
     (λ c. search needs)
     (λ c. search needs)
     (λ c. omega arith)
-    (λ c κs. record { trailer = c .before .before .before .before .before .before .before .before .before .before .before .before .before .args .opening .trailer; checked = search needs; number = record { low = omega arith; high = omega arith } })
+    (λ c κs. let accepted = c .before .before .before .before .before .before .before .before .before .before .before .before .before .pre in record { trailer = accepted .trailer; checked = accepted .checked; number = record { low = omega arith; high = omega arith } })
     (λ c. let a = c .before .before .before .before .before .before .before .before .before .before .before .before .before .before .args in row-answered (a .book .now) (a .questions .now) (rowOf (a .row)) _ (record { low = omega arith; high = omega arith; within = omega arith }) (asked c)))

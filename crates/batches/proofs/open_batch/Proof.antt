@@ -17,12 +17,12 @@ open-batch-spec =
     tie.close
     (tie.spec
     (λ c κs. search needs)
-    (λ c. crowded _ _ _ _ (c .closed .ensures) (λ few equal. omega arith))
+    (λ c. crowded _ _ _ _ (c .refuse .ensures) (λ few equal. omega arith))
     (λ c κs. search needs)
-    (λ c. crowded _ _ _ _ (c .closed2 .ensures) (λ few equal. omega arith))
+    (λ c. crowded _ _ _ _ (c .refuse2 .ensures) (λ few equal. omega arith))
     (λ c κs. search needs)
     (λ c. search needs)
     (λ c κs. search needs)
     (λ c. search needs)
     (λ c. search (unsound-opens, taken (c .before .before .before .before)))
-    (λ c. search (sound-opens, taken (c .before .before .before .before))))
+    (λ c. search (sound-opens, taken (c .before .before .before))))
