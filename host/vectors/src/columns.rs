@@ -26,12 +26,12 @@
 //!   touched past the book, or in a refused call, shows.
 
 use crate::asking::{self, Ask};
-use crate::batches::any_batch;
+use crate::batches::{any_batch, Batch};
 use crate::batching::{self, AskBatch};
 use crate::checking::{self, Check};
 use crate::damage::{
-    changed_bytes, cut_bytes, mark_as, other_blocks, other_nodes, other_pieces, other_widths,
-    spoil_book, Spoilt,
+    changed_bytes, cut_bytes, gaps, mark_as, old_books, other_blocks, other_counts, other_nodes,
+    other_pieces, other_widths, spoil_book, Spoilt,
 };
 use crate::hostile;
 use crate::lists::{self, texts, Names};
@@ -59,6 +59,7 @@ pub const CONVERT: Set<Convert> = Set {
         converted_under_other_marks,
         converted_spoilt,
         converted_at_random,
+        converted_hostile,
     ],
 };
 
@@ -67,7 +68,9 @@ pub const CHECK: Set<Check> = Set {
     name: "columns_check",
     groups: &[
         checked_examples,
+        checked_lengths,
         checked_shapes,
+        checked_around_a_book,
         checked_under_other_marks,
         checked_spoilt,
         checked_in_other_orders,
@@ -80,7 +83,7 @@ pub const CHECK: Set<Check> = Set {
 /// The set of `book_read`.
 pub const READ: Set<Read> = Set {
     name: "columns_read",
-    groups: &[read_examples, read_shapes, read_spoilt],
+    groups: &[read_examples, read_shapes, read_spoilt, read_hostile],
 };
 
 /// The set of the five questions.
@@ -90,16 +93,23 @@ pub const ASK: Set<Ask> = Set {
         asked_examples,
         asked_short_questions,
         asked_shapes,
+        asked_deepest,
         asked_letters,
         asked_spoilt,
         asked_at_random,
+        asked_hostile,
     ],
 };
 
 /// The set of `book_batch`.
 pub const BATCH: Set<AskBatch> = Set {
     name: "columns_batch",
-    groups: &[batched_examples, batched_at_random],
+    groups: &[
+        batched_examples,
+        batched_spoilt,
+        batched_at_random,
+        batched_hostile,
+    ],
 };
 
 impl Call for Convert {
@@ -181,6 +191,30 @@ fn under_other_marks() -> Spoilt {
         }
     }
     books
+}
+
+/// The 93 bytes spoilt in every kind of way: some of their bytes, counts, nodes,
+/// widths, gaps between the parts, and books of before nodes had widths.
+fn spoilt_example() -> Spoilt {
+    let book = column_pieces(2, &lists::example());
+    let bytes = changed_bytes(&book.bytes()).into_iter().step_by(4);
+    let others = [other_counts, other_nodes, other_widths, gaps, old_books];
+    let others = others.iter().flat_map(|kind| kind(&book));
+    bytes.chain(others).collect()
+}
+
+/// Node tables to lead a check astray, as columns: of every kind over so many names,
+/// and these nests over as many as make them deeper than any book.
+fn hostile_columns(few: usize, nests: Vec<hostile::Kind>) -> Spoilt {
+    let few = hostile::kinds().into_iter().map(|kind| (kind, few));
+    let nests = nests.into_iter();
+    let deep = nests.map(|kind| (kind, hostile::DEEPER_THAN_ANY));
+    few.chain(deep)
+        .map(|(kind, count)| {
+            let book = kind.with_names(count).in_kind(BookKind::Columns);
+            (format!("hostile, {}", kind.how), book.bytes())
+        })
+        .collect()
 }
 
 /// At most so many random names over few letters.
@@ -293,6 +327,18 @@ fn converted_at_random() -> Vec<Case<Convert>> {
     cases
 }
 
+/// Hostile node tables: 2, from columns too.
+fn converted_hostile() -> Vec<Case<Convert>> {
+    let tables = hostile_columns(6, vec![hostile::falling_names()]);
+    let tables = tables.into_iter();
+    tables
+        .flat_map(|(how, book)| {
+            let length = book.len();
+            convert_into(&how, book, [length])
+        })
+        .collect()
+}
+
 // Checking
 
 /// A case with the column layout of these names, whether a book allows them or not.
@@ -311,11 +357,32 @@ fn checked_examples() -> Vec<Case<Check>> {
         ("equal names", texts(&["Mar", "Mar"])),
         ("a name, then its beginning", texts(&["Marina", "Mar"])),
         ("falling names", texts(&["b", "a"])),
-        ("a name of 201 bytes", vec![vec![b'n'; 201]]),
-        ("a name of no bytes", vec![vec![], b"a".to_vec()]),
+        ("falling in the midst", texts(&["a", "c", "b", "d"])),
+        ("falling from 255 to 0", vec![vec![255], vec![0]]),
+        ("equal names of 200", vec![vec![b'n'; 200], vec![b'n'; 200]]),
     ] {
         cases.extend([1, 2].map(|block| check_names(why, &names, block)));
     }
+    cases
+}
+
+/// Names of 1, 200 and 201 bytes, and none; and block sizes on both sides of 64 with
+/// more names than that.
+fn checked_lengths() -> Vec<Case<Check>> {
+    let name = |length: usize| vec![b'n'; length];
+    let mut cases = vec![
+        check_names("one name of 1 byte", &vec![name(1)], 1),
+        check_names("one name of 200 bytes", &vec![name(200)], 2),
+        check_names("one name of 201 bytes", &vec![name(201)], 2),
+        check_names("one name of 255 bytes", &vec![name(255)], 2),
+        check_names("a second name of 200", &vec![name(199), name(200)], 2),
+        check_names("a second name of 201", &vec![name(200), name(201)], 2),
+        check_names("a second name of 201", &vec![name(200), name(201)], 1),
+        check_names("one name of no bytes", &vec![name(0)], 1),
+        check_names("a first name of no bytes", &vec![name(0), name(1)], 2),
+    ];
+    let chain = lists::chain(b'a', 66);
+    cases.extend([64, 65].map(|block| check_names("block size", &chain, block)));
     cases
 }
 
@@ -327,24 +394,48 @@ fn checked_shapes() -> Vec<Case<Check>> {
         .collect()
 }
 
+/// The 93 bytes cut short, with bytes before or behind them, and twice; and the book
+/// without names, every byte changed.
+fn checked_around_a_book() -> Vec<Case<Check>> {
+    let book = columns(2, &lists::example());
+    let mut cases = checking::of_spoilt("cut", cut_bytes(&book));
+    for (why, bytes) in [
+        ("a byte behind", [&book[..], &[0]].concat()),
+        ("a 2 behind", [&book[..], b"2"].concat()),
+        ("a byte before", [&[0], &book[..]].concat()),
+        ("twice", [&book[..], &book].concat()),
+    ] {
+        cases.push(checking::of_bytes(why, bytes));
+    }
+    let none = columns(2, &Names::new());
+    cases.extend(checking::of_spoilt("no names", changed_bytes(&none)));
+    cases
+}
+
 /// Books under the mark of another kind.
 fn checked_under_other_marks() -> Vec<Case<Check>> {
     checking::of_spoilt("other mark", under_other_marks())
 }
 
-/// The 93 and the 88 bytes: every byte changed, every piece spoilt; and a small tree
-/// in three blocks, in some of its nodes.
+/// The 93 and the 88 bytes: every byte changed, every piece spoilt; but the nodes,
+/// which are the same in both, in the first alone. A small tree in three blocks: every
+/// node spoilt, and some of what is blocks; and wrong widths where the longest name is
+/// the second.
 fn checked_spoilt() -> Vec<Case<Check>> {
     let names = lists::example();
     let (two, four) = (column_pieces(2, &names), column_pieces(4, &names));
     let tree = column_pieces(3, &small_tree());
-    let some_nodes = other_nodes(&tree).into_iter().step_by(2).collect();
+    let middle = column_pieces(2, &lists::longest_of_three(1));
+    let some_blocks = other_blocks(&tree).into_iter().step_by(5).collect();
     [
         checking::of_spoilt("93", changed_bytes(&two.bytes())),
         checking::of_spoilt("93", other_pieces(&two)),
+        checking::of_spoilt("88", changed_bytes(&four.bytes())),
         checking::of_spoilt("88", other_blocks(&four)),
-        checking::of_spoilt("tree", some_nodes),
+        checking::of_spoilt("tree", other_nodes(&tree)),
         checking::of_spoilt("tree", other_widths(&tree)),
+        checking::of_spoilt("tree", some_blocks),
+        checking::of_spoilt("longest in the middle", other_widths(&middle)),
     ]
     .concat()
 }
@@ -379,23 +470,28 @@ fn checked_in_other_orders() -> Vec<Case<Check>> {
     cases
 }
 
-/// A deep book that is wrong in one number of its last node, or in the width of the
-/// root.
+/// A deep book and a wide one that are wrong in one number of their last node, or in
+/// the width of the root.
 fn checked_spoilt_at_the_end() -> Vec<Case<Check>> {
-    let book = column_pieces(64, &lists::mirror(b'a', b'b', 60));
     let mut cases = Vec::new();
-    for (field, what) in NODE_FIELDS.iter().enumerate() {
-        let mut pieces = book.clone();
-        if let Some(node) = pieces.nodes.last_mut() {
-            node[field] += 1;
+    for (what, names) in [
+        ("mirror", lists::mirror(b'a', b'b', 60)),
+        ("40 children", (0..40).map(|byte| vec![byte; 3]).collect()),
+    ] {
+        let book = column_pieces(64, &names);
+        for (field, number) in NODE_FIELDS.iter().enumerate() {
+            let mut pieces = book.clone();
+            if let Some(node) = pieces.nodes.last_mut() {
+                node[field] += 1;
+            }
+            let why = format!("{what}, last node, {number} one more");
+            cases.push(checking::of_bytes(why, pieces.bytes()));
         }
-        let why = format!("mirror, last node, {what} one more");
+        let mut pieces = book;
+        pieces.nodes[0][WIDTH] -= 1;
+        let why = format!("{what}, root, width one less");
         cases.push(checking::of_bytes(why, pieces.bytes()));
     }
-    let mut pieces = book;
-    pieces.nodes[0][WIDTH] -= 1;
-    let why = "mirror, root, width one less";
-    cases.push(checking::of_bytes(why, pieces.bytes()));
     cases
 }
 
@@ -415,16 +511,12 @@ fn checked_spoilt_at_random() -> Vec<Case<Check>> {
     cases
 }
 
-/// Node tables to lead a check astray, as columns: of every kind over few names, and
-/// the nest that is deeper than any book.
+/// Hostile node tables of every kind over few names, and every nest deeper than any
+/// book.
 fn checked_hostile() -> Vec<Case<Check>> {
-    let few = hostile::kinds().into_iter().map(|kind| (kind, 16));
-    let deep = (hostile::falling_names(), hostile::DEEPER_THAN_ANY);
-    few.chain([deep])
-        .map(|(kind, count)| {
-            let book = kind.with_names(count).in_kind(BookKind::Columns);
-            checking::of_bytes(format!("hostile, {}", kind.how), book.bytes())
-        })
+    let tables = hostile_columns(16, hostile::nests()).into_iter();
+    tables
+        .map(|(how, book)| checking::of_bytes(how, book))
         .collect()
 }
 
@@ -460,12 +552,21 @@ fn read_shapes() -> Vec<Case<Read>> {
         .collect()
 }
 
-/// Bytes that are no book: 2.
+/// Bytes that are no book: 2, before 3 and 4.
 fn read_spoilt() -> Vec<Case<Read>> {
-    let book = column_pieces(2, &lists::example());
-    let spoilt = other_nodes(&book).into_iter();
+    let calls = [(1, 20), (0, 3), (3, 20), (2, 0)];
+    let spoilt = spoilt_example().into_iter().zip(calls.iter().cycle());
     spoilt
-        .flat_map(|(how, book)| reading::of_bytes(&how, book, &[(1, 20)]))
+        .flat_map(|((how, book), &call)| reading::of_bytes(&how, book, &[call]))
+        .collect()
+}
+
+/// Hostile node tables: 2.
+fn read_hostile() -> Vec<Case<Read>> {
+    let tables = hostile_columns(6, vec![hostile::falling_names()]);
+    let tables = tables.into_iter();
+    tables
+        .flat_map(|(how, book)| reading::of_bytes(&how, book, &[(0, 9)]))
         .collect()
 }
 
@@ -522,25 +623,48 @@ fn asked_shapes() -> Vec<Case<Ask>> {
         .collect()
 }
 
+/// The path of 201 nodes, down to several depths and aside from it.
+fn asked_deepest() -> Vec<Case<Ask>> {
+    let mut path = lists::chain(b'a', 200);
+    path.push(b"b".to_vec());
+    let lengths = [0, 1, 64, 128, 198, 199].into_iter();
+    let questions = lengths.flat_map(|length| {
+        let stem = vec![b'a'; length];
+        [&b"a"[..], b"b"].map(|tail| [&stem, tail].concat())
+    });
+    ask_names("path of 201 nodes", &path, 64, questions.collect())
+}
+
 /// Letters of several bytes: how much of a question is lit.
 fn asked_letters() -> Vec<Case<Ask>> {
     let names = texts(&["Café", "Cafés", "Éa", "KÖln", "Köln", "Ünder"]);
     ask_names("letters", &names, 2, about_letters(&names))
 }
 
-/// Bytes that are no book: 2.
+/// Bytes that are no book: 2, before 1 and 10. Some changes make another book.
 fn asked_spoilt() -> Vec<Case<Ask>> {
-    let book = column_pieces(2, &lists::example());
     let questions = [&b"Marina"[..], b"", b"Mar", &[b'M'; 201]];
-    let mut spoilt = other_nodes(&book);
-    let other = marked(BookKind::Plain, book.bytes());
+    let mut spoilt = spoilt_example();
+    let other = marked(BookKind::Plain, columns(2, &lists::example()));
     spoilt.push(("the plain mark".to_string(), other));
+    let none = changed_bytes(&columns(9, &Names::new()));
+    spoilt.extend(none.into_iter().step_by(2));
     let mut cases = Vec::new();
     for (number, (how, book)) in spoilt.into_iter().enumerate() {
         let question = questions[number % questions.len()].to_vec();
         cases.extend(asking::of_bytes(&how, book, vec![question]));
     }
     cases
+}
+
+/// Hostile node tables: 2, before 1.
+fn asked_hostile() -> Vec<Case<Ask>> {
+    let questions = [vec![], vec![0, 0], vec![0, 9], vec![0; 201]];
+    let tables = hostile_columns(6, vec![hostile::falling_names()]);
+    let tables = tables.into_iter().zip(questions.iter().cycle());
+    tables
+        .flat_map(|((how, book), question)| asking::of_bytes(&how, book, vec![question.clone()]))
+        .collect()
 }
 
 /// Random books and questions.
@@ -576,6 +700,30 @@ fn batched_examples() -> Vec<Case<AskBatch>> {
     let plain = marked(BookKind::Plain, columns(2, &lists::example()));
     cases.extend(batching::of_bytes("the plain mark", plain, batches));
     cases
+}
+
+/// Bytes that are no book: 2, before the refusals of rows. Some changes make another
+/// book.
+fn batched_spoilt() -> Vec<Case<AskBatch>> {
+    let good = Batch::of([(1, &b"Marina"[..]), (3, b"Mar"), (4, b"Maxim")]);
+    let bad = Batch::of([(6, &b"Mar"[..]), (4, &[b'M'; 201])]);
+    let batches = [good, bad, Batch::default()];
+    let spoilt = spoilt_example().into_iter().zip(batches.iter().cycle());
+    spoilt
+        .flat_map(|((how, book), batch)| batching::of_bytes(&how, book, vec![batch.clone()]))
+        .collect()
+}
+
+/// Hostile node tables: 2.
+fn batched_hostile() -> Vec<Case<AskBatch>> {
+    let tables = hostile_columns(6, vec![hostile::falling_names()]);
+    let tables = tables.into_iter().zip((1..=5).cycle());
+    tables
+        .flat_map(|((how, book), kind)| {
+            let batch = Batch::of([(kind, &[0, 1][..])]);
+            batching::of_bytes(&how, book, vec![batch])
+        })
+        .collect()
 }
 
 /// Random batches.

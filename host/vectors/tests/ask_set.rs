@@ -8,6 +8,7 @@ use model::{book_exact, book_nearest, book_place, book_range, book_width, open, 
 use std::collections::BTreeSet;
 use std::sync::LazyLock;
 use vectors::asking::{self, Ask};
+use vectors::columns;
 use vectors::folded;
 use vectors::lists;
 use vectors::sets::{Case, Files, Set};
@@ -17,6 +18,9 @@ static EXPECTED: LazyLock<String> = LazyLock::new(|| asking::SET.expected());
 
 /// The same of folded books.
 static FOLDED_EXPECTED: LazyLock<String> = LazyLock::new(|| folded::ASK.expected());
+
+/// The same of column books.
+static COLUMNS_EXPECTED: LazyLock<String> = LazyLock::new(|| columns::ASK.expected());
 
 /// A case as it stands in the file.
 struct Asked<'file> {
@@ -82,7 +86,11 @@ fn looked(answers: &str, [visits, entries]: [usize; 2]) -> String {
 
 #[test]
 fn a_program_that_follows_the_description_prints_the_text() {
-    for (set, expected) in [(&asking::SET, &EXPECTED), (&folded::ASK, &FOLDED_EXPECTED)] {
+    for (set, expected) in [
+        (&asking::SET, &EXPECTED),
+        (&folded::ASK, &FOLDED_EXPECTED),
+        (&columns::ASK, &COLUMNS_EXPECTED),
+    ] {
         let file = set.case_file();
         let cases = read_file(&file);
         let lines = cases.iter().enumerate();
@@ -93,7 +101,11 @@ fn a_program_that_follows_the_description_prints_the_text() {
 
 #[test]
 fn the_cases_are_not_too_many() {
-    for (set, most) in [(&asking::SET, 7000), (&folded::ASK, 1400)] {
+    for (set, most) in [
+        (&asking::SET, 7000),
+        (&folded::ASK, 1400),
+        (&columns::ASK, 900),
+    ] {
         let cases = set.cases().len();
         assert!(cases <= most, "{cases}");
     }
@@ -103,13 +115,15 @@ fn the_cases_are_not_too_many() {
 fn every_refusal_of_a_question_is_among_the_cases() {
     // The codes of the five answers of a case: a book without names is the only
     // one where they differ.
-    let mut codes = BTreeSet::new();
-    for line in EXPECTED.lines() {
-        let (_, outcome) = line.split_once(' ').unwrap();
-        codes.insert(numbers(outcome).map(|[code, ..]| code));
+    for text in [&EXPECTED, &COLUMNS_EXPECTED] {
+        let mut codes = BTreeSet::new();
+        for line in text.lines() {
+            let (_, outcome) = line.split_once(' ').unwrap();
+            codes.insert(numbers(outcome).map(|[code, ..]| code));
+        }
+        let expected = [[0; 5], [0, 0, 0, 10, 0], [1; 5], [2; 5]];
+        assert_eq!(codes.into_iter().collect::<Vec<_>>(), expected);
     }
-    let expected = [[0; 5], [0, 0, 0, 10, 0], [1; 5], [2; 5]];
-    assert_eq!(codes.into_iter().collect::<Vec<_>>(), expected);
 }
 
 #[test]
@@ -258,6 +272,7 @@ fn the_width_of_a_range_is_among_the_cases_wherever_its_longest_name_stands() {
 fn nearest_lights_no_half_letter_in_any_case_and_less_than_is_shared_in_many() {
     assert!(held_nearest(&asking::SET, &EXPECTED) > 300);
     assert!(held_nearest(&folded::ASK, &FOLDED_EXPECTED) > 50);
+    assert!(held_nearest(&columns::ASK, &COLUMNS_EXPECTED) > 20);
 }
 
 /// Holds nearest's numbers to the names in every case of a set. Gives in how many
@@ -426,6 +441,7 @@ fn every_kind_tells_how_far_nearest_looks_in_every_case() {
     for (set, expected, most) in [
         (&asking::SET, &**EXPECTED, [201, 64]),
         (&folded::ASK, &**FOLDED_EXPECTED, [200, 64]),
+        (&columns::ASK, &**COLUMNS_EXPECTED, [201, 64]),
         (&asking::DEAREST, &asking::DEAREST.expected(), [200, 64]),
     ] {
         assert_eq!(held_looks(set, expected), most);
@@ -482,11 +498,13 @@ fn both_bounds_on_the_visits_are_met_in_many_cases() {
 
 #[test]
 fn damaged_books_are_asked_questions_of_201_bytes_too() {
-    let file = asking::SET.case_file();
-    let refused = |case: &&Asked| book_exact(case.book, case.question).code == 2;
-    let cases = read_file(&file);
-    let long = cases.iter().filter(|case| case.question.len() > 200);
-    assert!(long.filter(refused).count() > 40);
+    for set in [&asking::SET, &columns::ASK] {
+        let file = set.case_file();
+        let refused = |case: &&Asked| book_exact(case.book, case.question).code == 2;
+        let cases = read_file(&file);
+        let long = cases.iter().filter(|case| case.question.len() > 200);
+        assert!(long.filter(refused).count() > 40);
+    }
 }
 
 #[test]

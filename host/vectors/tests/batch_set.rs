@@ -8,6 +8,7 @@ use model::{book_batch, book_check, open, Answer, Row};
 use std::collections::{BTreeMap, BTreeSet};
 use vectors::batching::{self, AskBatch};
 use vectors::checksum::checksum_of;
+use vectors::columns;
 use vectors::folded;
 use vectors::sets::{Files, Set};
 
@@ -129,7 +130,7 @@ fn refused(code: usize) -> String {
 
 #[test]
 fn a_program_that_follows_the_description_prints_the_text() {
-    for set in [&batching::SET, &folded::BATCH] {
+    for set in [&batching::SET, &folded::BATCH, &columns::BATCH] {
         let file = set.case_file();
         let mut text = String::new();
         for (number, case) in read_file(&file).iter().enumerate() {
@@ -142,7 +143,11 @@ fn a_program_that_follows_the_description_prints_the_text() {
 
 #[test]
 fn the_batches_are_small_enough() {
-    for (set, most) in [(&batching::SET, 800), (&folded::BATCH, 60)] {
+    for (set, most) in [
+        (&batching::SET, 800),
+        (&folded::BATCH, 60),
+        (&columns::BATCH, 250),
+    ] {
         let file = set.case_file();
         let cases = read_file(&file);
         assert!(cases.len() <= most, "{}", cases.len());

@@ -16,11 +16,17 @@ fn pieces_are_put_together_as_the_layout_says() {
         (lists::mirror(b'a', b'b', 200), 64),
         (lists::pairs(2000), 1),
     ] {
-        let mut pieces = Pieces::of(BookKind::Plain, block, &names);
-        let book = book_of(BookKind::Plain, block, &names);
-        assert_eq!(pieces.bytes(), book);
-        pieces.settle();
-        assert_eq!(pieces.bytes(), book);
+        for kind in BookKind::ALL {
+            let names = lists::sorted_for(kind, names.clone());
+            let mut pieces = Pieces::of(kind, block, &names);
+            let book = book_of(kind, block, &names);
+            assert_eq!(pieces.bytes(), book);
+            pieces.settle();
+            assert_eq!(pieces.bytes(), book);
+        }
+        let plain = Pieces::of(BookKind::Plain, block, &names);
+        let columns = plain.in_kind(BookKind::Columns).bytes();
+        assert_eq!(columns, book_of(BookKind::Columns, block, &names));
     }
 }
 

@@ -2,6 +2,7 @@
 //! must be among its cases.
 
 use vectors::checking::{self, Check};
+use vectors::columns;
 use vectors::folded;
 use vectors::sets::{Files, Set};
 
@@ -20,7 +21,7 @@ fn read_file(mut file: &[u8]) -> Vec<&[u8]> {
 
 #[test]
 fn a_program_that_follows_the_description_prints_the_text() {
-    for set in [&checking::SET, &folded::CHECK] {
+    for set in [&checking::SET, &folded::CHECK, &columns::CHECK] {
         let file = set.case_file();
         let mut text = String::new();
         for (number, book) in read_file(&file).into_iter().enumerate() {
@@ -34,7 +35,11 @@ fn a_program_that_follows_the_description_prints_the_text() {
 
 #[test]
 fn the_cases_are_not_too_many() {
-    for (set, most) in [(&checking::SET, 1600), (&folded::CHECK, 900)] {
+    for (set, most) in [
+        (&checking::SET, 1600),
+        (&folded::CHECK, 900),
+        (&columns::CHECK, 1400),
+    ] {
         let cases = set.cases().len();
         assert!(cases <= most, "{cases}");
     }
@@ -136,22 +141,83 @@ fn the_edges_of_folding_are_among_the_cases() {
 }
 
 #[test]
+fn the_edges_of_columns_are_among_the_cases() {
+    let expected = [
+        ("worked example, k 2: book 93", "0 3 2"),
+        ("worked example, k 4: book 88", "0 3 4"),
+        ("worked example, k 65: ", "2 0 0"),
+        ("no names, k 0: book 16", "2 0 0"),
+        ("no names, k 64: book 16", "0 0 64"),
+        ("one name of 200 bytes, k 2: ", "0 1 2"),
+        ("one name of 201 bytes, k 2: ", "2 0 0"),
+        ("a second name of 201, k 1: ", "2 0 0"),
+        ("block size, k 64: ", "0 66 64"),
+        ("block size, k 65: ", "2 0 0"),
+        ("equal names, k 1: ", "2 0 0"),
+        ("two children each, k 5: ", "0 64 5"),
+        ("cut, the last 4 bytes: book 4", "2 0 0"),
+        ("twice: book 186", "2 0 0"),
+        ("no names, byte 2 one more: book 16", "0 0 3"),
+        ("no names, byte 8 one more: book 16", "2 0 0"),
+        // the mark's third byte tells the kind: C one less is B, one more is D
+        ("no names, byte 14 one less: book 16", "2 0 0"),
+        ("93, byte 91 one more: book 93", "2 0 0"),
+        ("other mark, no names, Columns marked as Plain: ", "0 0 2"),
+        ("other mark, one name, Columns marked as Folded: ", "0 1 2"),
+        ("other mark, one name, Plain marked as Columns: ", "0 1 2"),
+        (
+            "other mark, two names, Columns marked as Columns: ",
+            "0 2 2",
+        ),
+        ("other mark, two names, Plain marked as Columns: ", "2 0 0"),
+        ("other mark, two names, Columns marked as Plain: ", "2 0 0"),
+        ("other mark, two names, Columns marked as Folded: ", "2 0 0"),
+        ("columns swapped: symbol, depth: ", "2 0 0"),
+        ("columns swapped: nodes, width: ", "2 0 0"),
+        ("column from behind: width: ", "2 0 0"),
+        ("node by node: book 93", "2 0 0"),
+        ("93, node 3, width one less: ", "2 0 0"),
+        ("93, no widths, old mark: book 85", "2 0 0"),
+        ("93, no widths, new mark: book 85", "2 0 0"),
+        ("93, old mark: book 93", "2 0 0"),
+        ("tree, node 1, width is its first child's: ", "2 0 0"),
+        (
+            "longest in the middle, node 2, width is its last name's: ",
+            "2 0 0",
+        ),
+        ("mirror, root, width one less: ", "2 0 0"),
+        ("40 children, last node, nodes one more: ", "2 0 0"),
+    ];
+    assert_among(&columns::CHECK, &expected);
+}
+
+#[test]
 fn every_spoilt_piece_is_refused_but_for_letters_that_no_node_shows() {
     // A letter more or less behind a name moves the depth of its leaf; so of
     // the spoilt pieces only single letters, and k where it cuts no other
-    // blocks, can make another sound book.
-    let mut accepted = 0;
-    for case in checking::SET.cases() {
-        let purpose = case.purpose();
-        let spoilt = ["93, ", "88, ", "small tree, ", "longest in the middle, "];
-        if !spoilt.iter().any(|start| purpose.starts_with(start)) {
-            continue;
+    // blocks, can make another sound book. Columns show what rows show.
+    // Shapes, which are sound, tell their k.
+    let spoilt = [
+        "93, ",
+        "88, ",
+        "small tree, ",
+        "tree, ",
+        "longest in the middle, ",
+    ];
+    for set in [&checking::SET, &columns::CHECK] {
+        let mut accepted = 0;
+        for case in set.cases() {
+            let purpose = case.purpose();
+            let is_spoilt = spoilt.iter().any(|start| purpose.starts_with(start));
+            if !is_spoilt || purpose.contains(", k ") {
+                continue;
+            }
+            if case.outcome().starts_with('0') {
+                assert!(purpose.contains(", byte "), "{purpose}");
+                accepted += 1;
+            }
         }
-        if case.outcome().starts_with('0') {
-            assert!(purpose.contains(", byte "), "{purpose}");
-            accepted += 1;
-        }
+        // of the 93: na, et Square; of the 88: Mar, na, et Square and k; up and down
+        assert_eq!(accepted, 2 * 11 + 2 * 14 + 2, "{}", set.name);
     }
-    // of the 93: na, et Square; of the 88: Mar, na, et Square and k; up and down
-    assert_eq!(accepted, 2 * 11 + 2 * 14 + 2);
 }

@@ -3,6 +3,7 @@
 
 use std::collections::BTreeMap;
 use vectors::checksum::checksum;
+use vectors::columns;
 use vectors::folded;
 use vectors::reading::{self, Read as Call, LONGEST_ROOM};
 use vectors::sets::{Case, Files};
@@ -59,7 +60,7 @@ fn answer(case: &Case<Call>) -> [usize; 3] {
 
 #[test]
 fn a_program_that_follows_the_description_prints_the_text() {
-    for set in [&reading::SET, &folded::READ] {
+    for set in [&reading::SET, &folded::READ, &columns::READ] {
         let file = set.case_file();
         let cases = read_file(&file);
         let lines = cases.iter().enumerate();
@@ -70,7 +71,11 @@ fn a_program_that_follows_the_description_prints_the_text() {
 
 #[test]
 fn the_rooms_are_small_enough() {
-    for (set, most) in [(&reading::SET, 1200), (&folded::READ, 300)] {
+    for (set, most) in [
+        (&reading::SET, 1200),
+        (&folded::READ, 300),
+        (&columns::READ, 350),
+    ] {
         let file = set.case_file();
         let cases = read_file(&file);
         assert!(cases.len() <= most, "{}", cases.len());
@@ -105,12 +110,14 @@ fn folded_names_are_read_as_they_were_spelt() {
 
 #[test]
 fn every_refusal_of_a_reading_is_among_the_cases() {
-    let mut counts = BTreeMap::new();
-    for case in reading::SET.cases() {
-        *counts.entry(answer(&case)[0]).or_insert(0) += 1;
+    for set in [&reading::SET, &columns::READ] {
+        let mut counts = BTreeMap::new();
+        for case in set.cases() {
+            *counts.entry(answer(&case)[0]).or_insert(0) += 1;
+        }
+        let codes: Vec<usize> = counts.keys().copied().collect();
+        assert_eq!(codes, [0, 2, 3, 4], "{counts:?}");
     }
-    let codes: Vec<usize> = counts.keys().copied().collect();
-    assert_eq!(codes, [0, 2, 3, 4], "{counts:?}");
 }
 
 #[test]
