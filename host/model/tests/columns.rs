@@ -180,23 +180,52 @@ fn capitals_keep_their_own_symbols() {
 
 #[test]
 fn no_names_give_the_trailer_alone_and_only_the_mark_differs() {
-    let mut empty = EMPTY_BOOK;
-    empty[14] = 0x43;
-    assert_eq!(built_as(BookKind::Columns, &[], 2), empty);
-    assert_eq!(converted(book_to_columns, &EMPTY_BOOK), empty);
-    assert_eq!(converted(book_from_columns, &empty), EMPTY_BOOK);
-    assert_eq!(book_check(&empty), yes(0, 2));
-    assert_eq!(model::book_exact(&empty, b"Mar").answer(), yes(0, 0));
-    assert_eq!(model::book_nearest(&empty, b"Mar").answer(), no(10));
+    for block in 1..=64 {
+        let (mut plain, mut columns) = (EMPTY_BOOK, EMPTY_BOOK);
+        plain[2] = block;
+        columns[2] = block;
+        columns[14] = 0x43;
+        let block = usize::from(block);
+        assert_eq!(built(&[], block), plain);
+        assert_eq!(built_as(BookKind::Columns, &[], block), columns);
+        assert_eq!(converted(book_to_columns, &plain), columns);
+        assert_eq!(converted(book_from_columns, &columns), plain);
+        assert_eq!(book_check(&columns), yes(0, block));
+        assert_eq!(model::book_exact(&columns, b"Mar").answer(), yes(0, 0));
+        assert_eq!(model::book_nearest(&columns, b"Mar").answer(), no(10));
+    }
 }
+
+/// The plain book of the name A with k = 1, as FORMAT writes it out.
+#[rustfmt::skip]
+const BOOK_OF_A: [u8; 33] = [
+    // entry and block table
+    0x00, 0x01, 0x41, 0x00, 0x00,
+    // the root: (0,2,0,1,1,1)
+    0x00, 0x00, 0x02, 0x00, 0x00, 0x00, 0x01, 0x00, 0x01, 0x00, 0x01, 0x00,
+    // n 1, k 1, block table at 3, node table at 5, m 1, length 33
+    0x01, 0x00, 0x01, 0x00, 0x03, 0x00, 0x05, 0x00, 0x01, 0x00, 0x21, 0x00,
+    0x4E, 0x42, 0x4B, 0x32,
+];
 
 #[test]
 fn of_one_name_rows_and_columns_coincide_but_for_the_mark() {
-    let one = built(&names(&["Mar"]), 2);
-    let columns = marked_as(BookKind::Columns, &one);
-    assert_eq!(built_as(BookKind::Columns, &names(&["Mar"]), 2), columns);
-    assert_eq!(converted(book_to_columns, &one), columns);
-    assert_eq!(converted(book_from_columns, &columns), one);
+    for block in 1..=64 {
+        let (mut plain, mut columns) = (BOOK_OF_A, BOOK_OF_A);
+        plain[19] = block;
+        columns[19] = block;
+        columns[31] = 0x43;
+        let (names, block) = (names(&["A"]), usize::from(block));
+        assert_eq!(built(&names, block), plain);
+        assert_eq!(built_as(BookKind::Columns, &names, block), columns);
+        assert_eq!(converted(book_to_columns, &plain), columns);
+        assert_eq!(converted(book_from_columns, &columns), plain);
+        assert_eq!(book_check(&columns), yes(1, block));
+        assert_eq!(model::book_exact(&columns, b"A").answer(), yes(0, 1));
+    }
+    let longest = vec![vec![b'n'; 200]];
+    let columns = marked_as(BookKind::Columns, &built(&longest, 2));
+    assert_eq!(built_as(BookKind::Columns, &longest, 2), columns);
     assert_eq!(book_check(&columns), yes(1, 2));
 }
 
@@ -212,37 +241,72 @@ fn conversion_gives_the_bytes_that_building_gives_and_back_the_same_book() {
     }
 }
 
+/// Asserts that the books of these names become each other, that the column book is
+/// checked, and that it answers what the plain list says of some names: each is found
+/// where it stands, and is a range of those that begin so.
+fn assert_converted_and_asked(list: &[Vec<u8>], block: usize) -> Vec<u8> {
+    let plain = built(list, block);
+    let columns = converted(book_to_columns, &plain);
+    assert_eq!(columns, built_as(BookKind::Columns, list, block));
+    assert_eq!(converted(book_from_columns, &columns), plain);
+    assert_eq!(book_check(&columns), yes(list.len(), block));
+    let last = list.len() - 1;
+    for position in [0, 1, last / 2, last - 1, last] {
+        let name = &list[position];
+        let mut room = [FILLING; 200];
+        let read = book_read(&columns, position, &mut room);
+        assert_eq!((read, &room[..name.len()]), (yes(name.len(), 0), &name[..]));
+        let exact = model::book_exact(&columns, name).answer();
+        assert_eq!(exact, yes(position, 1));
+        let begins = |front: &[u8]| list.iter().filter(|name| name.starts_with(front)).count();
+        for length in [1, name.len() - 1] {
+            let range = model::book_range(&columns, &name[..length]).answer();
+            let first = list.partition_point(|one| one[..] < name[..length]);
+            assert_eq!(range, yes(first, begins(&name[..length])));
+        }
+        let more = [&name[..name.len() - 1], &[255]].concat();
+        for question in [&name[..], &name[..1], &more] {
+            for ask in QUESTIONS {
+                assert_eq!(ask(&columns, question), ask(&plain, question));
+            }
+        }
+    }
+    columns
+}
+
 #[test]
 fn a_book_of_65_535_bytes_is_converted_both_ways() {
-    let plain = built(&names_for_book_length(65_535, 16), 16);
-    let columns = converted(book_to_columns, &plain);
-    assert_eq!(columns.len(), 65_535);
-    assert_eq!(book_check(&columns), yes(320, 16));
-    assert_eq!(converted(book_from_columns, &columns), plain);
+    for block in [1, 16] {
+        let list = names_for_book_length(65_535, block);
+        let columns = assert_converted_and_asked(&list, block);
+        assert_eq!((list.len(), columns.len()), (320, 65_535));
+    }
 }
 
 #[test]
 fn as_many_nodes_as_there_can_be_are_converted_both_ways() {
-    // All names of ten letters a and b: every fork has two children, so m is 2n - 1.
-    let list: Vec<Vec<u8>> = all_strings(b"ab", 10)
-        .into_iter()
-        .filter(|name| name.len() == 10)
+    // The numbers from 0 to 1999 in eleven letters a and b: every fork has two
+    // children, so m is 2n - 1. FORMAT has the length.
+    let letter = |number: usize, place: usize| b"ab"[number >> (10 - place) & 1];
+    let list: Vec<Vec<u8>> = (0..2000)
+        .map(|number| (0..11).map(|place| letter(number, place)).collect())
         .collect();
-    let plain = built(&list, 16);
-    let trailer = plain.len() - 16;
-    let nodes = usize::from(plain[trailer + 8]) + 256 * usize::from(plain[trailer + 9]);
-    assert_eq!((list.len(), nodes), (1024, 2047));
-    let columns = converted(book_to_columns, &plain);
-    assert_eq!(columns, built_as(BookKind::Columns, &list, 16));
-    assert_eq!(converted(book_from_columns, &columns), plain);
+    let columns = assert_converted_and_asked(&list, 64);
+    let trailer = columns.len() - 16;
+    let nodes = usize::from(columns[trailer + 8]) + 256 * usize::from(columns[trailer + 9]);
+    assert_eq!((columns.len(), nodes), (56_166, 3_999));
 }
 
 #[test]
 fn two_thousand_names_are_converted_both_ways() {
-    let plain = built(&many_names(2000), 64);
-    let columns = converted(book_to_columns, &plain);
-    assert_eq!(book_check(&columns), yes(2000, 64));
-    assert_eq!(converted(book_from_columns, &columns), plain);
+    assert_converted_and_asked(&many_names(2000), 64);
+    // One more makes no book of either kind.
+    for kind in [BookKind::Plain, BookKind::Columns] {
+        let more = book_of(kind, 64, &many_names(2001));
+        assert_eq!(book_check(&more), no(2));
+        assert_refused(book_to_columns, &more, more.len(), 2);
+        assert_refused(book_from_columns, &more, more.len(), 2);
+    }
 }
 
 #[test]

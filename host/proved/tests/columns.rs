@@ -1,17 +1,22 @@
 //! Document 02's request 10, sentence by sentence, through the linked archive; and
 //! the stored cases of it. The cases, what to do with them and what is expected stand
-//! in `data`, written by `cargo run -p vectors -- SET FOLDER`.
+//! in `data`, written by `cargo run -p vectors -- SET FOLDER`. The largest books are
+//! too long to be stored: the second program lays them out here, and its answers are
+//! what is expected.
 //!
 //! All that is lent stands between a fence, which ends the test where it is touched,
 //! and bytes that are watched: once with the fence before it, once behind it.
 
 use fenced::{Fence, Fenced};
+use model::{book_of, BookKind};
 use proved::{
     announce_clip, announce_route, book_batch, book_build, book_build_folded, book_check,
     book_exact, book_from_columns, book_nearest, book_place, book_range, book_read, book_salvage,
     book_to_columns, book_width, Answer, Counted, Kept, Row,
 };
 use std::fmt::Debug;
+use vectors::lists::{self, Names};
+use vectors::questions::{extensions, misses};
 
 /// Mar, Marina, Market Square as list records.
 const LIST: &[u8] = b"\x03Mar\x06Marina\x0DMarket Square";
@@ -209,14 +214,39 @@ fn both_example_books_are_turned_byte_by_byte() {
 
 #[test]
 fn without_names_only_the_mark_differs() {
-    assert_eq!(converted(book_to_columns, EMPTY, 1), EMPTY_COLUMNS);
-    assert_eq!(converted(book_from_columns, EMPTY_COLUMNS, 1), EMPTY);
-    assert_eq!(book_check(EMPTY_COLUMNS), answer(0, 0, 2));
+    for block in 1..=64 {
+        let [plain, columns] = [EMPTY, EMPTY_COLUMNS].map(|book| {
+            let mut book = *book;
+            book[2] = block;
+            book
+        });
+        let block = usize::from(block);
+        assert_eq!(built(b"", block), plain);
+        assert_eq!(converted(book_to_columns, &plain, 1), columns);
+        assert_eq!(converted(book_from_columns, &columns, 1), plain);
+        assert_eq!(book_check(&columns), answer(0, 0, block));
+    }
 }
+
+/// The books of the name A with blocks of 1, but for the mark: an entry, the start of
+/// its block, a node, and the trailer's six numbers.
+const OF_A: &[u8; 29] = b"\x00\x01A\x00\x00\
+    \x00\x00\x02\x00\x00\x00\x01\x00\x01\x00\x01\x00\
+    \x01\x00\x01\x00\x03\x00\x05\x00\x01\x00\x21\x00";
 
 #[test]
 fn of_one_name_rows_and_columns_coincide_but_for_the_mark() {
-    let plain = built(b"\x03Mar", 2);
+    for block in 1..=64 {
+        let mut numbers = *OF_A;
+        numbers[19] = block;
+        let [plain, columns] = [b"NBK2", b"NBC2"].map(|mark| [&numbers[..], mark].concat());
+        let block = usize::from(block);
+        assert_eq!(built(b"\x01A", block), plain);
+        assert_eq!(converted(book_to_columns, &plain, 1), columns);
+        assert_eq!(converted(book_from_columns, &columns, 1), plain);
+        assert_eq!(book_check(&columns), answer(0, 1, block));
+    }
+    let plain = built(&list(&[[b'n'; 200]]), 2);
     let columns = marked(&plain, b"NBC2");
     assert_eq!(converted(book_to_columns, &plain, 1), columns);
     assert_eq!(converted(book_from_columns, &columns, 1), plain);
@@ -232,47 +262,164 @@ fn to_columns_and_back_is_the_same_book() {
     }
 }
 
-#[test]
-fn a_book_of_65_535_bytes_is_turned_both_ways_and_one_more_is_none() {
-    // 320 names of two bytes, in blocks of 16, have a book of 4,912 bytes; each byte
-    // behind a name is one more.
-    let names = |wanted: usize| {
-        let mut missing = wanted - 4_912;
-        let heads = (1..=2u8).flat_map(|first| (0..160u8).map(move |second| [first, second]));
-        let names = heads.map(|head| {
-            let tail = missing.min(198);
-            missing -= tail;
-            [&head[..], &vec![b'x'; tail]].concat()
-        });
-        names.collect::<Vec<_>>()
-    };
-    let plain = built(&list(&names(65_535)), 16);
-    assert_eq!(plain.len(), 65_535);
-    let columns = converted(book_to_columns, &plain, 0);
-    assert_eq!(columns, moved(&plain));
-    assert_eq!(converted(book_from_columns, &columns, 0), plain);
-    assert_refused(book_to_columns, &plain, 65_534, 4);
-    assert_refused(book_from_columns, &columns, 65_534, 4);
-    for book in [plain, columns] {
-        let longer = [&[0], &book[..]].concat();
-        assert_refused(book_to_columns, &longer, 65_536, 2);
-        assert_refused(book_from_columns, &longer, 65_536, 2);
+// The largest books
+
+/// The answer's numbers as the second program gives them.
+fn told(given: model::Answer) -> Answer {
+    answer(given.code, given.first, given.second)
+}
+
+/// Those of a question.
+fn counted(given: model::Counted) -> Counted {
+    Counted {
+        code: given.code,
+        first: given.first,
+        second: given.second,
+        visits: given.visits,
+        entries: given.entries,
     }
+}
+
+/// A call of the second program that asks a question.
+type Expect = fn(&[u8], &[u8]) -> model::Counted;
+
+/// Its five questions, in the order of the kinds.
+const EXPECTED: [Expect; 5] = [
+    model::book_exact,
+    model::book_place,
+    model::book_range,
+    model::book_nearest,
+    model::book_width,
+];
+
+/// Turns the books that the second program lays out of these names both ways, and
+/// holds the column book's check, readings, questions and a batch of them to the
+/// second program. Gives the column book.
+fn hold_large(names: &Names, block: usize) -> Vec<u8> {
+    let [plain, columns] =
+        [BookKind::Plain, BookKind::Columns].map(|kind| book_of(kind, block, names));
+    assert_eq!(built(&list(names), block), plain);
+    assert_eq!(converted(book_to_columns, &plain, 0), columns);
+    assert_eq!(converted(book_from_columns, &columns, 0), plain);
+    let calls: [Convert; 2] = [book_to_columns, book_from_columns];
+    for (book, [takes, other]) in [(&plain, calls), (&columns, [calls[1], calls[0]])] {
+        assert_refused(takes, book, book.len() - 1, 4);
+        assert_refused(other, book, book.len(), 2);
+    }
+    let checked = with_book(&columns, |book, _| book_check(book));
+    assert_eq!(checked, told(model::book_check(&columns)));
+    assert_eq!(checked, answer(0, names.len(), block));
+
+    let last = names.len() - 1;
+    let positions = [0, block - 1, block, last / 2, last];
+    for position in positions {
+        let name = &names[position];
+        let (given, room) = with_book(&columns, |book, fence| {
+            let room = [UNSET; 200];
+            between(&room, 0x5B, fence, |room| book_read(book, position, room))
+        });
+        assert_eq!(given, answer(0, name.len(), 0));
+        assert_eq!(&room[..name.len()], &name[..]);
+        assert!(room[name.len()..].iter().all(|&byte| byte == UNSET));
+    }
+    let past = book_read(&columns, last + 1, &mut [UNSET; 200]);
+    assert_eq!(past, answer(3, 0, 0));
+
+    let mut questions = vec![vec![], vec![0], vec![255; 200]];
+    for name in positions.map(|position| &names[position]) {
+        questions.extend([name.clone(), name[..1].to_vec()]);
+        let near = [extensions(name), misses(name)].concat();
+        questions.extend(near.into_iter().filter(|near| near.len() <= 200));
+    }
+    hold_asked(&plain, &columns, &questions);
+    columns
+}
+
+/// Holds each of these questions, in all five kinds, to the second program, which is
+/// asked the plain book; then as many of them as a batch takes, each in one kind.
+fn hold_asked(plain: &[u8], columns: &[u8], questions: &Names) {
+    let mut buffer = Vec::new();
+    let mut rows = Vec::new();
+    let mut answers = Vec::new();
+    for (number, question) in questions.iter().enumerate() {
+        for (ask, expected) in QUESTIONS.iter().zip(EXPECTED) {
+            let expected = counted(expected(plain, question));
+            let given = with_book(columns, |book, _| ask(book, question));
+            assert_eq!(given, expected, "{question:?}");
+        }
+        if number < 64 {
+            let kind = number % 5;
+            rows.push(Row {
+                kind: kind + 1,
+                start: buffer.len(),
+                length: question.len(),
+            });
+            buffer.extend_from_slice(question);
+            answers.push(QUESTIONS[kind](columns, question).answer());
+        }
+    }
+    let unset = vec![answer(9, 9, 9); rows.len()];
+    let (given, found) = with_book(columns, |book, fence| {
+        between(&unset, answer(8, 8, 8), fence, |room| {
+            book_batch(book, &buffer, &rows, room)
+        })
+    });
+    assert_eq!((given, found), (answer(0, rows.len(), 0), answers));
+}
+
+/// Asserts that bytes are no book to any call that takes a column book.
+fn assert_none(bytes: &[u8]) {
+    for convert in [book_to_columns, book_from_columns] {
+        assert_refused(convert, bytes, bytes.len(), 2);
+    }
+    let checked = with_book(bytes, |book, _| book_check(book));
+    assert_eq!(checked, answer(2, 0, 0));
+    for ask in QUESTIONS {
+        let given = with_book(bytes, |book, _| ask(book, b"a"));
+        assert_eq!([given.code, given.visits, given.entries], [2, 0, 0]);
+    }
+    assert_eq!(book_read(bytes, 0, &mut [0; 200]), answer(2, 0, 0));
+    assert_eq!(book_batch(bytes, b"", &[], &mut []), answer(2, 0, 0));
 }
 
 #[test]
 fn as_many_nodes_as_there_can_be_are_turned_both_ways() {
-    // Ten letters a or b: every fork has two children, so 1,024 names have 2,047
+    // Eleven letters a or b: every fork has two children, so 2,000 names have 3,999
     // nodes.
-    let letter = |number: usize, place: usize| b'a' + (number >> (9 - place) & 1) as u8;
-    let names: Vec<Vec<u8>> = (0..1024)
-        .map(|number| (0..10).map(|place| letter(number, place)).collect())
-        .collect();
-    let plain = built(&list(&names), 64);
-    assert_eq!(plain[plain.len() - 8..][..2], 2047u16.to_le_bytes());
-    let columns = converted(book_to_columns, &plain, 0);
-    assert_eq!(columns, moved(&plain));
-    assert_eq!(converted(book_from_columns, &columns, 0), plain);
+    let columns = hold_large(&lists::binary(2000), 64);
+    assert_eq!(columns.len(), 56_166);
+    assert_eq!(columns[columns.len() - 8..][..2], 3999u16.to_le_bytes());
+    assert_eq!(columns, moved(&built(&list(&lists::binary(2000)), 64)));
+}
+
+#[test]
+fn two_thousand_names_are_turned_both_ways_and_one_more_is_none() {
+    hold_large(&lists::pairs(2000), 64);
+    assert_none(&book_of(BookKind::Columns, 64, &lists::pairs(2001)));
+}
+
+#[test]
+fn a_book_of_65_535_bytes_is_turned_both_ways_and_one_more_is_none() {
+    let with_length = |names: &Names, block, wanted| {
+        lists::with_book_length(BookKind::Columns, names, block, wanted)
+    };
+    for (names, block) in [
+        (lists::pairs(320), 16),
+        (lists::binary(lists::MOST_BINARY), 1),
+        // as many nodes as there can be, too
+        (lists::binary(2000), 64),
+    ] {
+        let columns = hold_large(&with_length(&names, block, 65_535), block);
+        assert_eq!(columns.len(), 65_535);
+        assert_none(&[&[0], &columns[..]].concat());
+        let more = book_of(
+            BookKind::Columns,
+            block,
+            &with_length(&names, block, 65_536),
+        );
+        assert_eq!(more.len(), 65_536);
+        assert_none(&more);
+    }
 }
 
 #[test]
@@ -474,7 +621,7 @@ fn run<'file>(
 fn the_stored_conversions_give_what_the_second_program_gives() {
     let file = include_bytes!("data/convert.cases");
     let expected = include_str!("data/convert.expected");
-    run(file, expected, 400, &[4], true, |book, front, _| {
+    run(file, expected, 500, &[4], true, |book, front, _| {
         let calls = [book_to_columns, book_from_columns];
         let outcomes = calls.map(|convert| outcome(convert_into(convert, book, &filled(front[0]))));
         outcomes.concat()
@@ -485,7 +632,7 @@ fn the_stored_conversions_give_what_the_second_program_gives() {
 fn the_stored_checks_give_what_the_second_program_gives() {
     let file = include_bytes!("data/columns_check.cases");
     let expected = include_str!("data/columns_check.expected");
-    run(file, expected, 700, &[], false, |book, _, _| {
+    run(file, expected, 1300, &[], false, |book, _, _| {
         let answer = with_book(book, |book, _| book_check(book));
         vec![answer.code, answer.first, answer.second]
     });
@@ -495,7 +642,7 @@ fn the_stored_checks_give_what_the_second_program_gives() {
 fn the_stored_readings_give_what_the_second_program_gives() {
     let file = include_bytes!("data/columns_read.cases");
     let expected = include_str!("data/columns_read.expected");
-    run(file, expected, 150, &[8, 4], true, |book, front, _| {
+    run(file, expected, 300, &[8, 4], true, |book, front, _| {
         let room = filled(front[1]);
         outcome(with_book(book, |book, fence| {
             between(&room, 0x5B, fence, |room| book_read(book, front[0], room))
@@ -507,7 +654,7 @@ fn the_stored_readings_give_what_the_second_program_gives() {
 fn the_stored_questions_give_what_the_second_program_gives() {
     let file = include_bytes!("data/columns_ask.cases");
     let expected = include_str!("data/columns_ask.expected");
-    run(file, expected, 500, &[4], true, |book, front, file| {
+    run(file, expected, 800, &[4], true, |book, front, file| {
         let question = part(file, front[0]);
         let answers = QUESTIONS.map(|ask| {
             let (given, _) = with_book(book, |book, fence| {
@@ -529,7 +676,7 @@ fn the_stored_questions_give_what_the_second_program_gives() {
 fn the_stored_batches_give_what_the_second_program_gives() {
     let file = include_bytes!("data/columns_batch.cases");
     let expected = include_str!("data/columns_batch.expected");
-    run(file, expected, 25, &[4; 3], true, |book, front, file| {
+    run(file, expected, 200, &[4; 3], true, |book, front, file| {
         let questions = part(file, front[0]);
         let rows = (0..front[1]).map(|_| {
             let [kind, start, length] = [8; 3].map(|bytes| number(file, bytes));
