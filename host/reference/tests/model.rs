@@ -212,6 +212,8 @@ fn refuses_every_change_that_the_second_program_refuses() {
     for (kind, block, names) in [
         (BookKind::Plain, 2, lists::example()),
         (BookKind::Plain, 16, lists::stops()),
+        (BookKind::Columns, 2, lists::example()),
+        (BookKind::Columns, 16, lists::stops()),
         (BookKind::Folded, 16, by_turns),
     ] {
         let pieces = Pieces::of(kind, block, &names);
@@ -245,9 +247,11 @@ fn refuses_every_change_that_the_second_program_refuses() {
 fn refuses_every_hostile_table() {
     for kind in hostile::kinds() {
         for book in [kind.with_names(hostile::DEEPER_THAN_ANY), kind.largest()] {
-            let bytes = book.bytes();
-            let one = ours(reference::book_check(&bytes));
-            assert_eq!(one, theirs(model::book_check(&bytes)), "{}", kind.how);
+            for as_kind in [BookKind::Plain, BookKind::Columns] {
+                let bytes = book.clone().in_kind(as_kind).bytes();
+                let one = ours(reference::book_check(&bytes));
+                assert_eq!(one, theirs(model::book_check(&bytes)), "{}", kind.how);
+            }
         }
     }
 }
@@ -277,8 +281,14 @@ fn looks_as_far_down_the_deepest_trees_whatever_the_block_size() {
     let mut chain = lists::chain(b'a', 200);
     chain.push(b"b".to_vec());
     let mirror = lists::mirror(b'a', b'b', 200);
-    for (names, block) in [(&chain, 1), (&chain, 7), (&mirror, 64)] {
-        let book = book_of(BookKind::Plain, block, names);
+    for (kind, names, block) in [
+        (BookKind::Plain, &chain, 1),
+        (BookKind::Plain, &chain, 7),
+        (BookKind::Plain, &mirror, 64),
+        (BookKind::Columns, &chain, 7),
+        (BookKind::Columns, &mirror, 64),
+    ] {
+        let book = book_of(kind, block, names);
         for length in [0, 1, 2, 63, 64, 65, 198, 199] {
             let stem = vec![b'a'; length];
             for tail in [&b""[..], b"a", b"b", b"c"] {
