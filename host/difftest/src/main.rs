@@ -1,18 +1,18 @@
 //! The proved library against the second program, on random calls.
 //!
-//! Every case makes one call of both with the same bytes and numbers, and compares
-//! the answer, of a single question also how far it looked, and all lent bytes, rows
-//! and clips; those of the laws of merging compare what the proved library gives in
-//! one order with what it gives in another, those of neighbours its answers with the
-//! names that it reads back and with each other, those of blocks apart what it
-//! salvages of two worn books that differ in one block, those of small letters what
-//! it answers of a folded book with what it answers of the plain one of its names in
-//! small letters, and those of the announcer the clip of a text with the book's own
-//! answers, a route with its positions one by one, and both with the names that are
-//! read back; those of columns turn a book into columns and back, and compare what a
-//! plain book gives with what its column book gives. The seed is printed first; the same seed gives the same cases. While it
-//! runs it says how far it is, and at the end it prints a table. A difference is
-//! printed with the whole case, and the exit status is then 1.
+//! Every case makes one call of both with the same bytes and numbers, and compares the
+//! answer, of a single question also how far it looked, and all lent bytes, rows and
+//! clips; those of the laws of merging compare what the proved library gives in one
+//! order with what it gives in another, those of neighbours its answers with the names
+//! that it reads back and with each other, those of blocks apart what it salvages of
+//! two worn books that differ in one block, those of small letters what it answers of
+//! a folded book with what it answers of the plain one of its names in small letters,
+//! and those of the announcer the clip of a text with the book's own answers, a route
+//! with its positions one by one, and both with the names that are read back; those of
+//! columns turn a book into columns and back, and compare what a plain book gives with
+//! what its column book gives. The seed is printed first; the same seed gives the same
+//! cases. While it runs it says how far it is, and at the end it prints a table. A
+//! difference is printed with the whole case, and the exit status is then 1.
 //!
 //! The proved library is called on exactly as much stack as its header says is
 //! enough, and all that is lent to it has a fence before or behind it. Where it

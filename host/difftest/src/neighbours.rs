@@ -1,5 +1,5 @@
 //! Neighbours tell it all: document 02, change request 12, by the proved library
-//! alone, for both kinds of book. Nearest's number is told by the names beside the
+//! alone, for every kind of book. Nearest's number is told by the names beside the
 //! question's place, and a question's range lies in that of each of its beginnings.
 
 use crate::books::any_block;

@@ -1,5 +1,5 @@
 //! The [sets](crate::sets) of folded books: of `book_build_folded`, and of the
-//! calls that take a book of either kind.
+//! calls that take a book of any kind.
 //!
 //! A book's mark tells its kind, so the files of `book_check`, `book_read`, the
 //! questions and `book_batch` are of the same kind as those of plain books. The
