@@ -27,8 +27,6 @@ use Rattle.format.proofs.Book.{book-opened, fits-parts, read-field}
 use Rattle.symbols.specs.Rules.{byKind, ruleBy}
 use Rattle.symbols.specs.declared.Rule.{Rule as ByRule}
 use Rattle.symbols.proofs.Symbols.{rule-by}
-use Rattle.kinds.specs.Known.{kindBy}
-use Rattle.kinds.proofs.Telling.{kind-told}
 use Rattle.trailer.specs.Trailer.{Trail, TrailSays, trailerIn}
 use Rattle.trailer.specs.declared.Trailer.{Trailer}
 use Rattle.streams.specs.Runs.{Frame, Has}
@@ -91,20 +89,9 @@ pub record NumbersRead (b : Bytes) (n k s u : ℕ) : Type 0 where
   pub table : s ≡ told b 2
   pub nodes : u ≡ told b 3
 
-pub numbers-read : (b : Bytes) (n k s u : ℕ) (t : Trailer) → Trail b → t ≡ trailerIn b → n ≡ t .names → k ≡ t .block → s ≡ t .«blocks_at» → u ≡ t .«nodes_at» → NumbersRead b n k s u
-numbers-read b n k s u t p e ne ke se ue = record {
-  trail = p;
-  names = ne ∙ ap (λ (x : Trailer). x .names) e;
-  block = ke ∙ ap (λ (x : Trailer). x .block) e;
-  table = se ∙ ap (λ (x : Trailer). x .«blocks_at») e;
-  nodes = ue ∙ ap (λ (x : Trailer). x .«nodes_at») e;
-}
-
--- the walk over the entries goes by the rule of the kind that the trailer tells
-pub walked-own : (b : Bytes) (t : Trailer) (rule : ByRule) (k s u n : ℕ) (r : Bool) → t ≡ trailerIn b → rule ≡ byKind (kindBy (t .kind)) → WalkSays (ruleBy rule) b k s u n r → WalkSays (ruleIn b) b k s u n r
-walked-own b t rule k s u n r e f says =
-    subst (λ (ρ : Rule). WalkSays ρ b k s u n r)
-    (ap ruleBy (f ∙ ap (λ (x : Trailer). byKind (kindBy (x .kind))) e ∙ ap byKind (kind-told (kindOf b))) ∙ rule-by (kindOf b)) says
+-- the walk over the entries goes by the rule of the kind that the trailer tells, whose arm was taken
+pub walked-own : (b : Bytes) (rule arm : ByRule) (k s u n : ℕ) (r : Bool) → rule ≡ byKind (kindOf b) → rule ≡ arm → WalkSays (ruleBy arm) b k s u n r → WalkSays (ruleIn b) b k s u n r
+walked-own b rule arm k s u n r e is says = subst (λ (ρ : Rule). WalkSays ρ b k s u n r) (ap ruleBy (sym is ∙ e) ∙ rule-by (kindOf b)) says
 
 module _ (b : Bytes) (n k s u : ℕ) (a : NumbersRead b n k s u) where
   pub walk-ask : Frame b k s u

@@ -7,6 +7,7 @@ ghost use Rattle.format.specs.Book.{opened, told, trailerSize};
 ghost use Rattle.format.specs.Outcomes.{checkOf};
 ghost use Rattle.format.specs.Spans.{isTable};
 ghost use Rattle.accept.specs.Parts.{Framed, FramedSays, PartsSay, checkOn, checkedAs};
+use symbols::Rule;
 
 // A book, and what its trailer tells, which no one need read again; or that the bytes are no book.
 pub enum Checked {
@@ -14,23 +15,23 @@ pub enum Checked {
     Unsound,
 }
 
-// Whether the trailer and the entries with their block table stand: what every kind of book has.
+// Whether the trailer and the entries with their block table stand: what every kind of book has. The walk over the entries is called at two
+// places, one for each rule: so it stays a function, and its name of 200 bytes does not lie below the levels of the node table.
 fn is_framed(book: &[u8]) -> bool
     ensures { λ r. ⌜ FramedSays (now (book .entry)) r ⌝ }
 {
     if !trailer::is_trailer(book) {
         return false;
     }
-    let t = trailer::read(book);
-    let kind = t.kind;
-    walk::check_entries(
-        kinds::rule_of(kind),
-        book,
-        numbers::wide16(t.names),
-        numbers::wide16(t.block),
-        numbers::wide16(t.blocks_at),
-        numbers::wide16(t.nodes_at),
-    )
+    let n = trailer::names(book);
+    let k = trailer::block(book);
+    let blocks = trailer::blocks_at(book);
+    let nodes = trailer::nodes_at(book);
+    let rule = trailer::rule(book);
+    match rule {
+        Rule::Plain => walk::check_entries(Rule::Plain, book, n, k, blocks, nodes),
+        Rule::Folded => walk::check_entries(Rule::Folded, book, n, k, blocks, nodes),
+    }
 }
 
 // Whether the table stands that the trailer tells of. Every form has nodes, and the walk over them goes by the map that the trailer tells.

@@ -11,8 +11,7 @@ use mathlib.Core.Path.{_≡_, _∙_, ap, ap₂, refl, sym}
 use mathlib.Core.List.{List, [], _∷_, map}
 use lib.ListN.{length, length-map}
 use Rattle.words.specs.Words.{Bytes, InBytes, word}
-use Rattle.standing.proofs.Maps.{map-starts}
-use Rattle.format.specs.Kinds.{formOf, kindOf, ruleIn}
+use Rattle.format.specs.Kinds.{kindOf, ruleIn}
 use Rattle.format.specs.Spans.{wordsIn, wordsOf}
 use Rattle.format.specs.Book.{namesOf, opened, told, trailerSize}
 use Rattle.format.specs.Records.{longest}

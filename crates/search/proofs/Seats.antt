@@ -4,7 +4,6 @@
 --     by-..                an answer by the number of its kind
 -- Assumes nothing.
 use Prim.Native.Nat.{ℕ, _+_, _-_, _*_, _≤_, _<_}
-use native.Mathlib.Nat.{lt-irrefl}
 use native.Mathlib.Omega.{arith}
 use mathlib.Core.Path.{_≡_, _∙_, ap, ap₂, subst, sym}
 use mathlib.Core.List.{List}

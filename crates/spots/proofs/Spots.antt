@@ -23,7 +23,7 @@ use Rattle.symbols.specs.declared.Rule.{Rule as ByRule}
 use Rattle.format.specs.Nodes.{Node, table}
 use Rattle.answers.specs.Questions.{reached}
 use Rattle.answers.specs.Counts.{visits}
-use Rattle.descent.specs.Vocabulary.{Highest, Reached, Searchable, Sits, asked, askedIn, from, node}
+use Rattle.descent.specs.Vocabulary.{Highest, Reached, Searchable, Sits, asked, askedIn, node}
 use Rattle.standing.specs.Maps.{Map, Placed, mapOf, numberIn, recordAt}
 use Rattle.descent.proofs.Paths.{found, only-reached, passed-deepens, passed-sits, reached-is, visits-are}
 use Rattle.format.specs.Spans.{wordsIn, wordsOf}
