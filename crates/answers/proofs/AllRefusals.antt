@@ -1,14 +1,16 @@
--- All refusals of all calls, computed: each alone, and beside its neighbour in the order of refusals, which is then not the one that is given. What was lentRoom
--- is left as it was. The books are document 01's by two, the same with one byte changed, the same with a shared count that is smaller than it could be, and
--- the one without names. Each line has what the documents say and not what a branch of a definition says, so a wrong definition shows here by its numbers.
+-- All refusals of all calls, computed: each alone, and beside its neighbour in the order of refusals, which is then not the one that is given. What was lent
+-- is left as it was. The books are document 01's by two, the same with one byte changed, the same with a shared count that is smaller than it could be, the
+-- ones without names and with one name, and these as column books. Each line has what the documents say and not what a branch of a definition says, so a
+-- wrong definition shows here by its numbers.
 --     build-refusals    8, 5, 6, 4; lists too long for a book, 7 and 9, are computed in the theorems' Edges
 --     mar-twice         a folded build of Mar and mar: 6
---     check-refusals, read-refusals, question-refusals, counted-refusals
+--     check-refusals, check-kinds, read-refusals, question-refusals, counted-refusals
 --     batch-refusals, batch-taken, batch-rows-alone, batch-rows-none
 --     judge-refusals, merge-refusals, put-2001, put-2000, merge-taken     5 and 6 of either list; 4; 7 of the names that a merge has put together
 --     head-refusals, heads-computed
 --     salvage-refusals, salvage-trailers, salvage-taken-just
 --     clips-computed, bad-route-kept, routes-computed     the announcer's calls: refusals in their order, and what is spoken
+--     convert-refusals, converts-computed     a book turned into columns, and back: refusals in their order, and the room afterwards
 -- Assumes nothing.
 use Prim.Native.Nat.{ℕ}
 use mathlib.Core.Path.{_≡_, refl}
@@ -16,9 +18,10 @@ use mathlib.Core.List.{List, [], _∷_, _++_, map}
 use lib.ListN.{drop, replicate, set, take}
 use Rattle.words.specs.Words.{Bytes, begins, less, same, shared}
 use Rattle.format.specs.Book.{blockPart, bookBy, entryPart, fitsBy, isBookBy, joined, namesOf, number, numbers, opened, trailer}
+use Rattle.format.specs.Columns.{columns}
 use Rattle.format.specs.Entries.{blocks, blocksFrom, decode, decodeFrom, entry, front, offsets}
 use Rattle.format.specs.Example.{exampleBy2, exampleBy4, text}
-use Rattle.format.specs.Kinds.{FoldedBook, PlainBook}
+use Rattle.format.specs.Kinds.{ColumnBook, FoldedBook, PlainBook}
 use Rattle.format.specs.Merging.{kept, merged}
 use Rattle.format.specs.Nodes.{allFields, depth, glue, groups, rowBy, table, tableWithin}
 use Rattle.format.specs.Outcomes.{Answer, checkOf, given, numbered, refused}
@@ -28,6 +31,7 @@ use Rattle.format.specs.Spans.{nodeTable}
 use Rattle.format.specs.Widths.{widest}
 use Rattle.answers.specs.Announcing.{Clips, clipOf, refusal, spoken}
 use Rattle.answers.specs.Calls.{Row, batch, batchOf, build, buildBy, builtFrom, check, namesAnswer, question, questionOf, readBack, readBackOf, rowAnswer}
+use Rattle.answers.specs.Converting.{converted, convertedOf}
 use Rattle.answers.specs.Counts.{countedOf, countedQuestion, entries, namesCounted, unlooked, visits}
 use Rattle.answers.specs.Heads.{Head, headOf, lesserHead}
 use Rattle.answers.specs.Lit.{lit, mayEnd}
@@ -65,6 +69,45 @@ smallerCount =
 abbrev pub noNames : Bytes
 noNames = 0 ∷ 0 ∷ 2 ∷ 0 ∷ 0 ∷ 0 ∷ 0 ∷ 0 ∷ 0 ∷ 0 ∷ 16 ∷ 0 ∷ 0x4E ∷ 0x42 ∷ 0x4B ∷ 0x32 ∷ []
 
+-- A alone, in blocks of one
+abbrev pub oneName : Bytes
+oneName =
+    0 ∷ 1 ∷ text "A" ++ (0 ∷ 0 ∷ 0 ∷ 0 ∷ 2 ∷ 0 ∷ 0 ∷ 0 ∷ 1 ∷ 0 ∷ 1 ∷ 0 ∷ 1 ∷ 0
+    ∷ 1 ∷ 0 ∷ 1 ∷ 0 ∷ 3 ∷ 0 ∷ 5 ∷ 0 ∷ 1 ∷ 0 ∷ 33 ∷ 0 ∷ 0x4E ∷ 0x42 ∷ 0x4B ∷ 0x32 ∷ [])
+
+-- document 01's four nodes as columns: symbols, depths, first names, numbers of names, numbers of nodes, widths
+abbrev pub nodeColumns : Bytes
+nodeColumns =
+    0 ∷ 0 ∷ 0 ∷ 0 ∷ 106 ∷ 0 ∷ 108 ∷ 0
+    ∷ 3 ∷ 0 ∷ 4 ∷ 0 ∷ 7 ∷ 0 ∷ 14 ∷ 0
+    ∷ 0 ∷ 0 ∷ 0 ∷ 0 ∷ 1 ∷ 0 ∷ 2 ∷ 0
+    ∷ 3 ∷ 0 ∷ 1 ∷ 0 ∷ 1 ∷ 0 ∷ 1 ∷ 0
+    ∷ 4 ∷ 0 ∷ 1 ∷ 0 ∷ 1 ∷ 0 ∷ 1 ∷ 0
+    ∷ 13 ∷ 0 ∷ 3 ∷ 0 ∷ 6 ∷ 0 ∷ 13 ∷ 0 ∷ []
+
+-- column books: document 01's names by two and by four, no names, one name
+abbrev pub columnsBy2 : Bytes
+columnsBy2 =
+    0 ∷ 3 ∷ text "Mar" ++ (3 ∷ 3 ∷ text "ina" ++ (0 ∷ 13 ∷ text "Market Square" ++ (0 ∷ 0 ∷ 10 ∷ 0 ∷ nodeColumns ++
+    (3 ∷ 0 ∷ 2 ∷ 0 ∷ 25 ∷ 0 ∷ 29 ∷ 0 ∷ 4 ∷ 0 ∷ 93 ∷ 0 ∷ 0x4E ∷ 0x42 ∷ 0x43 ∷ 0x32 ∷ []))))
+
+abbrev pub columnsBy4 : Bytes
+columnsBy4 =
+    0 ∷ 3 ∷ text "Mar" ++ (3 ∷ 3 ∷ text "ina" ++ (3 ∷ 10 ∷ text "ket Square" ++ (0 ∷ 0 ∷ nodeColumns ++
+    (3 ∷ 0 ∷ 4 ∷ 0 ∷ 22 ∷ 0 ∷ 24 ∷ 0 ∷ 4 ∷ 0 ∷ 88 ∷ 0 ∷ 0x4E ∷ 0x42 ∷ 0x43 ∷ 0x32 ∷ []))))
+
+abbrev pub columnsOfNone : Bytes
+columnsOfNone = 0 ∷ 0 ∷ 2 ∷ 0 ∷ 0 ∷ 0 ∷ 0 ∷ 0 ∷ 0 ∷ 0 ∷ 16 ∷ 0 ∷ 0x4E ∷ 0x42 ∷ 0x43 ∷ 0x32 ∷ []
+
+abbrev pub columnsOfOne : Bytes
+columnsOfOne =
+    0 ∷ 1 ∷ text "A" ++ (0 ∷ 0 ∷ 0 ∷ 0 ∷ 2 ∷ 0 ∷ 0 ∷ 0 ∷ 1 ∷ 0 ∷ 1 ∷ 0 ∷ 1 ∷ 0
+    ∷ 1 ∷ 0 ∷ 1 ∷ 0 ∷ 3 ∷ 0 ∷ 5 ∷ 0 ∷ 1 ∷ 0 ∷ 33 ∷ 0 ∷ 0x4E ∷ 0x42 ∷ 0x43 ∷ 0x32 ∷ [])
+
+-- no names, in a folded book
+abbrev pub foldedNone : Bytes
+foldedNone = 0 ∷ 0 ∷ 2 ∷ 0 ∷ 0 ∷ 0 ∷ 0 ∷ 0 ∷ 0 ∷ 0 ∷ 16 ∷ 0 ∷ 0x4E ∷ 0x42 ∷ 0x46 ∷ 0x32 ∷ []
+
 -- a question too long by one byte
 abbrev pub over200 : Bytes
 over200 = replicate 201 77
@@ -97,6 +140,13 @@ pub check-refusals : map (λ (s : Bytes). check s) (smallerCount ∷ broken ∷ 
     ≡ refused 2 ∷ refused 2 ∷ refused 2 ∷ refused 2 ∷ refused 2 ∷ refused 2 ∷ refused 2 ∷ refused 2 ∷ given 0 2 ∷ given 3 2 ∷ given 3 4 ∷ []
 unfolding shared less begins same depth glue groups widest rowBy tableWithin nodeTable table numbers joined entry blocksFrom front blocks offsets entryPart blockPart allFields trailer bookBy decodeFrom decode number rising sound fitsBy namesOf isBookBy opened checkOf check
 check-refusals = refl
+
+-- column books and folded ones; then rows under the mark of columns, columns under the plain and the folded mark, and columns with one number changed: no books
+pub check-kinds : map (λ (s : Bytes). check s) (columnsBy2 ∷ columnsBy4 ∷ columnsOfNone ∷ columnsOfOne ∷ foldedNone ∷ set exampleBy2 91 0x46
+    ∷ set exampleBy2 91 0x43 ∷ set columnsBy2 91 0x4B ∷ set columnsBy2 91 0x46 ∷ set columnsBy2 37 4 ∷ [])
+    ≡ given 3 2 ∷ given 3 4 ∷ given 0 2 ∷ given 1 1 ∷ given 0 2 ∷ given 3 2 ∷ refused 2 ∷ refused 2 ∷ refused 2 ∷ refused 2 ∷ []
+unfolding shared less begins same depth glue groups widest rowBy tableWithin nodeTable table numbers joined entry blocksFrom front blocks offsets entryPart blockPart allFields columns trailer bookBy decodeFrom decode number rising sound fitsBy namesOf isBookBy opened checkOf check
+check-kinds = refl
 
 -- ---- read back: 2, 3, 4
 
@@ -252,11 +302,12 @@ leftReport n = replicate n (5, 5)
 abbrev pub CardRow : Type 0
 CardRow = Bytes × ℕ × ℕ × ℕ
 
--- a trailer whose number of nodes is another makes no map; a book in which Marina's entry is worn has one
+-- a trailer whose number of nodes is another makes no map, nor does a column book; a book in which Marina's entry is worn has one
 abbrev pub cards : List CardRow
 cards =
     (set exampleBy2 85 5, 99, 2, 13) ∷ (set exampleBy2 85 5, 99, 1, 13) ∷ (set exampleBy2 85 5, 0, 2, 13) ∷ ([], 0, 0, 13)
-    ∷ (exampleBy2, 99, 1, 12) ∷ (exampleBy2, 99, 3, 12) ∷ (exampleBy2, 0, 1, 12) ∷ (exampleBy2, 24, 2, 4) ∷ (exampleBy2, 0, 2, 4) ∷ (broken, 13, 2, 4) ∷ (noNames, 0, 1, 12) ∷ []
+    ∷ (exampleBy2, 99, 1, 12) ∷ (exampleBy2, 99, 3, 12) ∷ (exampleBy2, 0, 1, 12) ∷ (exampleBy2, 24, 2, 4) ∷ (exampleBy2, 0, 2, 4) ∷ (broken, 13, 2, 4) ∷ (noNames, 0, 1, 12) ∷ (columnsBy2, 99, 2, 13) ∷ (columnsBy2, 99, 1, 13) ∷ (columnsBy2, 0, 2, 13)
+    ∷ (columnsOfNone, 0, 0, 13) ∷ []
 
 pub salvage-refusals : map (λ (c : CardRow). salvage (c .0) (lentRoom (c .1)) (leftReport (c .2))) cards ≡ map (λ (c : CardRow). record { answer = refused (c .3); room = lentRoom (c .1); rows = leftReport (c .2) }) cards
 unfolding shared less joined encode decode decodeFrom entry front rising boundsFrom climbs spansFrom mapped judgedAlone salvage salvageFrom number same begins
@@ -292,7 +343,7 @@ foldedMar =
 abbrev pub ClipRow : Type 0
 ClipRow = Bytes × Clips × Bytes
 
--- 2 before 16 before 1; Mar has its own clip, though three names begin so; one name begins with Mari; three with Ma, none with Mas
+-- 2 before 16 before 1; Mar has its own clip, though three names begin so; one name begins with Mari; three with Ma, none with Mas; a column book gets 2
 abbrev pub clipsAsked : List (ClipRow × Answer)
 clipsAsked =
     ((broken, clips3, text "Mar"), refused 2) ∷ ((broken, [], text "Mar"), refused 2) ∷ ((broken, clips3, over200), refused 2)
@@ -301,17 +352,18 @@ clipsAsked =
     ∷ ((exampleBy2, clips3, text "Mar"), given 1 511) ∷ ((exampleBy2, clips3, text "Marina"), given 1 300) ∷ ((exampleBy2, clips3, text "Mari"), given 1 300) ∷ ((exampleBy2, clips3, text "Mark"), given 1 65535)
     ∷ ((exampleBy2, clips3, text "Ma"), given 0 3) ∷ ((exampleBy2, clips3, []), given 0 3) ∷ ((exampleBy2, clips3, text "Mas"), given 0 0) ∷ ((exampleBy2, clips3, text "Marinas"), given 0 0)
     ∷ ((exampleBy2, clips3, replicate 200 77), given 0 0) ∷ ((noNames, [], []), given 0 0) ∷ ((noNames, [], text "Mar"), given 0 0)
-    ∷ ((foldedMar, 9 ∷ [], text "mar"), given 1 9) ∷ ((foldedMar, 9 ∷ [], text "mA"), given 1 9) ∷ ((foldedMar, 9 ∷ [], []), given 1 9) ∷ ((foldedMar, 9 ∷ [], text "mas"), given 0 0) ∷ []
+    ∷ ((foldedMar, 9 ∷ [], text "mar"), given 1 9) ∷ ((foldedMar, 9 ∷ [], text "mA"), given 1 9) ∷ ((foldedMar, 9 ∷ [], []), given 1 9) ∷ ((foldedMar, 9 ∷ [], text "mas"), given 0 0)
+    ∷ ((columnsBy2, clips3, text "Mar"), refused 2) ∷ ((columnsBy2, [], text "Mar"), refused 2) ∷ ((columnsBy2, clips3, over200), refused 2) ∷ ((columnsOfNone, [], []), refused 2) ∷ []
 
 pub clips-computed : map (λ (c : ClipRow × Answer). clipOf (c .0 .0) (c .0 .1) (c .0 .2)) clipsAsked ≡ map (λ (c : ClipRow × Answer). c .1) clipsAsked
-unfolding shared less begins same depth glue groups widest rowBy tableWithin nodeTable table numbers joined entry blocksFrom front blocks offsets entryPart blockPart allFields trailer bookBy decodeFrom decode number rising sound fitsBy namesOf isBookBy opened checkOf check count exactFrom exact place range ask mayEnd lit answer namesAnswer questionOf question refusal spoken clipOf
+unfolding shared less begins same depth glue groups widest rowBy tableWithin nodeTable table numbers joined entry blocksFrom front blocks offsets entryPart blockPart allFields columns trailer bookBy decodeFrom decode number rising sound fitsBy namesOf isBookBy opened checkOf check count exactFrom exact place range ask mayEnd lit answer namesAnswer questionOf question refusal spoken clipOf
 clips-computed = refl
 
 -- a book, a table, a route, how long the room is
 abbrev pub RouteRow : Type 0
 RouteRow = Bytes × Clips × List ℕ × ℕ
 
--- the answer, and the room afterwards: 2 before 16 before 12 before 3 before 4; the first bad position is told, whatever stands behind it
+-- the answer, and the room afterwards: 2 before 16 before 12 before 3 before 4; the first bad position is told, whatever stands behind it; a column book gets 2
 abbrev pub routesAsked : List (RouteRow × (Answer × Clips))
 routesAsked =
     ((exampleBy2, clips3, 3 ∷ [], 2), (numbered 3 0, lentRoom 2)) ∷ ((exampleBy2, clips3, 0 ∷ 2 ∷ 3 ∷ 1 ∷ [], 4), (numbered 3 2, lentRoom 4)) ∷ ((exampleBy2, clips3, 0 ∷ 70000 ∷ 1 ∷ 3 ∷ [], 4), (numbered 3 1, lentRoom 4)) ∷ ((exampleBy2, clips3, 0 ∷ 3 ∷ [], 0), (numbered 3 1, []))
@@ -321,7 +373,8 @@ routesAsked =
     ∷ ((exampleBy2, clips3, [], 2), (given 0 0, lentRoom 2)) ∷ ((noNames, [], [], 0), (given 0 0, [])) ∷ ((foldedMar, 9 ∷ [], 0 ∷ 0 ∷ [], 3), (given 4 0, 9 ∷ 9 ∷ 7 ∷ []))
     ∷ ((broken, clips3, 0 ∷ [], 2), (refused 2, lentRoom 2)) ∷ ((broken, [], 0 ∷ [], 2), (refused 2, lentRoom 2)) ∷ ((exampleBy2, take 2 clips3, 0 ∷ [], 2), (refused 16, lentRoom 2))
     ∷ ((exampleBy2, 1 ∷ clips3, replicate 121 0, 121), (refused 16, lentRoom 121)) ∷ ((exampleBy2, clips3, replicate 121 0, 121), (refused 12, lentRoom 121)) ∷ ((exampleBy2, clips3, replicate 121 3, 121), (refused 12, lentRoom 121))
-    ∷ ((exampleBy2, clips3, replicate 120 2, 119), (refused 4, lentRoom 119)) ∷ ((exampleBy2, clips3, replicate 120 1, 121), (given 240 0, replicate 120 300 ++ (7 ∷ []))) ∷ []
+    ∷ ((exampleBy2, clips3, replicate 120 2, 119), (refused 4, lentRoom 119)) ∷ ((exampleBy2, clips3, replicate 120 1, 121), (given 240 0, replicate 120 300 ++ (7 ∷ [])))
+    ∷ ((columnsBy2, clips3, 0 ∷ [], 2), (refused 2, lentRoom 2)) ∷ ((columnsBy2, [], 0 ∷ [], 2), (refused 2, lentRoom 2)) ∷ ((columnsOfNone, [], [], 0), (refused 2, [])) ∷ []
 
 -- a bad position behind two good ones: the room is as it was
 pub bad-route-kept : routeOf exampleBy2 clips3 (0 ∷ 2 ∷ 3 ∷ 1 ∷ []) (lentRoom 4) .room ≡ lentRoom 4
@@ -330,5 +383,55 @@ bad-route-kept = refl
 
 pub routes-computed : map (λ (c : RouteRow × (Answer × Clips)). routeOf (c .0 .0) (c .0 .1) (c .0 .2) (lentRoom (c .0 .3))) routesAsked
     ≡ map (λ (c : RouteRow × (Answer × Clips)). record { answer = c .1 .0; room = c .1 .1 }) routesAsked
-unfolding shared less begins same depth glue groups widest rowBy tableWithin nodeTable table numbers joined entry blocksFrom front blocks offsets entryPart blockPart allFields trailer bookBy decodeFrom decode number rising sound fitsBy namesOf isBookBy opened checkOf check refusal firstBad routeOf
+unfolding shared less begins same depth glue groups widest rowBy tableWithin nodeTable table numbers joined entry blocksFrom front blocks offsets entryPart blockPart allFields columns trailer bookBy decodeFrom decode number rising sound fitsBy namesOf isBookBy opened checkOf check refusal firstBad routeOf
 routes-computed = refl
+
+-- ---- a conversion: 2, 4
+
+-- a book, how long the room is; the answer, and the room afterwards
+abbrev pub ConvertRow : Type 0
+ConvertRow = Bytes × ℕ × (Answer × Bytes)
+
+-- no names: a room of just the length, a longer one, one that is a byte short, none; then bytes that are no book, a folded book and a column book: 2, also where the room is short
+abbrev pub toColumns : List ConvertRow
+toColumns =
+    (noNames, 16, (given 16 0, columnsOfNone)) ∷ (noNames, 17, (given 16 0, columnsOfNone ++ lentRoom 1)) ∷ (noNames, 15, (refused 4, lentRoom 15)) ∷ (noNames, 0, (refused 4, []))
+    ∷ (set noNames 2 0, 16, (refused 2, lentRoom 16)) ∷ (set noNames 2 0, 15, (refused 2, lentRoom 15)) ∷ ([], 3, (refused 2, lentRoom 3)) ∷ ([], 0, (refused 2, []))
+    ∷ (foldedNone, 16, (refused 2, lentRoom 16)) ∷ (foldedNone, 15, (refused 2, lentRoom 15)) ∷ (columnsOfNone, 16, (refused 2, lentRoom 16)) ∷ (columnsOfNone, 15, (refused 2, lentRoom 15)) ∷ []
+
+-- the same of column books, and 2 for a plain one
+abbrev pub fromColumns : List ConvertRow
+fromColumns =
+    (columnsOfNone, 16, (given 16 0, noNames)) ∷ (columnsOfNone, 17, (given 16 0, noNames ++ lentRoom 1)) ∷ (columnsOfNone, 15, (refused 4, lentRoom 15)) ∷ (columnsOfNone, 0, (refused 4, []))
+    ∷ (set columnsOfNone 2 0, 16, (refused 2, lentRoom 16)) ∷ (set columnsOfNone 2 0, 15, (refused 2, lentRoom 15)) ∷ ([], 3, (refused 2, lentRoom 3)) ∷ ([], 0, (refused 2, []))
+    ∷ (foldedNone, 16, (refused 2, lentRoom 16)) ∷ (foldedNone, 15, (refused 2, lentRoom 15)) ∷ (noNames, 16, (refused 2, lentRoom 16)) ∷ (noNames, 15, (refused 2, lentRoom 15)) ∷ []
+
+pub convert-refusals : (map (λ (c : ConvertRow). converted PlainBook ColumnBook (c .0) (lentRoom (c .1))) toColumns ≡ map (λ (c : ConvertRow). record { answer = c .2 .0; room = c .2 .1 }) toColumns)
+    × (map (λ (c : ConvertRow). converted ColumnBook PlainBook (c .0) (lentRoom (c .1))) fromColumns ≡ map (λ (c : ConvertRow). record { answer = c .2 .0; room = c .2 .1 }) fromColumns)
+unfolding shared less begins same depth glue groups widest rowBy tableWithin nodeTable table numbers joined entry blocksFrom front blocks offsets entryPart blockPart allFields columns trailer bookBy decodeFrom decode number rising sound fitsBy namesOf isBookBy opened convertedOf converted
+convert-refusals = (refl, refl)
+
+-- One name, three names by two and by four: rooms of just the length, longer ones, and those that are a byte short. Then 2 again: for a damaged book, folded books and column
+-- books, in a room that would hold them and in a short one.
+abbrev pub toColumnsMore : List ConvertRow
+toColumnsMore =
+    (oneName, 33, (given 33 0, columnsOfOne)) ∷ (oneName, 35, (given 33 0, columnsOfOne ++ lentRoom 2)) ∷ (oneName, 32, (refused 4, lentRoom 32))
+    ∷ (exampleBy2, 93, (given 93 0, columnsBy2)) ∷ (exampleBy2, 96, (given 93 0, columnsBy2 ++ lentRoom 3)) ∷ (exampleBy2, 92, (refused 4, lentRoom 92))
+    ∷ (exampleBy4, 88, (given 88 0, columnsBy4)) ∷ (exampleBy4, 93, (given 88 0, columnsBy4 ++ lentRoom 5)) ∷ (exampleBy4, 87, (refused 4, lentRoom 87))
+    ∷ (broken, 93, (refused 2, lentRoom 93)) ∷ (broken, 92, (refused 2, lentRoom 92)) ∷ (foldedMar, 35, (refused 2, lentRoom 35)) ∷ (foldedMar, 34, (refused 2, lentRoom 34))
+    ∷ (set exampleBy2 91 0x46, 93, (refused 2, lentRoom 93)) ∷ (set exampleBy2 91 0x46, 92, (refused 2, lentRoom 92)) ∷ (columnsOfOne, 33, (refused 2, lentRoom 33)) ∷ (columnsOfOne, 32, (refused 2, lentRoom 32))
+    ∷ (columnsBy2, 93, (refused 2, lentRoom 93)) ∷ (columnsBy2, 92, (refused 2, lentRoom 92)) ∷ []
+
+abbrev pub fromColumnsMore : List ConvertRow
+fromColumnsMore =
+    (columnsOfOne, 33, (given 33 0, oneName)) ∷ (columnsOfOne, 35, (given 33 0, oneName ++ lentRoom 2)) ∷ (columnsOfOne, 32, (refused 4, lentRoom 32))
+    ∷ (columnsBy2, 93, (given 93 0, exampleBy2)) ∷ (columnsBy2, 96, (given 93 0, exampleBy2 ++ lentRoom 3)) ∷ (columnsBy2, 92, (refused 4, lentRoom 92))
+    ∷ (columnsBy4, 88, (given 88 0, exampleBy4)) ∷ (columnsBy4, 93, (given 88 0, exampleBy4 ++ lentRoom 5)) ∷ (columnsBy4, 87, (refused 4, lentRoom 87))
+    ∷ (set columnsBy2 5 2, 93, (refused 2, lentRoom 93)) ∷ (set columnsBy2 5 2, 92, (refused 2, lentRoom 92)) ∷ (foldedMar, 35, (refused 2, lentRoom 35)) ∷ (foldedMar, 34, (refused 2, lentRoom 34))
+    ∷ (set exampleBy2 91 0x46, 93, (refused 2, lentRoom 93)) ∷ (set exampleBy2 91 0x46, 92, (refused 2, lentRoom 92)) ∷ (oneName, 33, (refused 2, lentRoom 33)) ∷ (oneName, 32, (refused 2, lentRoom 32))
+    ∷ (exampleBy2, 93, (refused 2, lentRoom 93)) ∷ (exampleBy2, 92, (refused 2, lentRoom 92)) ∷ []
+
+pub converts-computed : (map (λ (c : ConvertRow). converted PlainBook ColumnBook (c .0) (lentRoom (c .1))) toColumnsMore ≡ map (λ (c : ConvertRow). record { answer = c .2 .0; room = c .2 .1 }) toColumnsMore)
+    × (map (λ (c : ConvertRow). converted ColumnBook PlainBook (c .0) (lentRoom (c .1))) fromColumnsMore ≡ map (λ (c : ConvertRow). record { answer = c .2 .0; room = c .2 .1 }) fromColumnsMore)
+unfolding shared less begins same depth glue groups widest rowBy tableWithin nodeTable table numbers joined entry blocksFrom front blocks offsets entryPart blockPart allFields columns trailer bookBy decodeFrom decode number rising sound fitsBy namesOf isBookBy opened convertedOf converted
+converts-computed = (refl, refl)
