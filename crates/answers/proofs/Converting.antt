@@ -2,6 +2,7 @@
 --     one-kind          a mark is one kind's
 --     convert-unsound, convert-other     bytes that are no book; a book of another kind
 --     convert-short, convert-written     too little room; the book of the other kind
+--     convert-kept      a refused conversion changes nothing; another one nothing behind the bytes that it counts
 -- Assumes nothing.
 use Prim.Native.Nat.{ℕ, _≤_, _<_}
 use mathlib.Core.Path.{_≡_, refl, sym, ap, _∙_}
@@ -13,9 +14,10 @@ use borrow.Author.Tests.{le-leb, lt-leb}
 use Rattle.words.specs.Words.{Bytes, pick, same}
 use Rattle.words.proofs.Words.{false≠true, same-refl, same-true}
 use Rattle.format.specs.Kinds.{BookKind, allKinds, markOf, markedAs}
-use Rattle.format.specs.Book.{Book, NoBook, book, opened}
+use Rattle.format.specs.Book.{Book, NoBook, Opened, book, opened}
 use Rattle.format.specs.Outcomes.{Written, given, over, refused, write}
 use Rattle.format.proofs.BookKinds.{third-tells}
+use Rattle.format.proofs.Outcomes.{Kept, picked, same-kept, write-kept}
 use Rattle.answers.specs.Converting.{converted, convertedOf}
 
 -- a mark is one kind's
@@ -50,3 +52,15 @@ module _ (from to : BookKind) (s room : Bytes) where
 
       pub convert-written : length (book to k xs) ≤ length room → record { answer = given (length (book to k xs)) 0; room = over (book to k xs) room } ≡ converted from to s room
       convert-written h = sym (ap (λ (t : Bool). pick t (record { answer = given (length (book to k xs)) 0; room = over (book to k xs) room }) (record { answer = refused 4; room = room })) (le-leb (length (book to k xs)) (length room) h)) ∙ taken
+
+-- ---- what is left as it was
+
+module _ (from to : BookKind) (room : Bytes) where
+  of-kept : (o : Opened) → Kept room (convertedOf from to room o)
+  unfolding convertedOf
+  of-kept NoBook = same-kept room (refused 2)
+  of-kept (Book κ k xs) = picked (Kept room) (same (markOf κ) (markOf from)) (write-kept room (book to k xs)) (same-kept room (refused 2))
+
+  pub convert-kept : (s : Bytes) → Kept room (converted from to s room)
+  unfolding converted
+  convert-kept s = of-kept (opened s)

@@ -5,7 +5,6 @@
 --     folded-typed      questions that are equal once folded get one answer
 --     names-once        no two names of a book have the same symbols: of a folded one, no two are equal once folded
 --     marks-apart       a list without capitals has one book in both kinds, but for the mark
---     salvage-refuses   a salvage takes no bytes that are marked as folded
 --     example-folded, folded-rows     the folded book of MAR and marina, byte for byte, and questions to it, computed
 --     folded-doubles, plain-doubles   Mar and mar: refused as one name twice; and a plain book of two names, in their order
 -- Assumes nothing.
@@ -17,21 +16,20 @@ use mathlib.Core.Logic.{_⊎_, inl, inr}
 use mathlib.Core.Bool.{Bool, true, false, not, _||_}
 use mathlib.Core.List.{List, [], _∷_, _++_, append-assoc, map}
 use lib.Dec.{eqb, leb, ltb}
-use lib.ListN.{List·getD-map, drop, getD, length, length-append, length-map, take}
-use lib.Seq.{getD-drop, take-append-seam}
+use lib.ListN.{List·getD-map, getD, length, length-append, length-map, take}
+use lib.Seq.{take-append-seam}
 use borrow.Author.Tests.{le-leb, lt-leb}
 use Rattle.words.specs.Words.{Bytes, Rule, Words, begins, both, less, pick, plain, same, shared, word}
-use Rattle.words.proofs.Words.{apart, false≠true, less-irrefl, plain-injective, same-true}
+use Rattle.words.proofs.Words.{apart, false≠true, less-irrefl, plain-injective}
 use Rattle.format.specs.Book.{Book, NoBook, Opened, blockPart, book, bookBy, entryPart, fitsBy, isBookBy, joined, namesOf, number, numbers, opened, trailer, trailerSize}
 use Rattle.format.specs.Entries.{blocks, blocksFrom, decode, decodeFrom, entry, front, offsets}
 use Rattle.format.specs.Example.{text}
 use Rattle.format.specs.Folded.{capital, folded}
-use Rattle.format.specs.Kinds.{BookKind, FoldedBook, PlainBook, Rows, allKinds, kindOf, markOf, markedAs, ruleOf}
+use Rattle.format.specs.Kinds.{BookKind, FoldedBook, PlainBook, Rows, kindOf, markOf, ruleOf}
 use Rattle.format.specs.Layout.{Layout}
 use Rattle.format.specs.Nodes.{depth, glue, groups, rowBy, table, tableWithin, allFields}
 use Rattle.format.specs.Outcomes.{Answer, given, numbered, over, refused}
 use Rattle.format.specs.Records.{encode, longest, readFrom, readList, rising, sound}
-use Rattle.format.specs.Salvage.{mapped}
 use Rattle.format.specs.Spans.{nodeTable}
 use Rattle.format.specs.Widths.{widest}
 use Rattle.format.proofs.Book.{body, book-split, opened-kind, trailerNumbers}
@@ -40,9 +38,7 @@ use Rattle.format.proofs.BookKinds.{kind-layout, small-rule}
 use Rattle.answers.specs.Calls.{build, buildBy, builtFrom, namesAnswer, question, questionOf}
 use Rattle.answers.specs.Lit.{inCharacter, lit, mayEnd}
 use Rattle.answers.specs.Questions.{Pair, answer, ask, childOf, count, exact, exactFrom, nearest, place, range, reachWithin, reached}
-use Rattle.answers.specs.Salvage.{cardBlocks, salvage, salvageFrom}
 use Rattle.answers.specs.Widths.{width}
-use Rattle.answers.proofs.Salvage.{mapped-parts}
 use Rattle.theorems.specs.Demands.{BookOf}
 use Rattle.theorems.specs.Folding.{NoCapitals, foldedBy2, foldedNames, foldedRows, spelledTwice}
 use Rattle.theorems.proofs.Lists.{build-writes}
@@ -170,27 +166,6 @@ module _ (k : ℕ) (xs : List Bytes) where
 
   pub marks-apart : NoCapitals xs → book FoldedBook k xs ≡ take (length (book PlainBook k xs) - 4) (book PlainBook k xs) ++ markOf FoldedBook
   marks-apart a = book-before (kind-layout FoldedBook) ∙ ap (λ (s : Bytes). s ++ markOf FoldedBook) (ap before (small-words xs a) ∙ sym (marked-off (kind-layout PlainBook)))
-
--- ---- a worn card
-
--- whatever else the bytes are
-pub salvage-refuses : (s : Bytes) → kindOf s ≡ FoldedBook → (room : Bytes) (rows : List (ℕ × ℕ)) → salvage s room rows ≡ record { answer = refused 13; room = room; rows = rows }
-unfolding salvage
-salvage-refuses s is room rows = go (mapped s) refl
-  where
-    -- where the map makes sense, the mark's third byte is the plain one
-    third : mapped s ≡ true → getD s (length s - 2) 0 ≡ 0x4B
-    third e =
-        let m = mapped-parts s e in
-        let there : length s - 2 ≡ length s - 4 + 2 = omega (arith, m .sized) in
-        ap (λ (i : ℕ). getD s i 0) there ∙ sym (getD-drop (length s - 4) s 2 0) ∙ ap (λ (t : Bytes). getD t 2 0) (same-true (drop (length s - 4) s) (markOf PlainBook) (m .marked))
-
-    go : (t : Bool) → mapped s ≡ t → pick t (salvageFrom (cardBlocks s) room rows) (record { answer = refused 13; room = room; rows = rows }) ≡ record { answer = refused 13; room = room; rows = rows }
-    go false e = refl
-    go true e =
-        let plain-one : kindOf s ≡ PlainBook = ap (λ (b : ℕ). markedAs b allKinds) (third e) in
-        let z : _≡_ {A = ℕ} 0x4B 0x46 = ap (λ (κ : BookKind). getD (markOf κ) 2 0) (sym plain-one ∙ is) in
-        absurd (omega arith)
 
 -- ---- computed
 

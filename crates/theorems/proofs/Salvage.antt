@@ -5,21 +5,22 @@
 --     salvage-whole     of a sound book everything is kept, and what is written is the list again
 --     salvage-faithful  nothing is made up: a kept block's names are 1 to 200 bytes long, rise, are as many as they should be, and its
 --                       span is their entries
+--     salvage-refuses   no bytes are taken that have the mark of another kind than the plain one, whatever else they are
 --     salvage-settles, kept-settle     two results that the statement allows coincide, in the answer, in every byte and in every row
 --     example-worn, example-sound, example-differs, example-apart     document 01's book by two, with one byte of its first block changed
 -- Assumes nothing.
-use Prim.Native.Nat.{ℕ, suc, _-_, _≤_, _<_, zero-le}
+use Prim.Native.Nat.{ℕ, suc, _+_, _-_, _≤_, _<_, zero-le}
 use native.Mathlib.Omega.{arith}
 use mathlib.Core.Path.{_≡_, refl, sym, ap, ap₂, _∙_, subst}
 use mathlib.Core.Bool.{Bool, false, true}
 use mathlib.Core.List.{List, [], _∷_, _++_, map, map-append, map-map}
 use lib.ListN.{drop, getD, length, length-map, replicate, take}
-use lib.Seq.{take-append-seam}
+use lib.Seq.{getD-drop, take-append-seam}
 use borrow.Author.Tests.{le-leb, leb-true}
 use Rattle.words.specs.Words.{Bytes, begins, both, less, pick, plain, same, shared}
 use Rattle.words.proofs.Lists.{all-at}
-use Rattle.words.proofs.Words.{false≠true, plain-sure, same-refl}
-use Rattle.format.specs.Kinds.{PlainBook, Rows, markOf}
+use Rattle.words.proofs.Words.{false≠true, plain-sure, same-refl, same-true}
+use Rattle.format.specs.Kinds.{PlainBook, Rows, allKinds, kindOf, markOf, markedAs}
 use Rattle.format.specs.Layout.{Layout}
 use Rattle.format.specs.Book.{book, joined, number, told, trailerSize}
 use Rattle.format.specs.Entries.{blocksFrom, decode, decodeFrom, entry, front}
@@ -203,6 +204,23 @@ salvage-faithful s room rows z =
     alone i xs e =
         let a = whole-alone _ _ xs e in
         record { count = a .count; sizes = all-at [] xs (rising-sizes plain [] xs (a .rises)); rises = rising-less plain xs (sure-symbols plain plain-sure xs) (a .rises); entries = a .entries }
+
+-- ---- the mark
+
+pub salvage-refuses : (s : Bytes) → (kindOf s ≡ PlainBook → ⊥) → (room : Bytes) (rows : List (ℕ × ℕ)) → salvage s room rows ≡ record { answer = refused 13; room = room; rows = rows }
+unfolding salvage
+salvage-refuses s other room rows = go (mapped s) refl
+  where
+    -- where the map makes sense, the mark's third byte is the plain one
+    third : mapped s ≡ true → getD s (length s - 2) 0 ≡ 0x4B
+    third e =
+        let m = mapped-parts s e in
+        let there : length s - 2 ≡ length s - 4 + 2 = omega (arith, m .sized) in
+        ap (λ (i : ℕ). getD s i 0) there ∙ sym (getD-drop (length s - 4) s 2 0) ∙ ap (λ (t : Bytes). getD t 2 0) (same-true (drop (length s - 4) s) (markOf PlainBook) (m .marked))
+
+    go : (t : Bool) → mapped s ≡ t → pick t (salvageFrom (cardBlocks s) room rows) (record { answer = refused 13; room = room; rows = rows }) ≡ record { answer = refused 13; room = room; rows = rows }
+    go false e = refl
+    go true e = absurd (other (ap (λ (b : ℕ). markedAs b allKinds) (third e)))
 
 -- ---- two results that the statement allows
 
