@@ -6,28 +6,38 @@
 --     turned-answer, turned-counted, turned-batch     both give the same answers, look equally far, and fill a batch's rows alike
 --     converted-iff     a book is turned just where it is one of the kind that is asked for, and the room holds it
 --     convert-settles   two results that the call's statement allows coincide
+--     turned-met, example-turned     on the document's book by two all that is asked of a book that is turned holds; that book turned, and turned back
 -- Assumes nothing.
 use Prim.Native.Nat.{ℕ, _+_, _*_, _≤_}
 use native.Mathlib.Omega.{arith}
 use mathlib.Core.Path.{_≡_, refl, sym, ap, ap₂, _∙_, subst}
 use mathlib.Core.Logic.{_↔_, inl, inr}
 use mathlib.Core.Bool.{Bool, true}
-use mathlib.Core.List.{List, map}
+use mathlib.Core.List.{List, _++_, map}
 use lib.Dec.{eqb, leb}
 use lib.ListN.{drop, length, take}
 use lib.Seq.{take-append-seam}
-use Rattle.words.specs.Words.{Bytes, InBytes, Rule, both, pick, word}
+use borrow.Author.Tests.{leb-true}
+use Rattle.words.specs.Words.{Bytes, InBytes, Rule, begins, both, less, pick, same, shared, word}
 use Rattle.words.proofs.Words.{apart}
-use Rattle.format.specs.Kinds.{BookKind, countIn, formOf, ruleOf}
-use Rattle.format.specs.Nodes.{nodeSize, table}
-use Rattle.format.specs.Book.{Book, NoBook, Opened, book, fits, opened}
+use Rattle.format.specs.Kinds.{BookKind, ColumnBook, PlainBook, countIn, formOf, ruleOf}
+use Rattle.format.specs.Nodes.{allFields, depth, glue, groups, nodeSize, rowBy, table, tableWithin}
+use Rattle.format.specs.Book.{Book, NoBook, Opened, blockPart, book, bookBy, entryPart, fits, fitsBy, isBookBy, joined, namesOf, number, numbers, opened, trailer}
+use Rattle.format.specs.Columns.{columns}
+use Rattle.format.specs.Entries.{blocks, blocksFrom, decode, decodeFrom, entry, front, offsets}
+use Rattle.format.specs.Example.{example, exampleBy2, text}
 use Rattle.format.specs.Outcomes.{Answer, Written, given, over, refused}
-use Rattle.format.specs.Records.{sound}
+use Rattle.format.specs.Records.{rising, sound}
+use Rattle.format.specs.Spans.{nodeTable}
+use Rattle.format.specs.Widths.{widest}
 use Rattle.format.proofs.Book.{book-length, book-opened, fits-parts, node-length, node-number, opened-book, parts-fits}
 use Rattle.format.proofs.BookKinds.{kind-layout}
 use Rattle.answers.specs.Calls.{Batched, Row, batch, batchOf, goodRow, namesAnswer, question, questionOf, rowAnswer}
 use Rattle.answers.specs.Converting.{converted}
-use Rattle.answers.specs.Counts.{countedOf, countedQuestion, namesCounted}
+use Rattle.answers.specs.Counts.{countedOf, countedQuestion, entries, namesCounted, visits}
+use Rattle.answers.specs.Lit.{lit, mayEnd}
+use Rattle.answers.specs.Questions.{answer, ask, childOf, count, exact, exactFrom, reachWithin, reached}
+use Rattle.answers.proofs.AllRefusals.{columnsBy2, lentRoom}
 use Rattle.answers.proofs.Converting.{convert-other, convert-short, convert-unsound, convert-written, one-kind}
 use Rattle.theorems.specs.Demands.{BookOf}
 use Rattle.theorems.proofs.Books.{accepted-iff}
@@ -115,3 +125,20 @@ converted-iff κ μ one s room bytes = (λ h. there (opened s) refl h, λ b. ap 
 
 pub convert-settles : (κ μ : BookKind) (s room : Bytes) (a b : Written) → a ≡ converted κ μ s room → b ≡ converted κ μ s room → (a .answer ≡ b .answer) × (a .room ≡ b .room)
 convert-settles κ μ s room a b = written-settles (converted κ μ s room) a b
+
+-- ---- the premises can be met
+
+-- what is asked of two kinds and of a book of either kind holds of the document's book by two and of its column book, which give the same to a question
+pub turned-met : (ruleOf PlainBook ≡ ruleOf ColumnBook) × (opened exampleBy2 ≡ Book PlainBook 2 example) × (opened columnsBy2 ≡ Book ColumnBook 2 example) × (book ColumnBook 2 example ≡ columnsBy2)
+    × (countedQuestion 1 columnsBy2 (text "Marina") ≡ record { answer = given 1 1; visits = 2; entries = 2 })
+unfolding shared less begins same depth glue groups widest rowBy tableWithin nodeTable table numbers joined entry blocksFrom front blocks offsets entryPart blockPart allFields columns trailer bookBy decodeFrom decode number rising sound fitsBy namesOf isBookBy opened childOf reachWithin reached count exactFrom exact ask mayEnd lit answer namesAnswer visits entries namesCounted countedOf countedQuestion
+turned-met = (refl, refl, refl, refl, refl)
+
+-- into a room that has three bytes more, and from there into one that has two bytes more
+pub example-turned : let w = converted PlainBook ColumnBook exampleBy2 (lentRoom 96) in
+    (w ≡ record { answer = given 93 0; room = columnsBy2 ++ lentRoom 3 }) × (converted ColumnBook PlainBook (take (w .answer .first) (w .room)) (lentRoom 95) ≡ record { answer = given 93 0; room = exampleBy2 ++ lentRoom 2 })
+example-turned =
+    let enough : (n : ℕ) → leb 93 n ≡ true → 93 ≤ n = leb-true 93 in (
+      turned-book PlainBook ColumnBook refl 2 example exampleBy2 (turned-met .1) (lentRoom 96) (enough 96 refl) ∙ ap (λ (s : Bytes). record { answer = given 93 0; room = over s (lentRoom 96) }) (turned-met .3),
+      turned-back PlainBook ColumnBook refl 2 example exampleBy2 (turned-met .1) (lentRoom 96) (lentRoom 95) (enough 96 refl) (enough 95 refl),
+    )
