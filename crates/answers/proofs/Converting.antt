@@ -1,5 +1,5 @@
 -- Laws of the conversion, way by way.
---     one-kind          a mark is one kind's
+--     one-kind, marks-same, marks-differ     a mark is one kind's
 --     convert-unsound, convert-other     bytes that are no book; a book of another kind
 --     convert-short, convert-written     too little room; the book of the other kind
 --     convert-kept      a refused conversion changes nothing; another one nothing behind the bytes that it counts
@@ -20,15 +20,18 @@ use Rattle.format.proofs.BookKinds.{third-tells}
 use Rattle.format.proofs.Outcomes.{Kept, picked, same-kept, write-kept}
 use Rattle.answers.specs.Converting.{converted, convertedOf}
 
+pub marks-same : (κ μ : BookKind) → κ ≡ μ → same (markOf κ) (markOf μ) ≡ true
+marks-same κ μ e = ap (λ (ν : BookKind). same (markOf κ) (markOf ν)) (sym e) ∙ same-refl (markOf κ)
+
 -- a mark is one kind's
 pub one-kind : (κ μ : BookKind) → (κ ≡ μ) ⊎ ((κ ≡ μ → ⊥) × (same (markOf κ) (markOf μ) ≡ false))
 one-kind κ μ = go (same (markOf κ) (markOf μ)) refl
   where
     go : (t : Bool) → same (markOf κ) (markOf μ) ≡ t → (κ ≡ μ) ⊎ ((κ ≡ μ → ⊥) × (same (markOf κ) (markOf μ) ≡ false))
     go true e = inl (sym (third-tells κ) ∙ ap (λ (m : Bytes). markedAs (getD m 2 0) allKinds) (same-true (markOf κ) (markOf μ) e) ∙ third-tells μ)
-    go false e = inr (λ q. false≠true (sym e ∙ ap (λ (ν : BookKind). same (markOf κ) (markOf ν)) (sym q) ∙ same-refl (markOf κ)), e)
+    go false e = inr (λ q. false≠true (sym e ∙ marks-same κ μ q), e)
 
-marks-differ : (κ μ : BookKind) → (κ ≡ μ → ⊥) → same (markOf κ) (markOf μ) ≡ false
+pub marks-differ : (κ μ : BookKind) → (κ ≡ μ → ⊥) → same (markOf κ) (markOf μ) ≡ false
 marks-differ κ μ n = elim (one-kind κ μ) [ inl e ↦ absurd (n e) | inr d ↦ d .1 ]
 
 module _ (from to : BookKind) (s room : Bytes) where
@@ -44,8 +47,7 @@ module _ (from to : BookKind) (s room : Bytes) where
     module _ (own : κ ≡ from) where
       taken : write (book to k xs) room ≡ converted from to s room
       unfolding converted convertedOf
-      taken = sym (ap (convertedOf from to room) opens ∙ ap (λ (t : Bool). pick t (write (book to k xs) room) (record { answer = refused 2; room = room }))
-          (ap (λ (μ : BookKind). same (markOf κ) (markOf μ)) (sym own) ∙ same-refl (markOf κ)))
+      taken = sym (ap (convertedOf from to room) opens ∙ ap (λ (t : Bool). pick t (write (book to k xs) room) (record { answer = refused 2; room = room })) (marks-same κ from own))
 
       pub convert-short : length room < length (book to k xs) → record { answer = refused 4; room = room } ≡ converted from to s room
       convert-short h = sym (ap (λ (t : Bool). pick t (record { answer = given (length (book to k xs)) 0; room = over (book to k xs) room }) (record { answer = refused 4; room = room })) (lt-leb (length (book to k xs)) (length room) h)) ∙ taken

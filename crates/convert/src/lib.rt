@@ -11,7 +11,7 @@ ghost use Rattle.format.specs.Outcomes.{over};
 ghost use Rattle.answers.specs.Converting.{converted};
 ghost use Rattle.kinds.specs.Known.{kindBy};
 ghost use Rattle.shapes.specs.Shapes.{written};
-ghost use Rattle.convert.specs.Turns.{OtherAsk, Turns, turnFor};
+ghost use Rattle.convert.specs.Turns.{OtherAsk, Turns, turnFor, turnRefusal};
 
 // How a table is turned: so many rows of so many numbers, and how far apart the numbers of a row stand.
 pub struct Turn {
@@ -72,6 +72,21 @@ fn write_other(book: &[u8], t: trailer::Trailer, kind: Kind, room: &mut [u8])
     );
 }
 
+// What refuses a sound book of a kind and of so many bytes, where there is room for so many: 2, then 4; 0 where neither does.
+fn refused_by(own: Kind, from: Kind, size: usize, room: usize) -> usize
+    ensures { λ r. ⌜ r ≡ turnRefusal (kindBy own) (kindBy from) size room ⌝ }
+{
+    let back = kinds::mark_back(own);
+    let wanted = kinds::mark_back(from);
+    if back != wanted {
+        return 2;
+    }
+    if room < size {
+        return 4;
+    }
+    0
+}
+
 // A book of one kind as one of the other, at the front of the room. Refusals: 2, also for a book of another kind; 4.
 pub fn convert(book: &[u8], from: Kind, to: Kind, room: &mut [u8]) -> Answer
     requires { ⌜ Turns (kindBy from) (kindBy to) ⌝ }
@@ -82,11 +97,9 @@ pub fn convert(book: &[u8], from: Kind, to: Kind, room: &mut [u8]) -> Answer
         accept::Checked::Unsound => shapes::refuse(2, 0),
         accept::Checked::Sound(t) => {
             let own = t.kind;
-            if kinds::mark_back(own) != kinds::mark_back(from) {
-                return shapes::refuse(2, 0);
-            }
-            if room.len() < book.len() {
-                return shapes::refuse(4, 0);
+            let refused = refused_by(own, from, book.len(), room.len());
+            if refused != 0 {
+                return shapes::refuse(refused, 0);
             }
             write_other(book, t, to, room);
             Answer {

@@ -2,11 +2,12 @@
 --     marked-folded, marked-columns, marked-plain     the third byte of a mark tells the kind
 --     kind-told         a kind of book, told by the code's kind for it
 --     mark-plain, mark-folded, mark-columns     the back of a mark, by the three tests
+--     back-tells, same-backs     the back of a mark tells its kind; one back is one kind's
 --     rule-told         the rule of a kind
 --     by-arm            the arm that was taken for a kind gives what the kind has
 --     nodes-size, full-told     records of nodes; a full book has them in rows
 -- Assumes nothing.
-use Prim.Native.Nat.{ℕ}
+use Prim.Native.Nat.{ℕ, _%_}
 use mathlib.Core.Path.{_≡_, refl, sym, ap, _∙_}
 use mathlib.Core.Bool.{Bool, true, false}
 use lib.Dec.{eqb}
@@ -59,6 +60,15 @@ mark-columns back plain folded = go (eqb back 0x3243) refl
         none PlainBook e = plain e
         none FoldedBook e = folded e
         none ColumnBook e = eqb-false back 0x3243 q e
+
+-- the back of a mark tells its kind
+back-tells : (κ : BookKind) → markedAs (markBack κ % 256) allKinds ≡ κ
+back-tells PlainBook = refl
+back-tells FoldedBook = refl
+back-tells ColumnBook = refl
+
+pub same-backs : (κ μ : BookKind) → markBack κ ≡ markBack μ → κ ≡ μ
+same-backs κ μ e = sym (back-tells κ) ∙ ap (λ (n : ℕ). markedAs (n % 256) allKinds) e ∙ back-tells μ
 
 -- the rule of a kind, as the definitions have it
 pub rule-told : (kind : Kind) (rule : Rule) → rule ≡ byKind (kindBy kind) → ruleBy rule ≡ ruleOf (kindBy kind)
