@@ -6,13 +6,13 @@
 --     sizes-are, table-fits, ..       the sizes, by counting
 --     trailer-is                      the trailer as eight numbers
 --     book-size                       the length, by the sizes
---     put, blocks-part, table-part, book-lent      three parts, each from where the one before ended, are the book
+--     blocks-part, table-part, book-lent      three parts, each from where the one before ended, are the book
 -- Assumes nothing.
 use Prim.Native.Nat.{ℕ, zero, suc, _+_, _-_, _*_, _≤_}
 use native.Mathlib.Nat.{mul-le-mul}
 use native.Mathlib.Omega.{arith}
 use mathlib.Core.Path.{_≡_, refl, sym, ap, ap₂, _∙_, subst}
-use mathlib.Core.List.{List, [], _∷_, _++_, map, append-assoc}
+use mathlib.Core.List.{List, [], _∷_, _++_, map}
 use lib.ListN.{length, take, drop, length-append}
 use mir.Val.{Fits}
 use mir.Syntax.{w64}
@@ -24,12 +24,12 @@ use Rattle.format.specs.Book.{blockPart, book, entryPart, numbers, trailer}
 use Rattle.format.specs.Spans.{nodePart}
 use Rattle.format.specs.Nodes.{table, nodeSize}
 use Rattle.format.proofs.BookKinds.{kind-layout, mark-length}
-use Rattle.format.proofs.Book.{book-length, book-parts, full-nodes, node-length, node-number, table-length, trailerAt, trailerNumbers}
+use Rattle.format.proofs.Book.{book-length, book-three, full-nodes, node-length, node-number, table-length, trailerAt, trailerNumbers}
 use Rattle.format.proofs.Numbers.{numbers-length}
 use Rattle.format.proofs.Groups.{table-empty}
 use Rattle.format.proofs.Spans.{table-few}
 use Rattle.format.specs.Outcomes.{over}
-use Rattle.numbers.proofs.Parts.{lent, over-length, part-length}
+use Rattle.numbers.proofs.Parts.{lent, over-length, part-length, parts-put, put}
 use Rattle.records.specs.Lists.{names, words}
 use Rattle.records.proofs.Starts.{ready-rises, words-length}
 use Rattle.symbols.specs.Rules.{ruleBy}
@@ -41,10 +41,6 @@ use Rattle.nodes.specs.Writing.{NodesAsk, NodesPut}
 use Rattle.counting.specs.Counting.{NodeCount}
 use Rattle.blocks.specs.Writing.{LengthsAre, SumsAre}
 use Rattle.assembly.specs.Whole.{BuildAsk, RecordCount, Sized, TablePut}
-
--- a room with a part of it lent and filled
-abbrev pub put : Bytes → ℕ → ℕ → Bytes → Bytes
-put room from to x = take from room ++ (x ++ drop (to - from) (drop from room))
 
 -- ---- the table by its form
 
@@ -159,9 +155,6 @@ module _ {κ : BookKind} {s : Bytes} {n : ℕ} {lens counts shares : List ℕ} {
           part-length r₁ nodes (total - 16 - nodes) (omega (arith, ap length p₁ ∙ over-length x room (omega (arith, l₁, z .whole)), z .whole)) ∙ omega (arith, z .whole)
 
       module _ (w v : Bytes) (q : TablePut κ s (take (total - 16 - nodes) (drop nodes (put room 0 nodes x))) w) (v-is : v ≡ trailer (markOf κ) n k blocks nodes count total) where
-        abbrev r₂ : Bytes
-        r₂ = put r₁ nodes (total - 16) w
-
         w-is : w ≡ numbers (tableIn (formOf κ) (ruleOf κ) (names s))
         w-is = q .put (a .full) (table-part ∙ ap (λ (i : ℕ). i * recordSize (formOf κ)) (z .number))
 
@@ -173,22 +166,12 @@ module _ {κ : BookKind} {s : Bytes} {n : ℕ} {lens counts shares : List ℕ} {
             ap length (v-is ∙ trailer-is) ∙ length-append (numbers (trailerNumbers (kind-layout κ) k (names s))) (markOf κ)
             ∙ omega (arith, numbers-length (trailerNumbers (kind-layout κ) k (names s)), mark-length κ)
 
-        p₂ : r₂ ≡ over (x ++ w) room
-        p₂ = lent x room r₁ w nodes (total - 16 - nodes) p₁ l₁ (omega (arith, z .whole)) l₂
-
         parts : (x ++ w) ++ v ≡ book κ k (names s)
         parts =
-            let es : Bytes = entryPart k (names s) in
-            let bs : Bytes = blockPart k (names s) in
-            let ns : Bytes = numbers (tableIn (formOf κ) (ruleOf κ) (names s)) in
+            let front : Bytes = entryPart k (names s) ++ blockPart k (names s) in
             let end : Bytes = numbers (trailerNumbers (kind-layout κ) k (names s)) ++ markOf κ in
-            let grouped : ((es ++ bs) ++ ns) ++ end ≡ es ++ (bs ++ (ns ++ end)) = simp append-assoc in
-            ap₂ (λ (i j : Bytes). (i ++ w) ++ j) x-is (v-is ∙ trailer-is)
-            ∙ ap (λ (i : Bytes). ((es ++ bs) ++ i) ++ end) w-is
-            ∙ grouped ∙ sym (book-parts (kind-layout κ) k (names s))
+            ap₂ (λ (i j : Bytes). (i ++ w) ++ j) x-is (v-is ∙ trailer-is) ∙ ap (λ (i : Bytes). (front ++ i) ++ end) w-is ∙ sym (book-three (kind-layout κ) k (names s))
 
         pub book-lent : put (put (put room 0 nodes x) nodes (total - 16) w) (total - 16) total v ≡ over (book κ k (names s)) room
         book-lent =
-            lent (x ++ w) room r₂ v (total - 16) (total - (total - 16)) p₂ (length-append x w ∙ omega (arith, l₁, l₂, z .whole)) (omega (arith, z .whole))
-            (l₃ ∙ omega (arith, z .whole))
-            ∙ ap (λ (i : Bytes). over i room) parts
+            parts-put x room r₁ w v nodes (total - 16) total p₁ l₁ (omega (arith, l₂, z .whole)) (omega (arith, l₃, z .whole)) big ∙ ap (λ (i : Bytes). over i room) parts

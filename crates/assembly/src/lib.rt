@@ -1,5 +1,6 @@
 // The book of a judged list, put together: its sizes, by counting, and then three writers, each on its own part of the room. What a kind of
-// book has of its own is its rule, its table and its mark: the table is counted and written by its form.
+// book has of its own is its rule, its table and its mark. A table has as many records as there are nodes, whatever its form; only rows are
+// written here.
 ghost use mathlib.Core.Path.{_≡_};
 ghost use Prim.Native.Nat.{_≤_};
 ghost use lib.ListN.{length};

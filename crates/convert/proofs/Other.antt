@@ -7,8 +7,8 @@ use Prim.Native.Nat.{ℕ, _+_, _-_, _*_, _≤_, _<_}
 use native.Mathlib.Omega.{arith}
 use mathlib.Core.Path.{_≡_, refl, sym, ap, ap₂, _∙_, subst}
 use mathlib.Core.Bool.{true}
-use mathlib.Core.List.{List, [], _∷_, _++_, map, append-assoc}
-use lib.ListN.{drop, getD, length, length-append, take}
+use mathlib.Core.List.{List, [], _∷_, _++_, map}
+use lib.ListN.{getD, length, length-append, take}
 use lib.Seq.{slice}
 use Rattle.words.specs.Words.{Bytes, plain, word}
 use Rattle.format.specs.Forms.{Form, laidOut}
@@ -17,10 +17,10 @@ use Rattle.format.specs.Layout.{Layout}
 use Rattle.format.specs.Nodes.{Node, nodeSize, table}
 use Rattle.format.specs.Book.{blockPart, book, bookBy, entryPart, fits, longestBook, namesOf, numbers, told, trailer}
 use Rattle.format.specs.Outcomes.{over}
-use Rattle.format.proofs.Book.{FitsBy, book-front, book-length, book-opened, book-parts, book-table, fits-parts, node-length, node-number, node-table, nodesAt, read-field, trailerAt, trailerNumbers}
+use Rattle.format.proofs.Book.{FitsBy, book-front, book-length, book-opened, book-table, book-three, fits-parts, node-length, node-number, node-table, nodesAt, read-field, trailerAt, trailerNumbers}
 use Rattle.format.proofs.BookKinds.{kind-layout}
 use Rattle.format.proofs.Numbers.{numbers-length}
-use Rattle.numbers.proofs.Parts.{Copied, copied, lent}
+use Rattle.numbers.proofs.Parts.{Copied, copied, parts-put, put}
 use Rattle.kinds.specs.Known.{formBy, kindBy}
 use Rattle.kinds.specs.declared.Form.{Form as CodeForm}
 use Rattle.kinds.specs.declared.Kind.{Kind}
@@ -30,10 +30,6 @@ use Rattle.turning.specs.Turning.{TurnAsk, turned}
 use Rattle.turning.proofs.Tables.{to-columns as rows-turned, to-rows as columns-turned}
 use Rattle.convert.specs.declared.Turn.{Turn}
 use Rattle.convert.specs.Turns.{OtherAsk, Turns, to-columns, to-rows, turnFor, turnIn}
-
--- a room with a part of it lent and filled
-abbrev pub put : Bytes → ℕ → ℕ → Bytes → Bytes
-put room from to x = take from room ++ (x ++ drop (to - from) (drop from room))
 
 -- two forms of one list's table
 module _ {f g : Form} {mark other : Bytes} (y : Layout plain f mark) (z : Layout plain g other) (k : ℕ) (xs : List Bytes) where
@@ -69,23 +65,13 @@ module _ {f g : Form} {mark other : Bytes} (y : Layout plain f mark) (z : Layout
     l₃ : length v ≡ 16
     l₃ = ap length v-is ∙ length-append (numbers (trailerNumbers y k xs)) other ∙ omega (arith, numbers-length (trailerNumbers y k xs), z .four)
 
-    p₂ : put r₁ n e w ≡ over ((entryPart k xs ++ blockPart k xs) ++ w) room
-    p₂ = lent (entryPart k xs ++ blockPart k xs) room r₁ w n (e - n) p₁ l₁ (omega arith) l₂
-
     parts : ((entryPart k xs ++ blockPart k xs) ++ w) ++ v ≡ bookBy plain g other k xs
     parts =
-        let es : Bytes = entryPart k xs in
-        let bs : Bytes = blockPart k xs in
-        let ns : Bytes = numbers (tableIn g plain xs) in
-        let end : Bytes = numbers (trailerNumbers z k xs) ++ other in
-        let grouped : ((es ++ bs) ++ ns) ++ end ≡ es ++ (bs ++ (ns ++ end)) = simp append-assoc in
-        ap₂ (λ (i j : Bytes). ((es ++ bs) ++ i) ++ j) w-is (v-is ∙ ap (λ (l : List ℕ). numbers l ++ other) same-numbers) ∙ grouped ∙ sym (book-parts z k xs)
+        ap₂ (λ (i j : Bytes). ((entryPart k xs ++ blockPart k xs) ++ i) ++ j) w-is (v-is ∙ ap (λ (l : List ℕ). numbers l ++ other) same-numbers) ∙ sym (book-three z k xs)
 
     pub other-parts : put (put r₁ n e w) e (e + 16) v ≡ over (bookBy plain g other k xs) room
     other-parts =
-        let there : e + 16 - e ≡ 16 = omega arith in
-        lent ((entryPart k xs ++ blockPart k xs) ++ w) room (put r₁ n e w) v e (e + 16 - e) p₂
-        (length-append (entryPart k xs ++ blockPart k xs) w ∙ omega (arith, l₁, l₂)) (omega arith) (l₃ ∙ sym there) ∙ ap (λ (i : Bytes). over i room) parts
+        parts-put (entryPart k xs ++ blockPart k xs) room r₁ w v n e (e + 16) p₁ l₁ (omega (arith, l₂)) (omega (arith, l₃)) big ∙ ap (λ (i : Bytes). over i room) parts
 
 -- ---- how a table is turned
 

@@ -5,7 +5,7 @@
 --     node-table, node-number, node-length, node-size     where the records are nodes: their numbers, how many there are, how many bytes they and each take
 --     full-nodes                 of a full book they stand record behind record
 --     FitsBy, Fits, fits-parts, parts-fits     what `fits` asks
---     book-parts, book-split, book-length      a book is its parts, its body and its trailer; how long it is
+--     book-parts, book-split, book-three, book-length      a book is its parts, its body and its trailer; how long it is
 --     from-blocks, from-nodes, from-trailer, from-mark     what stands from each part on
 --     book-front, book-table     what stands before the table, and the table
 --     read-field                 what the trailer says: names, block size, starts, nodes, length
@@ -146,6 +146,10 @@ module _ {ρ : Rule} {f : Form} {mark : Bytes} (y : Layout ρ f mark) (k : ℕ) 
   pub book-split : bookBy ρ f mark k xs ≡ body ++ (numbers trailerNumbers ++ mark)
   book-split = book-parts ∙ simp append-assoc
 
+  -- what stands before the table, the table, and the trailer
+  pub book-three : bookBy ρ f mark k xs ≡ ((entryPart k xs ++ blockPart k xs) ++ tablePart) ++ (numbers trailerNumbers ++ mark)
+  book-three = book-parts ∙ simp append-assoc
+
   body-length : length body ≡ trailerAt
   body-length = omega (arith, length-append (entryPart k xs) (blockPart k xs ++ tablePart), length-append (blockPart k xs) tablePart)
 
@@ -174,8 +178,7 @@ module _ {ρ : Rule} {f : Form} {mark : Bytes} (y : Layout ρ f mark) (k : ℕ) 
   book-table =
       let front : Bytes = entryPart k xs ++ blockPart k xs in
       let end : Bytes = numbers trailerNumbers ++ mark in
-      let split : bookBy ρ f mark k xs ≡ (front ++ tablePart) ++ end = book-parts ∙ simp append-assoc in
-      ap (λ (s : Bytes). drop nodesAt (take trailerAt s)) split
+      ap (λ (s : Bytes). drop nodesAt (take trailerAt s)) book-three
       ∙ ap (drop nodesAt) (take-at (front ++ tablePart) end trailerAt (length-append front tablePart ∙ ap (λ (n : ℕ). n + length tablePart) (length-append (entryPart k xs) (blockPart k xs))))
       ∙ drop-at front tablePart nodesAt (length-append (entryPart k xs) (blockPart k xs))
 

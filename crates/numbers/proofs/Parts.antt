@@ -3,6 +3,7 @@
 --     part-length               a part of a run of bytes
 --     over-length, over-all     a room that is written over
 --     lent, lent-front, none-lent     a part behind what is written comes back with more, whole or at its front; an empty part changes nothing
+--     put, parts-put            a room with a part of it lent and filled; two such parts, one behind the other
 --     Copied, copied, copied-behind     what the kit's `bytes::copy` leaves: in a room, and in one of which the front was not lent
 --     number-is, number-small   a number out of its two bytes
 --     packed-low, packed-high   two numbers in one, the lower of two bytes
@@ -73,6 +74,16 @@ lent p xs room ys a k r e h l =
     ap (λ (z : Bytes). drop k (drop a z)) r ∙ ap (drop k) (drop-at p (drop (length p) xs) a e) ∙ drop-drop k (length p) xs ∙ ap (λ (n : ℕ). drop n xs) size in
     ap₂ (λ (x z : Bytes). x ++ (ys ++ z)) (ap (take a) r ∙ take-at p (drop (length p) xs) a e) behind
     ∙ sym (append-assoc p ys (drop (length (p ++ ys)) xs))
+
+-- a room with a part of it lent and filled
+abbrev pub put : Bytes → ℕ → ℕ → Bytes → Bytes
+put room from to x = take from room ++ (x ++ drop (to - from) (drop from room))
+
+-- p is written, and two parts were filled, each from where the one before ended
+pub parts-put : (p xs room ys zs : Bytes) (a b c : ℕ) → room ≡ over p xs → length p ≡ a → a + length ys ≡ b → b + length zs ≡ c → c ≤ length xs
+    → put (put room a b ys) b c zs ≡ over ((p ++ ys) ++ zs) xs
+parts-put p xs room ys zs a b c r e y z h =
+    lent (p ++ ys) xs (put room a b ys) zs b (c - b) (lent p xs room ys a (b - a) r e (omega arith) (omega arith)) (length-append p ys ∙ omega arith) (omega arith) (omega arith)
 
 -- an empty part was lent
 pub none-lent : (room ys : Bytes) → length ys ≡ length (take (0 - 0) (drop 0 room)) → take 0 room ++ (ys ++ drop (0 - 0) (drop 0 room)) ≡ room
