@@ -15,7 +15,7 @@ use Rattle.words.specs.Words.{Bytes, pick, same}
 use Rattle.words.proofs.Words.{false≠true, same-refl, same-true}
 use Rattle.format.specs.Kinds.{BookKind, allKinds, markOf, markedAs}
 use Rattle.format.specs.Book.{Book, NoBook, Opened, book, opened}
-use Rattle.format.specs.Outcomes.{Written, given, over, refused, write}
+use Rattle.format.specs.Outcomes.{given, over, refused, write}
 use Rattle.format.proofs.BookKinds.{third-tells}
 use Rattle.format.proofs.Outcomes.{Kept, picked, same-kept, write-kept}
 use Rattle.answers.specs.Converting.{converted, convertedOf}

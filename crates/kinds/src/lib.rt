@@ -1,5 +1,5 @@
 // The kinds of book as the code has them: the rule, the form of table and the mark of each. What varies from kind to kind is asked for
-// here, so a new kind is one arm more in each of these functions. A new form is one arm more in those that take a form, where the trailer
+// here, so a new kind is one arm more in each of these functions. A new form is one arm more in those that go by a form, where the trailer
 // tells how far apart a table's numbers stand, and where a table is written or turned. Check and search have no arms.
 ghost use mathlib.Core.Path.{_≡_};
 ghost use Prim.Native.Nat.{_≤_};
