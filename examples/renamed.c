@@ -45,16 +45,15 @@ typedef void (*any_call)(void);
 
 /* Every call of the library, by its new name: the linker has to find each. */
 static const any_call CALLS[] = {
-    (any_call)transit_book_build,        (any_call)transit_book_build_folded,
-    (any_call)transit_book_build_thin,   (any_call)transit_book_check,
-    (any_call)transit_book_read,         (any_call)transit_book_exact,
-    (any_call)transit_book_place,        (any_call)transit_book_range,
-    (any_call)transit_book_nearest,      (any_call)transit_book_width,
-    (any_call)transit_book_batch,        (any_call)transit_book_to_columns,
-    (any_call)transit_book_from_columns, (any_call)transit_book_salvage,
-    (any_call)transit_list_merge,        (any_call)transit_list_judge,
-    (any_call)transit_list_head,         (any_call)transit_announce_clip,
-    (any_call)transit_announce_route,
+    (any_call)transit_book_build,      (any_call)transit_book_build_folded,
+    (any_call)transit_book_check,      (any_call)transit_book_read,
+    (any_call)transit_book_exact,      (any_call)transit_book_place,
+    (any_call)transit_book_range,      (any_call)transit_book_nearest,
+    (any_call)transit_book_width,      (any_call)transit_book_batch,
+    (any_call)transit_book_to_columns, (any_call)transit_book_from_columns,
+    (any_call)transit_book_salvage,    (any_call)transit_list_merge,
+    (any_call)transit_list_judge,      (any_call)transit_list_head,
+    (any_call)transit_announce_clip,   (any_call)transit_announce_route,
 };
 
 /* Whether no call of the library is the guest's own function. */

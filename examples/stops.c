@@ -2,16 +2,13 @@
  * Two operators' lists made one, its three stops in a book, what can be asked of
  * it, how far each question looks, what is announced of it, and what is left of it
  * where it is damaged; a column book of the same stops, for a panel that reads one
- * field at a time; a thin book of them, for a handset with little memory, and one of
- * a list that has no other; and a folded book, in which a driver finds stops in small
- * letters.
+ * field at a time; and a folded book, in which a driver finds stops in small letters.
  *
  * The merged list, the book and the first twelve questions are those of document
  * 01, the project's scope document; the widths, the merging, how much of a
  * question is lit, the salvage, the folded book, how far a question looks, the
- * announcer, the column book and the thin book are document 02's. Every answer is
- * held to the figures there: where one differs, the program says so and its exit
- * status is 1.
+ * announcer and the column book are document 02's. Every answer is held to the figures there: where one
+ * differs, the program says so and its exit status is 1.
  *
  * run.sh compiles it, links it with the proved library and runs it.
  */
@@ -124,16 +121,6 @@ static const uint8_t COLUMNS[] = {
     4,  0, 1, 0, 1,   0, 1,   0, /* nodes */
     13, 0, 3, 0, 6,   0, 13,  0, /* width */
 };
-
-/* The trailer of the three stops' thin book, which has 45 bytes. Its node table would
-   start at 29, where the trailer itself begins, and has no nodes. */
-static const uint8_t THIN_TRAILER[] = {
-    3, 0, 2, 0, 25, 0, 29, 0, 0, 0, 45, 0, 'N', 'B', 'P', '1',
-};
-
-/* So many names of 200 bytes, in blocks of one: a plain book would have 67,012 bytes,
-   of which 3,756 are 313 nodes, and the thin book has 63,256. */
-enum { LONG_NAMES = 310, THIN_LENGTH = 63256 };
 
 struct damage {
     const char *how;
@@ -581,64 +568,6 @@ static void turn_to_columns(const uint8_t *book, size_t length)
     printf("a column book of 93 bytes, with the same answers, and the book again\n");
 }
 
-/* Builds the thin book of the three stops, and asks it. Up to 29 it has the plain book's
-   bytes. Every answer is the plain book's, and no question looks at a node. */
-static void make_thin(const uint8_t *list, size_t list_length, const uint8_t *plain)
-{
-    uint8_t thin[46];
-    uint8_t name[MISTROGU_LONGEST_NAME];
-    size_t i;
-
-    thin[45] = 0xAA;
-    hold("book_build_thin", book_build_thin(list, list_length, 2, thin, sizeof thin), 0, 45,
-         0);
-    if (memcmp(thin, plain, 29) != 0 ||
-        memcmp(thin + 29, THIN_TRAILER, sizeof THIN_TRAILER) != 0 || thin[45] != 0xAA) {
-        printf("WRONG: that is not the thin book\n");
-        differences++;
-    }
-    hold("book_check, thin", book_check(thin, 45), 0, 3, 2);
-    for (i = 0; i < COUNT(ASKED); i++) {
-        struct asked asked = ASKED[i];
-        asked.visits = 0;
-        asked.entries = 0;
-        ask_and_hold(thin, 45, &asked);
-    }
-    for (i = 0; i < COUNT(STOPS); i++) {
-        struct mistrogu_answer read =
-            hold("book_read, thin", book_read(thin, 45, i, name, sizeof name), 0,
-                 strlen(STOPS[i]), 0);
-        hold_name(name, read.first, STOPS[i]);
-    }
-    printf("a thin book of 45 bytes, with the same answers\n");
-}
-
-/* Builds the thin book of a list whose plain book would be too long. */
-static void fit_a_thin_book(void)
-{
-    static uint8_t list[LONG_NAMES * (1 + MISTROGU_LONGEST_NAME)];
-    static uint8_t room[MISTROGU_LONGEST_BOOK];
-    const uint8_t *last = list + sizeof list - MISTROGU_LONGEST_NAME;
-    size_t i;
-
-    memset(list, 'x', sizeof list);
-    for (i = 0; i < LONG_NAMES; i++) {
-        uint8_t *record = list + i * (1 + MISTROGU_LONGEST_NAME);
-        record[0] = MISTROGU_LONGEST_NAME;
-        record[1] = (uint8_t)(i / 256);
-        record[2] = (uint8_t)(i % 256);
-    }
-    hold("a plain book of 310 long names", book_build(list, sizeof list, 1, room, sizeof room),
-         MISTROGU_BOOK_TOO_LONG, 0, 0);
-    hold("a thin book of them", book_build_thin(list, sizeof list, 1, room, sizeof room), 0,
-         THIN_LENGTH, 0);
-    hold("a thin book of them is checked", book_check(room, THIN_LENGTH), 0, LONG_NAMES, 1);
-    hold("its last name",
-         answer_of(book_exact(room, THIN_LENGTH, last, MISTROGU_LONGEST_NAME)), 0,
-         LONG_NAMES - 1, 1);
-    printf("a thin book of %d bytes, where a plain one would be too long\n", THIN_LENGTH);
-}
-
 /* Prints the names in a run of records. */
 static void print_records(const uint8_t *records, size_t length)
 {
@@ -907,43 +836,6 @@ static void be_refused_conversions(const uint8_t *book, size_t length)
         printf("and seven calls with books of another kind or short rooms\n");
 }
 
-/* The same with thin books: the build by the order 8, 5, 4, a thin book under the plain
-   mark, and calls that take no thin book. The room is as it was. */
-static void be_refused_thin(const uint8_t *list, size_t list_length)
-{
-    uint8_t thin[45];
-    uint8_t plain_mark[45];
-    uint8_t room[93];
-    struct mistrogu_kept report[2];
-    int before = differences;
-
-    book_build_thin(list, list_length, 2, thin, sizeof thin);
-    memcpy(plain_mark, thin, sizeof thin);
-    memcpy(plain_mark + 41, MISTROGU_PLAIN_MARK, 4);
-    memset(room, 0xAA, sizeof room);
-    hold("a thin book in blocks of 0, of half a list",
-         book_build_thin(list, list_length - 1, 0, room, sizeof room),
-         MISTROGU_BAD_BLOCK_SIZE, 0, 0);
-    hold("a thin book of half a list, and no room",
-         book_build_thin(list, list_length - 1, 2, room, 0), MISTROGU_BAD_RECORD, 2, 0);
-    hold("a thin book, and a room too short",
-         book_build_thin(list, list_length, 2, room, 44), MISTROGU_ROOM_TOO_SHORT, 0, 0);
-    hold("a thin book under the plain mark", book_check(plain_mark, sizeof plain_mark),
-         MISTROGU_NO_BOOK, 0, 0);
-    hold("a thin book to columns", book_to_columns(thin, sizeof thin, room, sizeof room),
-         MISTROGU_NO_BOOK, 0, 0);
-    hold("a thin book from columns",
-         book_from_columns(thin, sizeof thin, room, sizeof room), MISTROGU_NO_BOOK, 0, 0);
-    hold("what is announced of a thin book",
-         speak(thin, sizeof thin, COUNT(STOPS), "Mar"), MISTROGU_NO_BOOK, 0, 0);
-    hold("what is left of a thin book",
-         book_salvage(thin, sizeof thin, room, sizeof room, report, COUNT(report)),
-         MISTROGU_NO_MAP, 0, 0);
-    hold_untouched(room, sizeof room);
-    if (differences == before)
-        printf("and eight calls with thin books\n");
-}
-
 /* Builds the book of three stops, and gives its length; 0 where it is refused. */
 static size_t build(const uint8_t *list, size_t list_length, uint8_t *book, size_t space)
 {
@@ -992,8 +884,6 @@ int main(void)
     light_no_half_letter();
     announce(book, length);
     turn_to_columns(book, length);
-    make_thin(list, list_length, book);
-    fit_a_thin_book();
     fold();
     salvage(book, length);
     be_refused(list, list_length, book, length);
@@ -1002,6 +892,5 @@ int main(void)
     be_refused_texts(book, length);
     be_refused_routes(book, length);
     be_refused_conversions(book, length);
-    be_refused_thin(list, list_length);
     return differences == 0 ? 0 : 1;
 }

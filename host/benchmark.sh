@@ -2,11 +2,10 @@
 # Measures every call of the proved library beside other ways to keep names: instructions, time and stack, with names like those of
 # stations that it makes itself.
 #
-#   host/benchmark.sh FOLDER [LIST[:BLOCK] ..]
+#   host/benchmark.sh FOLDER
 #
 # writes FOLDER/benchmark.md, which it also prints, and FOLDER/benchmark.svg, a drawing of the instructions; and FOLDER/stations.list and
-# FOLDER/stations.book, with stations-folded.list and stations-folded.book for folded books, for measure.sh. Of each LIST, a file of list
-# records, it tells the bytes a name of every kind of book, too, in blocks of BLOCK names, or of 16. It takes about a minute once the
+# FOLDER/stations.book, with stations-folded.list and stations-folded.book for folded books, for measure.sh. It takes about a minute once the
 # archive is there.
 #
 # Instructions are counted by valgrind's callgrind and do not depend on the machine's load. Those of the proved library are the same on
@@ -31,12 +30,8 @@ case ${1:-} in
 -h | --help) usage && exit ;;
 -*) fail "$1 is no option; --help has the rest" 2 ;;
 esac
-[ $# -ge 1 ] || { usage >&2; exit 2; }
+[ $# -eq 1 ] || { usage >&2; exit 2; }
 folder=$1
-shift
-for word in "$@"; do
-    [ -f "$word" ] || [ -f "${word%:*}" ] || fail "${word%:*} is not there"
-done
 mkdir -p "$folder" 2>/dev/null || fail "$folder can't be made a folder"
 [ -w "$folder" ] || fail "$folder can't be written to"
 
@@ -81,4 +76,4 @@ else
     peers+=("fst=")
 fi
 
-"${CARGO_TARGET_DIR:-$host/target}/release/compare" "$folder" "$@" "${peers[@]}"
+"${CARGO_TARGET_DIR:-$host/target}/release/compare" "$folder" "${peers[@]}"

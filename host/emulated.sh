@@ -4,7 +4,6 @@
 #
 #   host/emulated.sh build LISTFILE K [BOOKFILE]         of book_build on that list with that block size; the book goes to that file
 #   host/emulated.sh build_folded LISTFILE K [BOOKFILE]  of book_build_folded, likewise
-#   host/emulated.sh build_thin LISTFILE K [BOOKFILE]    of book_build_thin, likewise
 #   host/emulated.sh check BOOKFILE                      of book_check on that book
 #   host/emulated.sh salvage CARDFILE                    of book_salvage on that card, into a room that is always long enough
 #   host/emulated.sh merge|judge FIRST SECOND            of list_merge, list_judge on these two lists

@@ -255,17 +255,6 @@ of_columns() {
     done
 }
 
-# The same names in thin books.
-of_thin() {
-    local name
-    for name in "${large[@]}"; do
-        say "$who, $name, thin"
-        count "build $name-thin" build_thin "${file[$name]}" "${block[$name]}"
-        count "check $name-thin" check "$work/$name-thin.book"
-        questions "$name-thin" "$work/$name-thin.book"
-    done
-}
-
 # The deepest stack of each call on every list, and of the check on hostile bytes.
 of_stacks() {
     local name kind book most=0
@@ -280,12 +269,10 @@ of_stacks() {
         painted "route $name" route "$work/$name.book"
         painted "salvage $name" salvage "$work/$name.book"
         painted "merge $name" merge "${file[$name]}" "${file[$name]}"
-        of[stack ask $name]=0 of[stack thin $name]=0
+        of[stack ask $name]=0
         for kind in exact place range nearest width; do
             painted asked "$kind" "$work/$name.book" "${of[$name $kind dearest]}"
             [ "${of[stack asked]}" -le "${of[stack ask $name]}" ] || of[stack ask $name]=${of[stack asked]}
-            painted asked "$kind" "$work/$name-thin.book" "${of[$name $kind dearest]}"
-            [ "${of[stack asked]}" -le "${of[stack thin $name]}" ] || of[stack thin $name]=${of[stack asked]}
         done
     done
     for book in "$work"/hostile/*.book; do
@@ -297,11 +284,7 @@ of_stacks() {
 
 say "beside other ways to keep names"
 export MISTROGU_ARCHIVE=$product
-lists=()
-for name in ${given[@]+"${given[@]}"}; do
-    lists+=("${file[$name]}:${block[$name]}")
-done
-"$host/benchmark.sh" "$folder" ${lists[@]+"${lists[@]}"} >/dev/null
+"$host/benchmark.sh" "$folder" >/dev/null
 say "lists and books"
 run vectors -- lists "$work"
 run vectors -- worst "$work"
@@ -315,7 +298,6 @@ all=("${large[@]}" "${made[@]:1}")
 for name in "${all[@]}"; do
     "$host/measure.sh" book "${file[$name]}" "${block[$name]}" "$work/$name.book" >"$work/said" || fail "${file[$name]} has no book in blocks of ${block[$name]}"
     read -r of["names $name"] of["levels $name"] < <(sed -n 's/^\([0-9]*\) names, \([0-9]*\) levels$/\1 \2/p' "$work/said")
-    "$host/measure.sh" thin "${file[$name]}" "${block[$name]}" "$work/$name-thin.book" >/dev/null
 done
 for name in "${large[@]}"; do
     "$host/measure.sh" split "${file[$name]}" "$work/$name.odd" "$work/$name.even" >/dev/null
@@ -331,11 +313,9 @@ of_announcer
 of_heads
 of_folded
 of_columns
-of_thin
 of_dearest
 count screen screen "$work/stations.book" San
 "$host/measure.sh" growth >"$work/growth"
-"$host/measure.sh" growth_thin >"$work/growth-thin"
 of_stacks
 run bound -- "$product" "$host/../include/mistrogu.h" >"$work/bound"
 say "vectors and random cases"
@@ -348,7 +328,6 @@ of_every_list
 of_large_lists
 of_announcer
 of_columns
-of_thin
 of_dearest
 export MISTROGU_ARCHIVE=$product
 use small "$("$host/small.sh")"
@@ -364,11 +343,6 @@ done
 # A number in groups of three digits.
 g() {
     echo "$1" | sed -E ':again; s/([0-9])([0-9]{3})(,|$)/\1,\2\3/; t again'
-}
-
-# The numbers of a file in such groups.
-grouped() {
-    sed -E ':again; s/([0-9])([0-9]{3})([^0-9]|$)/\1,\2\3/; t again' "$1"
 }
 
 # A number, and in brackets how many times another it is.
@@ -541,42 +515,11 @@ columns() {
     close_part
 }
 
-thin() {
-    echo "## Thin books"
-    echo
-    open_part thin
-    echo "| List | Book bytes | thin | build | \`book_build_thin\` | reference | check | thin | reference |"
-    echo "|---|---:|---:|---:|---:|---:|---:|---:|---:|"
-    local name key row
-    for name in "${large[@]}"; do
-        row="| \`$name\` | $(g "${of[build $name first]}") | $(beside "${of[build $name-thin first]}" "${of[build $name first]}") |"
-        for key in build check; do
-            row+=" $(g "${of[own $key $name]}") | $(beside "${of[own $key $name-thin]}" "${of[own $key $name]}") | $(beside "${of[reference $key $name-thin]}" "${of[own $key $name-thin]}") |"
-        done
-        echo "$row"
-    done
-    echo
-    echo "| Questions after the check | exact | place | range | width | most of these | nearest | reference | most | all five | reference |"
-    echo "|---|---:|---:|---:|---:|---:|---:|---:|---:|---:|---:|"
-    local kind most
-    for name in "${large[@]}"; do
-        row="| \`$name\` |" most=0
-        for kind in exact place range width; do
-            row+=" $(g "${of[own $name-thin $kind]}") |"
-            [ "${of[own $name-thin $kind most]}" -le "$most" ] || most=${of[own $name-thin $kind most]}
-        done
-        echo "$row $(g "$most") | $(both "$name-thin nearest") | $(g "${of[own $name-thin nearest most]}") | $(both "$name-thin all") |"
-    done
-    echo
-    grouped "$work/growth-thin"
-    close_part
-}
-
 growing() {
     echo "## How it grows"
     echo
     open_part growth
-    grouped "$work/growth"
+    sed -E ':again; s/([0-9])([0-9]{3})([^0-9]|$)/\1,\2\3/; t again' "$work/growth"
     close_part
 }
 
@@ -622,16 +565,14 @@ stacks() {
     of_bound "| Call | Stack"
     echo
     of_bound "The cycle"
-    echo
-    of_bound "| Under the thin mark"
     close_part
     open_part painted
-    echo "| List | build | check | read | question | question, thin book | batch | to columns | clip | route | salvage | merge with itself |"
-    echo "|---|---:|---:|---:|---:|---:|---:|---:|---:|---:|---:|---:|"
+    echo "| List | build | check | read | question | batch | to columns | clip | route | salvage | merge with itself |"
+    echo "|---|---:|---:|---:|---:|---:|---:|---:|---:|---:|---:|"
     local name call row
     for name in "${all[@]}"; do
         row="| \`$name\` |"
-        for call in build check read ask thin batch convert clip route salvage merge; do row+=" $(g "${of[stack $call $name]}") |"; done
+        for call in build check read ask batch convert clip route salvage merge; do row+=" $(g "${of[stack $call $name]}") |"; done
         echo "$row"
     done
     echo
@@ -691,7 +632,7 @@ random_cases() {
     close_part
 }
 
-for part in state building checking asking batching announcing two_lists cards folded columns thin growing dearest by_bytes stacks others screen vector_sets random_cases; do
+for part in state building checking asking batching announcing two_lists cards folded columns growing dearest by_bytes stacks others screen vector_sets random_cases; do
     "$part"
 done >"$folder/figures.md"
 cat "$folder/figures.md"

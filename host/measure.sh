@@ -3,7 +3,6 @@
 #
 #   host/measure.sh build LISTFILE K              instructions of book_build on that list with that block size
 #   host/measure.sh build_folded LISTFILE K       of book_build_folded, likewise
-#   host/measure.sh build_thin LISTFILE K         of book_build_thin, likewise
 #   host/measure.sh check BOOKFILE                of book_check on that book
 #   host/measure.sh read BOOKFILE POSITION        of book_read at that position of that book
 #   host/measure.sh exact BOOKFILE QUESTION       of book_exact with that question to that book
@@ -21,14 +20,11 @@
 #   host/measure.sh clips BOOKFILE                of announce_clip with the texts of the same mix, less those of the book's check
 #   host/measure.sh screen BOOKFILE TYPED         of a book_range with what is typed, and a book_read of the first ten names of it
 #   host/measure.sh growth                        of build, check and place, on lists of which one parameter doubles
-#   host/measure.sh growth_thin                   of build, check and nearest, on thin books of the same lists
 #   host/measure.sh worst [SEED]                  of check and place, on shapes that may cost most: the ten dearest of each
 #   host/measure.sh worst_folded [SEED]           the same of folded books, of which neighbours differ in case
-#   host/measure.sh worst_thin [SEED]             of check and nearest, on thin books of the shapes of worst
 #   host/measure.sh split LISTFILE ODD EVEN       counts nothing, but parts a list into two files, to be merged again
 #   host/measure.sh wear BOOKFILE CARDFILE        counts nothing, but damages every tenth block of a book, to be salvaged
 #   host/measure.sh book LISTFILE K BOOKFILE      counts nothing, but writes a list's book, and tells its names and levels
-#   host/measure.sh thin LISTFILE K BOOKFILE      counts nothing, but writes a list's thin book, and tells its names and bytes
 #   host/measure.sh columns BOOKFILE NEW          counts nothing, but writes the column book of a plain book, and tells its nodes
 #   host/measure.sh fold LISTFILE K NAME          counts nothing, but writes a list's names for folded books, and those books
 #
@@ -50,7 +46,7 @@
 # which checks the book again. It prints the instructions of the batch, those of the others, and how many times the average of the others
 # the batch took.
 #
-# `growth` prints a table. Beside each number stands how many times the one before it is; of place, or nearest, the check is taken off.
+# `growth` prints a table. Beside each number stands how many times the one before it is; of place the check is taken off.
 set -eu
 usage() {
     sed -n '2,/^set /{/^set /d;s/^# \{0,1\}//p;}' "$0"
@@ -181,23 +177,22 @@ screen() {
         END { if (failed) exit 1; printf "screen: %d instructions, of a range and %d reads\n", sum, NR - 1 }' "$work/counts"
 }
 
-# A line of three calls for each list: label, bytes of the book, build, check, and place, or nearest, less the check. What is too large is left out.
+# A line of three calls for each list: label, bytes of the book, build, check, place less the check. What is too large is left out.
 three_calls() {
     each_call book "$@"
     awk "$counted"'
         { label = $0; sub(/^[^ ]* [^ ]* /, "", label); bytes = label; sub(/.*: /, "", bytes); sub(/: [^:]*$/, "", label) }
         $2 == "build" { build = $1 }
         $2 == "check" { check = $1 }
-        $2 == "place" || $2 == "nearest" { print label "\t" bytes "\t" build "\t" check "\t" $1 - check }
+        $2 == "place" { print label "\t" bytes "\t" build "\t" check "\t" $1 - check }
         END { if (failed) exit 1 }' "$work/counts" >"$work/lists"
 }
 
-# Of the lists that the first word names; the second is the question's kind.
 growth() {
-    three_calls "$1"
-    awk -F '\t' -v asked="$2" '
+    three_calls growth
+    awk -F '\t' '
         function cell(now, before) { return before ? sprintf("%d (%.2f)", now, now / before) : now }
-        BEGIN { print "| Parameter | Value | Bytes of the book | build | check | " asked ", after the check |"; print "|---|---:|---:|---:|---:|---:|" }
+        BEGIN { print "| Parameter | Value | Bytes of the book | build | check | place, after the check |"; print "|---|---:|---:|---:|---:|---:|" }
         {
             split($1, part, ", ")
             if (part[1] != parameter) build = check = place = 0
@@ -207,13 +202,11 @@ growth() {
         }' "$work/lists"
 }
 
-# Of the search that the first words name; the word before them is the question's kind.
+# Of the search that the first word names.
 worst() {
-    local asked=$1
-    shift
     three_calls "$@"
     echo "check:" && sort -t "$(printf '\t')" -k 4,4nr "$work/lists" | awk -F '\t' 'NR <= 10 { print $4 " " $1 ", bytes " $2 }'
-    echo "$asked, after the check:" && sort -t "$(printf '\t')" -k 5,5nr "$work/lists" | awk -F '\t' 'NR <= 10 { print $5 " " $1 ", bytes " $2 }'
+    echo "place, after the check:" && sort -t "$(printf '\t')" -k 5,5nr "$work/lists" | awk -F '\t' 'NR <= 10 { print $5 " " $1 ", bytes " $2 }'
 }
 
 case $1 in
@@ -221,10 +214,8 @@ questions) shift && mixed_questions "$@" ;;
 batch) shift && one_batch "$@" ;;
 clips) shift && mixed_texts "$@" ;;
 screen) screen "$@" ;;
-growth) growth growth place ;;
-growth_thin) growth growth_thin nearest ;;
-worst | worst_folded) worst place "$@" ;;
-worst_thin) worst nearest "$@" ;;
-split | wear | book | thin | columns | fold) "$bench" "$@" ;;
+growth) growth ;;
+worst | worst_folded) worst "$@" ;;
+split | wear | book | columns | fold) "$bench" "$@" ;;
 *) one_call "$@" ;;
 esac

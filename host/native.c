@@ -37,7 +37,7 @@ struct head *written_list_head(struct head *, const byte *, size, const byte *, 
 struct answer *written_announce_clip(struct answer *, const byte *, size, const clip *, size, const byte *, size);
 struct answer *written_announce_route(struct answer *, const byte *, size, const clip *, size, const size *, size, clip *, size);
 
-/* A call that builds a book of a list, each of one kind. */
+/* A call that builds a book of a list, of one kind or the other. */
 #define BUILDS(name)                                                                                            \
     struct answer *written_##name(struct answer *, const byte *, size, size, byte *, size);                     \
     struct answer name(const byte *list, size list_length, size block, byte *room, size room_length) {          \
@@ -47,7 +47,6 @@ struct answer *written_announce_route(struct answer *, const byte *, size, const
 
 BUILDS(book_build)
 BUILDS(book_build_folded)
-BUILDS(book_build_thin)
 
 struct answer book_check(const byte *book, size book_length) {
     struct answer given;

@@ -20,7 +20,7 @@
  * extensions. Positions count from 0. A list is a run of records without gaps,
  * each one byte with the length of a name and then the name; it may be empty.
  *
- * FOUR KINDS OF BOOK
+ * THREE KINDS OF BOOK
  *
  * In a plain book every byte is a letter of its own. In a folded book the capitals
  * A to Z, bytes 65 to 90, are the same letters as a to z, the bytes 32 higher:
@@ -35,14 +35,6 @@
  * one field is read at a time. The names, their order, every answer, the counts
  * beside it and the length are those of the plain book. book_to_columns makes the
  * column book of a plain one, and book_from_columns the plain book of a column one.
- *
- * A thin book is a plain book without a node table, for a device with little memory.
- * On real names it has under 60 in a hundred of the plain book's bytes, so a list
- * may have a thin book where its plain book would be too long. The names, their
- * order and every answer are those of the plain book, the position that
- * book_nearest gives among them; the counts beside an answer are 0. A question goes
- * through the names in order, which takes longer than going down the nodes.
- * book_build_thin makes a thin book from a list.
  *
  * The last four bytes of a book, the mark, tell its kind: every call that takes a
  * book goes by them. Where all names are in small letters, the
@@ -84,14 +76,13 @@
  *   low one first. A file of such bytes can be lent as it was read or mapped, at an
  *   even address.
  * - No piece of memory is larger than PTRDIFF_MAX bytes.
- * - There is stack for the call: MISTROGU_BUILD_STACK bytes for the three that
+ * - There is stack for the call: MISTROGU_BUILD_STACK bytes for the two that
  *   build and MISTROGU_STACK for every other call, conversions included, are enough
  *   for any input, be it a book or not, with what the call itself pushes and without
  *   what your own memcpy and memset take. On real names every call but those that
  *   build or convert takes less than 2,048 bytes; names that are each the beginning
  *   of the next, and bytes that are made to look so, take the most, 128 bytes for
- *   each level. A thin book has no levels: for a question to bytes that end with the
- *   thin mark MISTROGU_THIN_STACK is enough, whatever stands before the mark.
+ *   each level.
  *   docs/BENCHMARKS.md says which guest can call what. The numbers are read out of
  *   the compiled code, by `host/bound`, for all inputs.
  * - An interrupt or signal handler that runs in the midst of a call leaves the 128
@@ -131,7 +122,7 @@ extern "C" {
 #endif
 
 /* The version, of which CHANGELOG.md says what it brought. */
-#define MISTROGU_VERSION "0.11.0"
+#define MISTROGU_VERSION "0.10.0"
 /* The most bytes of a name, and of a question. */
 #define MISTROGU_LONGEST_NAME 200
 /* The most names of a book. */
@@ -140,11 +131,10 @@ extern "C" {
 #define MISTROGU_LONGEST_BOOK 65535
 /* The most names of a block; the least is 1. */
 #define MISTROGU_LARGEST_BLOCK 64
-/* The last four bytes of a plain, of a folded, of a column and of a thin book. */
+/* The last four bytes of a plain book, of a folded one, and of a column book. */
 #define MISTROGU_PLAIN_MARK "NBK2"
 #define MISTROGU_FOLDED_MARK "NBF2"
 #define MISTROGU_COLUMNS_MARK "NBC2"
-#define MISTROGU_THIN_MARK "NBP1"
 /* The most rows of a batch. */
 #define MISTROGU_MOST_ROWS 64
 /* The most positions of a route. */
@@ -155,8 +145,6 @@ extern "C" {
 #define MISTROGU_BUILD_STACK 7936
 /* Bytes of stack that are enough for every other call, whatever it is given. */
 #define MISTROGU_STACK 26624
-/* The same for a question to bytes that end with the mark of a thin book. */
-#define MISTROGU_THIN_STACK 2048
 
 /* The numbers given back when a call says no. */
 enum mistrogu_refusal {
@@ -287,26 +275,12 @@ struct mistrogu_answer MISTROGU_CALL(book_build_folded)(
     MISTROGU_NEVER_NULL;
 
 /*
- * Builds the thin book of a list, as book_build does the plain one: the same entries
- * and the same block table, and no node table. 9 is given by the thin book's own
- * length, so a list that book_build refuses with 9 may have a thin book.
- *
- * Accepted: (0, length of the book, 0).
- * Refused: as book_build.
- */
-struct mistrogu_answer MISTROGU_CALL(book_build_thin)(
-    const uint8_t *list, size_t list_length, size_t block,
-    uint8_t *room, size_t room_length)
-    MISTROGU_NEVER_NULL;
-
-/*
- * Tells whether bytes are a book: exactly those that book_build,
- * book_build_folded or book_build_thin writes for some list and block size, or
- * book_to_columns for some plain book. All of the bytes count, so a book with one
- * byte more is none. A plain book ends with the mark 4E 42 4B 32, a folded one with
- * 4E 42 46 32, a column book with 4E 42 43 32, and a thin one with 4E 42 50 31. One
- * that ends with 4E 42 4B 31 was built before nodes had widths, is none any more,
- * and has to be built again.
+ * Tells whether bytes are a book: exactly those that book_build or
+ * book_build_folded writes for some list and block size, or book_to_columns for
+ * some plain book. All of the bytes count, so a book with one byte more is none. A
+ * plain book ends with the mark 4E 42 4B 32, a folded one with 4E 42 46 32, and a
+ * column book with 4E 42 43 32. One that ends with 4E 42 4B 31 was built before
+ * nodes had widths, is none any more, and has to be built again.
  *
  * A book has no checksum, and a damaged one may be another book: one wrong bit
  * makes Marine of Marina, and the bytes are accepted. Whoever has to know that a
@@ -346,8 +320,7 @@ struct mistrogu_answer MISTROGU_CALL(book_read)(
  * question all five look equally far: at the nodes that lead to nearest's name.
  * With n names in blocks of k, visits are 1 at least, and at most n and at most the
  * question's length plus 2; entries are 1 to k: nearest's position modulo k, plus
- * 1. Of a thin book, of a book without names, and where the question is refused,
- * both are 0.
+ * 1. Of a book without names, and where the question is refused, both are 0.
  */
 
 /*
@@ -388,7 +361,7 @@ struct mistrogu_counted MISTROGU_CALL(book_range)(
  * Asks for a name that shares as many leading bytes with the question as any
  * name does, and how much of the question to light. Of several such names the
  * book's nodes lead to one, always the same, and not always the first:
- * docs/STATEMENTS.md says which. A thin book has no nodes, and gives the same one.
+ * docs/STATEMENTS.md says which.
  *
  * Of a text in UTF-8 no half character is lit. The number is the greatest, not
  * above the shared bytes, that is 0, or the question's length, or a place where
@@ -410,7 +383,7 @@ struct mistrogu_counted MISTROGU_CALL(book_nearest)(
 /*
  * Asks how many bytes the longest of the names has that begin with the question:
  * how much space to keep for any of them. The empty question begins every name.
- * Where there is a node table no name of the range is read for it.
+ * No name of the range is read for it.
  *
  * Accepted: (0, that length, 0), with length 0 where no name begins with it, as in
  * a book without names.
@@ -451,8 +424,8 @@ struct mistrogu_answer MISTROGU_CALL(book_batch)(
  * No list and no names are needed.
  *
  * Accepted: (0, length of the book, 0).
- * Refused: 2 to anything but a sound plain book, so also to a folded book, to a
- * column book and to a thin book; then 4.
+ * Refused: 2 to anything but a sound plain book, so also to a folded book and to a
+ * column book; then 4.
  */
 struct mistrogu_answer MISTROGU_CALL(book_to_columns)(
     const uint8_t *book, size_t book_length,
@@ -516,9 +489,9 @@ static inline size_t mistrogu_blocks_of(const uint8_t *card, size_t length)
  * The trailer and the block table make sense where there are at most 2,000 names,
  * in blocks of 1 to 64; where the parts meet without gaps at the places that the
  * trailer names, and the length and the mark are right, which is that of a plain
- * book: to a folded book, to a column book and to a thin book the answer is 13; and
- * where the blocks' starts strictly rise from 0 inside of the entries. Without
- * names there are no bytes of entries.
+ * book: to a folded book and to a column book the answer is 13; and where the
+ * blocks' starts strictly rise from 0 inside of the entries. Without names there
+ * are no bytes of entries.
  *
  * There are as many report rows as blocks: mistrogu_blocks_of tells how many. A
  * room of MISTROGU_MOST_SALVAGED bytes is always long enough.
@@ -590,11 +563,11 @@ struct mistrogu_head MISTROGU_CALL(list_head)(
 /*
  * The announcer: what is typed becomes the clip that is spoken, and a route becomes
  * a row of clips. Both calls take a book and a clip table. The book is plain or
- * folded: a column book and a thin book get 2. The table has one clip for each name,
- * the one at place i for the name at position i; any numbers will do. So a table
- * belongs to one book: when the book is built anew, the table is made anew. No call
- * can tell that a table is another book's, if it has as many clips. Both calls check
- * the whole book before they answer.
+ * folded: a column book gets 2. The table has one clip for each name, the one at
+ * place i for the name at position i; any numbers will do. So a table belongs to one
+ * book: when the book is built anew, the table is made anew. No call can tell that a
+ * table is another book's, if it has as many clips. Both calls check the whole book
+ * before they answer.
  */
 
 /*

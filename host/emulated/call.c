@@ -1,8 +1,7 @@
 /* Makes the calls that host/emulated.sh counts, for the emulated processor. Each is between two marks, and the first two marks of all have
  * nothing between them. What a call gives is printed.
  *
- *   call build|build_folded|build_thin LISTFILE K [BOOKFILE]
- *                                                      the book is written to that file
+ *   call build|build_folded LISTFILE K [BOOKFILE]      the book is written to that file
  *   call check BOOKFILE
  *   call salvage CARDFILE                              into a room and a report that are always long enough
  *   call merge|judge FIRST SECOND                      two lists, the merge into a room as long as both
@@ -136,8 +135,6 @@ static answer make(const char *call, size_t size, size_t second) {
         return COUNTED(book_build(input, size, second, room, MISTROGU_LONGEST_BOOK));
     if (!strcmp(call, "build_folded"))
         return COUNTED(book_build_folded(input, size, second, room, MISTROGU_LONGEST_BOOK));
-    if (!strcmp(call, "build_thin"))
-        return COUNTED(book_build_thin(input, size, second, room, MISTROGU_LONGEST_BOOK));
     if (!strcmp(call, "to_columns"))
         return COUNTED(book_to_columns(input, size, room, MISTROGU_LONGEST_BOOK));
     if (!strcmp(call, "from_columns"))

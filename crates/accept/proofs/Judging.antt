@@ -2,27 +2,22 @@
 --     unsound, sound-checked    bytes of which a part fails; of which all stand
 --     trail-fails, walked-own, walk-ask, framed-says     a trailer that fails; after one that passes, what the walk over the entries asks, and
 --                       what its answer comes to
---     names-told, names-known, table-ask, table_is     behind trailer and entries that stand: what the walk over the table asks, and what it answers
---     no_table          where a thin book's table would stand is nothing
+--     names-told, table-ask, table_is     behind trailer and entries that stand: what the walk over the table asks, and what it answers
 --     frame-fails, frame-stands, table-says     what both come to
---     trail-stands, trail-told, table-told, thin-parts     under the thin mark: what each test comes to
 --     SoundBook, sound-book, checked-sound     what an accepting answer says
 --     no-book           what a refusing answer says
 --     sound-numbers, unsound-numbers     document 01's numbers for either answer
 -- Assumes nothing.
-use Prim.Native.Nat.{ℕ, ◌+◌, ◌-◌, ◌*◌, ◌≤◌}
-use native.Mathlib.Nat.{lt_irrefl}
+use Prim.Native.Nat.{ℕ, ◌-◌, ◌*◌, ◌≤◌}
 use native.Mathlib.Omega.{arith}
 use mathlib.Core.Path.{◌≡◌, ◌∙◌, ap, ap₂, refl, subst, sym}
 use mathlib.Core.Bool.{Bool, false, not, true}
-use mathlib.Core.List.{List, [], ◌∷◌}
-use lib.Dec.{eqb}
+use mathlib.Core.List.{List, []}
 use lib.ListN.{length}
-use borrow.Author.Tests.{eq-eqb, eqb-true, ne_eqb}
-use lib.Seq.{length-slice, slice}
-use Rattle.words.specs.Words.{Bytes, InBytes, Rule, plain, same}
-use Rattle.words.proofs.Words.{false≠true, same_refl, same_true}
-use Rattle.format.specs.Kinds.{BookKind, Tabled, ThinBook, form_of, kind_of, rule_in, rule_of, table_in}
+use lib.Seq.{slice}
+use Rattle.words.specs.Words.{Bytes, InBytes, Rule, same}
+use Rattle.words.proofs.Words.{false≠true}
+use Rattle.format.specs.Kinds.{form_of, kind_of, rule_in}
 use Rattle.format.specs.Spans.{is_table, words_of}
 use Rattle.format.proofs.Book.{node-size, node-table}
 use Rattle.format.proofs.BookKinds.{kind-layout, kind-sure}
@@ -35,7 +30,6 @@ use Rattle.symbols.proofs.Symbols.{rule-by}
 use Rattle.trailer.specs.Trailer.{Trail, TrailSays, trailer_in}
 use Rattle.trailer.specs.declared.Trailer.{Trailer}
 use Rattle.streams.specs.Runs.{Frame, Has}
-use Rattle.streams.specs.Streams.{Known}
 use Rattle.streams.proofs.InBlocks.{has-blocks, has_end}
 use Rattle.streams.proofs.Walks.{has-known, has-names}
 use Rattle.walk.specs.Walking.{WalkSays}
@@ -129,19 +123,14 @@ module _ (b : Bytes) (f : Framed b) where
   pub names-told : told b 0 ≡ length (names_of b)
   names-told = sym (ap length (has-names (rule_in b) b (told b 1) (told b 2) (told b 3) (told b 0) within f.entries f.trail.low refl) ∙ f.entries.count)
 
-  -- .. and they are judged
-  pub names-known : Known (rule_in b) b
-  names-known = has-known (rule_in b) b (told b 1) (told b 2) (told b 3) (told b 0) within f.entries f.trail.low refl (kind-sure (kind_of b)) f.trail.few f.trail.short
-
   module _ (u n : ℕ) (ue : u ≡ told b 3) (ne : n ≡ told b 0) where
     -- the trailer's numbers lie within the bytes
     frame : Frame b (told b 1) (told b 2) (told b 3)
     frame = record { one = f.trail.low; small = f.trail.short; order = f.trail.order; room = omega (arith, f.trail.total) }
 
-    pub table-ask : Tabled (form_of (kind_of b)) → TableAsk b u (length b - trailer_size) n
-    table-ask tabled = record {
-      tabled = tabled;
-      known = names-known;
+    pub table-ask : TableAsk b u (length b - trailer_size) n
+    table-ask = record {
+      known = has-known (rule_in b) b (told b 1) (told b 2) (told b 3) (told b 0) within f.entries f.trail.low refl (kind-sure (kind_of b)) f.trail.few f.trail.short;
       blocks = has-blocks (rule_in b) (kind-sure (kind_of b)) b (told b 1) (told b 2) (told b 3) (told b 0) frame f.entries refl;
       ended = sym (has_end (rule_in b) (kind-sure (kind_of b)) b (told b 1) (told b 2) (told b 3) (told b 0) frame f.entries refl);
       count = ne ∙ names-told;
@@ -157,23 +146,6 @@ module _ (b : Bytes) (f : Framed b) where
         e ∙ ap (λ (x : ℕ). is_nodes b x (length b - trailer_size)) ue
         ∙ ap (λ (l : List ℕ). same (numbers l) (slice (told b 3) (length b - trailer_size) b)) (sym (node-table (form_of (kind_of b)) (rule_in b) (names_of b)))
 
-  -- a thin book has none between the start that is told and the trailer
-  pub no_table : (u : ℕ) → u ≡ told b 3 → kind_of b ≡ ThinBook → eqb u (length b - trailer_size) ≡ is_table b (told b 3) (length b - trailer_size)
-  unfolding is_table numbers
-  no_table u ue thin =
-      let end : ℕ = length b - trailer_size in
-      let part : length (slice (told b 3) end b) ≡ end - told b 3 = length-slice (told b 3) end b (omega (arith, f.trail.long)) in
-      sym (ap (λ (κ : BookKind). same (numbers (table_in (form_of κ) (rule_of κ) (names_of b))) (slice (told b 3) end b)) thin
-      ∙ go (slice (told b 3) end b) (omega (arith, part, ue, f.trail.total)))
-    where
-      go : (zs : Bytes) → u + length zs ≡ length b - trailer_size → same (numbers []) zs ≡ eqb u (length b - trailer_size)
-      go [] z = same_refl [] ∙ sym (eq-eqb u (length b - trailer_size) (omega (arith, z)))
-      go (x ∷ zs) z = some (same [] (x ∷ zs)) refl ∙ sym (ne_eqb u (length b - trailer_size) (λ e. lt_irrefl u (omega (arith, z, e))))
-        where
-          some : (t : Bool) → same [] (x ∷ zs) ≡ t → t ≡ false
-          some false e = refl
-          some true e = absurd (lt_irrefl 0 (omega (arith, ap length (same_true [] (x ∷ zs) e))))
-
 -- ---- both
 
 pub frame-fails : (b : Bytes) (r : Bool) → r ≡ false → FramedSays b r → PartsSay b false
@@ -188,29 +160,6 @@ frame-stands b false h says = absurd (false≠true h)
 pub table-says : (b : Bytes) → Framed b → (q : Bool) → q ≡ is_table b (told b 3) (length b - trailer_size) → PartsSay b q
 table-says b f true e = record { framed = f; nodes = sym e }
 table-says b f false e = λ p. false≠true (e ∙ p.nodes)
-
--- bytes under the thin mark, whose entries were walked over by the plain rule
-module _ (b : Bytes) (thin : kind_of b ≡ ThinBook) where
-  thin-stands : (u : ℕ) → u ≡ told b 3 → u ≡ length b - trailer_size → Framed b → Parts b
-  thin-stands u ue bare f = record { framed = f; nodes = sym (no_table b f u ue thin) ∙ eq-eqb u (length b - trailer_size) bare }
-
-  pub thin-parts : (n k s u : ℕ) → NumbersRead b n k s u → u ≡ length b - trailer_size → (r : Bool) → WalkSays plain b k s u n r → PartsSay b r
-  thin-parts n k s u a bare r says = go r (framed-says b n k s u a r (subst (λ (ρ : Rule). WalkSays ρ b k s u n r) (sym (ap rule_of thin)) says))
-    where
-      go : (t : Bool) → FramedSays b t → PartsSay b t
-      go true f = thin-stands u a.nodes bare f
-      go false fails = λ p. fails p.framed
-
-  pub table-told : (u : ℕ) → u ≡ told b 3 → (u ≡ length b - trailer_size → ⊥) → Parts b → ⊥
-  table-told u ue elsewhere p = elsewhere (eqb-true u (length b - trailer_size) (no_table b p.framed u ue thin ∙ p.nodes))
-
-pub trail-stands : (b : Bytes) (r : Bool) → r ≡ true → TrailSays b r → Trail b
-trail-stands b true h says = says
-trail-stands b false h says = absurd (false≠true h)
-
-pub trail-told : (b : Bytes) (r : Bool) → r ≡ false → TrailSays b r → Parts b → ⊥
-trail-told b true h says p = absurd (false≠true (sym h))
-trail-told b false h says p = says p.framed.trail
 
 -- what an accepting answer says
 pub record SoundBook (b : Bytes) (t : Trailer) : Type 0 where

@@ -11,7 +11,7 @@ use lib.Seq.{drop-append-le, get_or-drop, length-take-le, slice, take_at, take-l
 use Rattle.words.specs.Words.{Bytes, InBytes, Rule, same}
 use Rattle.words.proofs.Words.{same_refl, same_true}
 use Rattle.format.specs.Spans.{is_table}
-use Rattle.format.specs.Kinds.{BookKind, ColumnBook, FoldedBook, PlainBook, ThinBook, count_in, form_of, kind_of, mark_of, record_size, rule_in, rule_of, table_in}
+use Rattle.format.specs.Kinds.{BookKind, ColumnBook, FoldedBook, PlainBook, count_in, form_of, kind_of, mark_of, record_size, rule_in, rule_of, table_in}
 use Rattle.format.specs.Layout.{Layout}
 use Rattle.format.specs.Book.{Book, block_part, book, entry_part, number, numbers, opened, trailer, trailer_size, names_of, told}
 use Rattle.format.proofs.Book.{Fits, blocks_at, book-length, book-opened, fits-parts, from-nodes, from-trailer, kind-of-book, nodes_at, opened-book, parts-fits, read-field, table-count, table-length, trailer_at, trailer_numbers}
@@ -143,7 +143,6 @@ unfolding number numbers
 mark-numbers PlainBook n k s u m t = (refl, refl)
 mark-numbers FoldedBook n k s u m t = (refl, refl)
 mark-numbers ColumnBook n k s u m t = (refl, refl)
-mark-numbers ThinBook n k s u m t = (refl, refl)
 
 module _ (κ : BookKind) (k : ℕ) (xs : List Bytes) (f : Fits κ k xs) where
   z : Layout (rule_of κ) (form_of κ) (mark_of κ)

@@ -3,7 +3,6 @@
 ghost use Rattle.std.specs.Prelude.{◌≡◌, ◌-◌, length};
 ghost use Rattle.format.specs.Book.{opened, told, trailer_size};
 ghost use Rattle.format.specs.Outcomes.{check_of};
-ghost use Rattle.format.specs.Kinds.{ThinBook, kind_of};
 ghost use Rattle.format.specs.Spans.{is_table};
 ghost use Rattle.accept.specs.Parts.{Framed, FramedSays, PartsSay, check_on, checked_as};
 
@@ -35,18 +34,17 @@ fn is_framed(book: &[u8]) -> bool
     }
 }
 
-// Whether the table stands that the trailer tells of. A thin book has none: it starts where the trailer begins. Every other form has nodes, and
-// the walk over them goes by the map that the trailer tells.
+// Whether the table stands that the trailer tells of. Every form has nodes, and the walk over them goes by the map that the trailer tells.
 fn is_table(book: &[u8]) -> bool
     requires { Framed book.now }
     ensures { result ≡ is_table book.now (told book.now 3) (length book.now - trailer_size) }
 {
-    let nodes = trailer::nodes_at(book);
-    let end = book.len() - trailer::SIZE;
-    if trailer::is_thin(book) {
-        return nodes == end;
-    }
-    inspect::check_table(book, nodes, end, trailer::names(book))
+    inspect::check_table(
+        book,
+        trailer::nodes_at(book),
+        book.len() - trailer::SIZE,
+        trailer::names(book),
+    )
 }
 
 // Whether all parts of a book stand. It hands no number on: what it would keep of the trailer while it walks would lie below every level
@@ -59,24 +57,6 @@ pub fn is_book(book: &[u8]) -> bool
     } else {
         false
     }
-}
-
-// Whether bytes under the thin mark are a book: the trailer, no byte between the block table and the trailer, and the entries. On this way no
-// node table is walked over, so it takes the same little stack whatever the bytes are.
-pub fn is_thin_book(book: &[u8]) -> bool
-    requires { kind_of book.now ≡ ThinBook }
-    ensures { PartsSay book.now result }
-{
-    if trailer::is_trailer(book) {
-        let n = trailer::names(book);
-        let k = trailer::block(book);
-        let blocks = trailer::blocks_at(book);
-        let nodes = trailer::nodes_at(book);
-        if nodes == book.len() - trailer::SIZE {
-            return walk::check_entries(Rule::Plain, book, n, k, blocks, nodes);
-        }
-    }
-    false
 }
 
 // Whether bytes are a book; then its trailer is read once for all who go on.

@@ -20,7 +20,7 @@ use borrow.Author.Tests.{eq-eqb, eqb-true, le-leb, lt-leb, ne_eqb}
 use Rattle.words.specs.Words.{Bytes, Words, begins, both, pick, same, shared, word}
 use Rattle.words.specs.Rising.{All, cons, nil}
 use Rattle.format.specs.Full.{is_full}
-use Rattle.format.specs.Kinds.{BookKind, ColumnBook, ThinBook, FoldedBook, PlainBook, kind_of, mark_of, rule_of}
+use Rattle.format.specs.Kinds.{BookKind, ColumnBook, FoldedBook, PlainBook, kind_of, mark_of, rule_of}
 use Rattle.format.specs.Book.{Book, NoBook, Opened, opened, trailer_size}
 use Rattle.format.specs.Outcomes.{Answer, check_of, given, refused}
 use Rattle.format.specs.Records.{longest}
@@ -71,7 +71,6 @@ module _ (s : Bytes) (sound : (check s).code ≡ 0) where
       go PlainBook h = refl
       go FoldedBook h = refl
       go ColumnBook h = absurd (lt_irrefl 0 (omega (arith, e, h)))
-      go ThinBook h = absurd (lt_irrefl 0 (omega (arith, e, h)))
 
   pub full-other : (get_or s (length s - 2) 0 ≡ 0x4B → ⊥) → eqb (get_or s (length s - 2) 0) 0x46 ≡ is_full (kind_of s)
   full-other n = third (eqb (get_or s (length s - 2) 0) 0x46) go
@@ -80,7 +79,6 @@ module _ (s : Bytes) (sound : (check s).code ≡ 0) where
       go PlainBook h = absurd (n h)
       go FoldedBook h = eq-eqb (get_or s (length s - 2) 0) 0x46 h
       go ColumnBook h = ne_eqb (get_or s (length s - 2) 0) 0x46 (λ e. lt_irrefl 0 (omega (arith, e, h)))
-      go ThinBook h = ne_eqb (get_or s (length s - 2) 0) 0x46 (λ e. lt_irrefl 0 (omega (arith, e, h)))
 
 -- ---- what a question tells
 

@@ -11,25 +11,24 @@
 use Prim.Native.Nat.{ℕ, zero, suc, ◌+◌, ◌%◌, ◌≤◌, ◌<◌, zero-le}
 use native.Mathlib.Nat.{le_of_suc-le-suc, not-suc-le-zero}
 use native.Mathlib.Omega.{arith}
-use mathlib.Core.Path.{◌≡◌, refl, sym, subst}
+use mathlib.Core.Path.{◌≡◌, ◌∙◌, ap, refl, sym, subst}
 use mathlib.Core.Bool.{Bool, true, false}
 use mathlib.Core.List.{List, [], ◌∷◌, map}
 use lib.Dec.{ltb, eqb}
 use lib.ListN.{length}
-use borrow.Author.Tests.{ltb-false, ne_eqb}
+use borrow.Author.Tests.{eq-eqb, ltb-false, ne_eqb}
 use Rattle.words.specs.Rising.{All, Rises, cons}
 use Rattle.words.specs.Words.{Bytes, Rule, Words, at, pick, shared, word}
 use Rattle.words.proofs.Lists.{all_head, all_left, all_map, all_right, all_tail}
 use Rattle.words.proofs.Rising.{rises-left, rises-right}
 use Rattle.format.specs.Nodes.{depth, glue, groups}
 use Rattle.format.specs.Book.{Book, NoBook, Opened, opened}
-use Rattle.format.specs.Kinds.{Bare, Columns, Form, Rows, Tabled, columnwise, form_of, rows, rule_of}
 use Rattle.format.specs.Outcomes.{Answer, given, refused}
 use Rattle.format.proofs.Groups.{PartedGroups, Same, Share, Short, children, deeper, depth-share, joined_groups, part, shorter, whole}
 use Rattle.answers.specs.Stops.{Stop, stop_at}
 use Rattle.answers.specs.Questions.{child_of, reach_within, reached}
 use Rattle.answers.specs.Calls.{names_answer, question, question_of}
-use Rattle.answers.specs.Counts.{Counted, counted_in, counted_of, counted_question, entries, names_counted, unlooked, visits}
+use Rattle.answers.specs.Counts.{Counted, counted_of, counted_question, entries, names_counted, unlooked, visits}
 
 pub visits-none : (q : List ℕ) → visits q [] ≡ 0
 unfolding visits reach_within
@@ -140,30 +139,13 @@ unfolding entries
 entries-some k q [] h = absurd (omega arith)
 entries-some k q (w ∷ ws) h = refl
 
--- the answer is the same in every form of table
-pub counted-in : (f : Form) (c : Counted) → (counted_in f c).answer ≡ c.answer
-counted-in Rows c = refl
-counted-in Columns c = refl
-counted-in Bare c = refl
-
--- .. and so is what was counted, where there are nodes
-pub counted-tabled : {f : Form} → Tabled f → (c : Counted) → counted_in f c ≡ c
-counted-tabled rows c = refl
-counted-tabled columnwise c = refl
-
--- .. and where nothing was
-pub counted-nothing : (f : Form) (a : Answer) → counted_in f (record { answer = a; visits = 0; entries = 0 }) ≡ record { answer = a; visits = 0; entries = 0 }
-counted-nothing Rows a = refl
-counted-nothing Columns a = refl
-counted-nothing Bare a = refl
-
 pub counted-answer : (kind : ℕ) (s q : Bytes) → (counted_question kind s q).answer ≡ question kind s q
 unfolding counted_question question counted_of question_of names_counted
 counted-answer kind s q = go (opened s)
   where
     go : (o : Opened) → (counted_of kind q o).answer ≡ question_of kind q o
     go NoBook = refl
-    go (Book κ k xs) = counted-in (form_of κ) (names_counted (rule_of κ) k kind q xs)
+    go (Book κ k xs) = refl
 
 module _ (ρ : Rule) (k kind : ℕ) (q : Bytes) (xs : List Bytes) where
   pub counted-no : (code : ℕ) → (code ≡ 0 → ⊥) → names_answer ρ kind q xs ≡ refused code → names_counted ρ k kind q xs ≡ unlooked code

@@ -1,7 +1,6 @@
 -- Laws of the questions and of the calls. No contract cites them.
 pub mod Accents
 pub mod AllRefusals
-pub mod ThinRefusals
 pub mod Beside
 pub mod Places
 pub mod Nearest
@@ -17,4 +16,3 @@ pub mod Example
 pub mod Announcing
 pub mod Routes
 pub mod Converting
-pub mod Revising

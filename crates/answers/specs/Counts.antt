@@ -4,7 +4,7 @@
 -- The laws are in proofs/Counts.antt. Assumes nothing: these are definitions.
 use Rattle.std.specs.Prelude.{ℕ, suc, ◌%◌, List, [], ◌∷◌, map, eqb, length}
 use Rattle.words.specs.Words.{Bytes, Rule, Words, pick, word}
-use Rattle.format.specs.Kinds.{Bare, Columns, Form, Rows, form_of, rule_of}
+use Rattle.format.specs.Kinds.{rule_of}
 use Rattle.format.specs.Book.{Opened, Book, NoBook, opened}
 use Rattle.format.specs.Outcomes.{Answer, refused}
 use Rattle.answers.specs.Questions.{reach_within, reached}
@@ -32,15 +32,9 @@ names_counted ρ k kind q xs =
     let looked : ℕ → ℕ = λ n. pick (eqb a.code 0) n 0 in
     record { answer = a; visits = looked (visits (word ρ q) (map (word ρ) xs)); entries = looked (entries k (word ρ q) (map (word ρ) xs)) }
 
--- CR 11: where there is no node table, nothing is counted
-abbrev pub counted_in : Form → Counted → Counted
-counted_in Rows c = c
-counted_in Columns c = c
-counted_in Bare c = record { answer = c.answer; visits = 0; entries = 0 }
-
 unfoldable pub counted_of : ℕ → Bytes → Opened → Counted
 counted_of kind q NoBook = unlooked 2
-counted_of kind q (Book κ k xs) = counted_in (form_of κ) (names_counted (rule_of κ) k kind q xs)
+counted_of kind q (Book κ k xs) = names_counted (rule_of κ) k kind q xs
 
 unfoldable pub counted_question : ℕ → Bytes → Bytes → Counted
 counted_question kind s q = counted_of kind q (opened s)

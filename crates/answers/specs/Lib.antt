@@ -11,4 +11,3 @@ pub mod Salvage
 pub mod Announcing
 pub mod Routes
 pub mod Converting
-pub mod Revising

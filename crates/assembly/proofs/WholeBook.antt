@@ -1,7 +1,7 @@
 -- Laws of the whole book.
---     rows-counted, columns-counted, none-counted     how many records each arm counts
+--     nodes-counted                   what both arms count
 --     rows-put, rows-ask              the arm for node rows: what it writes, what it asks
---     columns-put, none-put           the arm for columns, which are not written here; for no table
+--     columns-put                     the arm for columns, which no full book has
 --     lengths-are                     the lengths that were noted
 --     sizes-are, table_fits, ..       the sizes, by counting
 --     trailer-is                      the trailer as eight numbers
@@ -9,7 +9,7 @@
 --     blocks-part, table-part, book-lent      three parts, each from where the one before ended, are the book
 -- Assumes nothing.
 use Prim.Native.Nat.{ℕ, zero, suc, ◌+◌, ◌-◌, ◌*◌, ◌≤◌}
-use native.Mathlib.Nat.{lt_irrefl, mul-le-mul}
+use native.Mathlib.Nat.{mul-le-mul}
 use native.Mathlib.Omega.{arith}
 use mathlib.Core.Path.{◌≡◌, refl, sym, ap, ap₂, ◌∙◌, subst}
 use mathlib.Core.List.{List, [], ◌∷◌, ◌++◌, map}
@@ -17,12 +17,14 @@ use lib.ListN.{length, take, drop, length-append}
 use mir.Val.{Fits}
 use mir.Syntax.{w64}
 use Rattle.words.specs.Words.{Bytes, Rule, Words, word}
-use Rattle.format.specs.Kinds.{Bare, BookKind, Columns, Form, Rows, count_in, form_of, mark_of, record_size, rule_of, table_in}
+use Rattle.words.proofs.Words.{false≠true}
+use Rattle.format.specs.Full.{by_rows}
+use Rattle.format.specs.Kinds.{BookKind, count_in, form_of, mark_of, record_size, rule_of, table_in}
 use Rattle.format.specs.Book.{block_part, book, entry_part, numbers, trailer}
 use Rattle.format.specs.Spans.{node_part}
 use Rattle.format.specs.Nodes.{table, node_size}
 use Rattle.format.proofs.BookKinds.{kind-layout, mark-length}
-use Rattle.format.proofs.Book.{book-length, book-three, count_most, table-length, trailer_at, trailer_numbers}
+use Rattle.format.proofs.Book.{book-length, book-three, full-nodes, node-length, node-number, table-length, trailer_at, trailer_numbers}
 use Rattle.format.proofs.Numbers.{numbers-length}
 use Rattle.format.proofs.Groups.{table_empty}
 use Rattle.format.proofs.Spans.{table-few}
@@ -34,11 +36,11 @@ use Rattle.symbols.specs.Rules.{rule_by}
 use Rattle.symbols.specs.declared.Rule.{Rule as ByRule}
 use Rattle.kinds.specs.Known.{form_by}
 use Rattle.kinds.specs.declared.Form.{Form as CodeForm}
-use Rattle.kinds.specs.declared.Form.TheVariants.{Columns as InColumns, None as InNone, Rows as InRows}
+use Rattle.kinds.specs.declared.Form.TheVariants.{Columns as InColumns}
 use Rattle.nodes.specs.Writing.{NodesAsk, NodesPut}
 use Rattle.counting.specs.Counting.{NodeCount}
 use Rattle.blocks.specs.Writing.{LengthsAre, SumsAre}
-use Rattle.assembly.specs.Whole.{BuildAsk, RecordCount, Sized, TablePut, Writable, in_rows_lem, not-at-all}
+use Rattle.assembly.specs.Whole.{BuildAsk, RecordCount, Sized, TablePut}
 
 -- ---- the table by its form
 
@@ -47,63 +49,26 @@ names-words : (κ : BookKind) (s : Bytes) → map (word (rule_of κ)) (names s) 
 unfolding words
 names-words κ s = refl
 
--- no form that is written here has columns
-not-columns : {f : Form} → Writable f → f ≡ Columns → ⊥
-not-columns w e = lt_irrefl 0 (omega (arith, tells w, ap told_by e))
+pub nodes-counted : (κ : BookKind) (n : ℕ) (shares : List ℕ) (m : ℕ) → NodeCount n shares m → RecordCount κ n shares m
+unfolding NodeCount RecordCount
+nodes-counted κ n shares m p s lens counts ready = p (rule_of κ) s lens counts ready ∙ ap (λ (ws : Words). length (table ws)) (sym (names-words κ s)) ∙ sym (node-number (form_of κ) (rule_of κ) (names s))
+
+pub rows-put : (κ : BookKind) (rule : ByRule) {s room after : Bytes} {m : ℕ} → rule_by rule ≡ rule_of κ → NodesPut (rule_by rule) s room after m → TablePut κ s room after
+rows-put κ rule {s} {room} {after} {m} e p = record {
+  put = λ full h.
+      own.put (h ∙ sym (full_size (names s)) ∙ node-length (form_of κ) (rule_of κ) (names s) ∙ ap (λ (x : ℕ). x * node_size) (node-number (form_of κ) (rule_of κ) (names s) ∙ ap (λ (ws : Words). length (table ws)) (names-words κ s)))
+      ∙ ap (λ (ws : Words). node_part (table ws)) (sym (names-words κ s)) ∙ sym (full-nodes κ full (rule_of κ) (names s));
+}
   where
-    told_by : Form → ℕ
-    told_by Rows = 0
-    told_by Columns = 1
-    told_by Bare = 0
+    own : NodesPut (rule_of κ) s room after m
+    own = subst (λ (ρ : Rule). NodesPut ρ s room after m) e p
 
-    tells : {f : Form} → Writable f → told_by f ≡ 0
-    tells in_rows_lem = refl
-    tells not-at-all = refl
+    full_size : (xs : List Bytes) → length (numbers (table_in (form_of κ) (rule_of κ) xs)) ≡ count_in (form_of κ) (rule_of κ) xs * record_size (form_of κ)
+    full_size xs = table-length (form_of κ) (rule_of κ) xs
 
--- the arm of a form was taken
-module _ (κ : BookKind) (form : CodeForm) (e : form_by form ≡ form_of κ) where
-  taken : {arm : CodeForm} → form ≡ arm → form_of κ ≡ form_by arm
-  taken is = sym e ∙ ap form_by is
-
-  pub rows-counted : form ≡ InRows → (n : ℕ) (shares : List ℕ) (m : ℕ) → NodeCount n shares m → RecordCount κ n shares m
-  unfolding NodeCount RecordCount
-  rows-counted is n shares m p w s lens counts ready =
-      p (rule_of κ) s lens counts ready ∙ ap (λ (ws : Words). length (table ws)) (sym (names-words κ s)) ∙ ap (λ (f : Form). count_in f (rule_of κ) (names s)) (sym (taken is))
-
-  pub columns-counted : form ≡ InColumns → (n : ℕ) (shares : List ℕ) (m : ℕ) → RecordCount κ n shares m
-  unfolding RecordCount
-  columns-counted is n shares m w = absurd (not-columns w (taken is))
-
-  pub none-counted : form ≡ InNone → (n : ℕ) (shares : List ℕ) → RecordCount κ n shares 0
-  unfolding RecordCount
-  none-counted is n shares w s lens counts ready = ap (λ (f : Form). count_in f (rule_of κ) (names s)) (sym (taken is))
-
-  pub rows-put : form ≡ InRows → (rule : ByRule) {s room after : Bytes} {m : ℕ} → rule_by rule ≡ rule_of κ → NodesPut (rule_by rule) s room after m → TablePut κ s room after
-  unfolding node_part
-  rows-put is rule {s} {room} {after} {m} re p = record {
-    put = λ w h.
-        own.put (h ∙ ap (λ (f : Form). count_in f (rule_of κ) (names s) * record_size f) (taken is) ∙ ap (λ (ws : Words). length (table ws) * node_size) (names-words κ s))
-        ∙ ap (λ (ws : Words). node_part (table ws)) (sym (names-words κ s)) ∙ ap (λ (f : Form). numbers (table_in f (rule_of κ) (names s))) (sym (taken is));
-  }
-    where
-      own : NodesPut (rule_of κ) s room after m
-      own = subst (λ (ρ : Rule). NodesPut ρ s room after m) re p
-
-  pub columns-put : form ≡ InColumns → {s room after : Bytes} → TablePut κ s room after
-  columns-put is = record { put = λ w h. absurd (not-columns w (taken is)) }
-
-  -- no byte is written, and none is left over
-  pub none-put : form ≡ InNone → {s room : Bytes} → TablePut κ s room room
-  unfolding numbers
-  none-put is {s} {room} = record {
-    put = λ w h.
-        let none : length room ≡ 0 = h ∙ ap (λ (f : Form). count_in f (rule_of κ) (names s) * record_size f) (taken is) in
-        empty room none ∙ ap (λ (f : Form). numbers (table_in f (rule_of κ) (names s))) (sym (taken is));
-  }
-    where
-      empty : (zs : Bytes) → length zs ≡ 0 → zs ≡ []
-      empty [] z = refl
-      empty (x ∷ zs) z = absurd (lt_irrefl 0 (omega (arith, z)))
+-- columns are no full book's table
+pub columns-put : (κ : BookKind) (form : CodeForm) {s room after : Bytes} → form_by form ≡ form_of κ → form ≡ InColumns → TablePut κ s room after
+columns-put κ form e is = record { put = λ full h. absurd (false≠true (ap (λ (f : CodeForm). by_rows (form_by f)) (sym is) ∙ ap by_rows e ∙ full)) }
 
 -- the rule that is handed on is the kind's
 pub rows-ask : (κ : BookKind) (rule : ByRule) {s : Bytes} {n : ℕ} {lens shares : List ℕ} → rule_by rule ≡ rule_of κ → NodesAsk (rule_of κ) s n lens shares → NodesAsk (rule_by rule) s n lens shares
@@ -117,10 +82,10 @@ module _ {κ : BookKind} {s : Bytes} {n : ℕ} {lens counts shares : List ℕ} {
   module _ (m : ℕ) (p : RecordCount κ n shares m) {size : ℕ} (se : size ≡ record_size (form_of κ)) (small : size ≤ node_size) where
     records-are : m ≡ count_in (form_of κ) (rule_of κ) (names s)
     unfolding RecordCount
-    records-are = p a.form s lens counts a.ready
+    records-are = p s lens counts a.ready
 
-    nodes-are : m ≤ length (table (words (rule_of κ) s))
-    nodes-are = omega (arith, records-are, count_most (form_of κ) (rule_of κ) (names s), ap (λ (ws : Words). length (table ws)) (names-words κ s))
+    nodes-are : m ≡ length (table (words (rule_of κ) s))
+    nodes-are = records-are ∙ node-number (form_of κ) (rule_of κ) (names s) ∙ ap (λ (ws : Words). length (table ws)) (names-words κ s)
 
     records-few : m ≤ 4000
     records-few = go n refl
@@ -191,7 +156,7 @@ module _ {κ : BookKind} {s : Bytes} {n : ℕ} {lens counts shares : List ℕ} {
 
       module _ (w v : Bytes) (q : TablePut κ s (take (total - 16 - nodes) (drop nodes (put room 0 nodes x))) w) (v-is : v ≡ trailer (mark_of κ) n k blocks nodes count total) where
         w-is : w ≡ numbers (table_in (form_of κ) (rule_of κ) (names s))
-        w-is = q.put a.form (table-part ∙ ap (λ (i : ℕ). i * record_size (form_of κ)) z.number)
+        w-is = q.put a.full (table-part ∙ ap (λ (i : ℕ). i * record_size (form_of κ)) z.number)
 
         l₂ : length w ≡ total - 16 - nodes
         l₂ = ap length w-is ∙ omega (arith, table-length (form_of κ) (rule_of κ) (names s), ap (λ (i : ℕ). i * record_size (form_of κ)) z.number, z.whole)

@@ -1,5 +1,6 @@
 // The book of a judged list, put together: its sizes, by counting, and then three writers, each on its own part of the room. What a kind of
-// book has of its own is its rule, its table and its mark. Node rows are written here, or no table; columns are made of a book in rows.
+// book has of its own is its rule, its table and its mark. A table has as many records as there are nodes, whatever its form; only rows are
+// written here.
 ghost use Rattle.std.specs.Prelude.{◌≡◌, ◌≤◌, length};
 ghost use Rattle.format.specs.Book.{book};
 ghost use Rattle.format.specs.Outcomes.{over};
@@ -21,20 +22,16 @@ pub struct Sizes {
     pub total: usize,
 }
 
-// How many records the table has: an arm for each form. Rows are as many as there are nodes.
+// How many records the table has: in every form as many as there are nodes.
 fn count_records(kind: Kind, n: usize, shares: &[u8]) -> usize
     requires { CountAsk n shares.now }
     ensures { RecordCount (kind_by kind) n shares.now result }
 {
-    let form = kinds::form_of(kind);
-    match form {
-        Form::Rows => counting::count_nodes(n, shares),
-        Form::Columns => 0,
-        Form::None => 0,
-    }
+    counting::count_nodes(n, shares)
 }
 
-// The table, where the part is as long: an arm for each form. Columns are not written here.
+// The table of a full book, where the part is as long: an arm for each form of table. Columns are not written here: a book by columns is made of
+// a full one.
 fn write_records(kind: Kind, list: &[u8], n: usize, lens: &[u8], shares: &[u8], part: &mut [u8])
     requires { NodesAsk (rule_of (kind_by kind)) list.now n lens.now shares.now }
     ensures { TablePut (kind_by kind) list.now part.old part.new }
@@ -46,7 +43,6 @@ fn write_records(kind: Kind, list: &[u8], n: usize, lens: &[u8], shares: &[u8], 
             nodes::write_nodes(rule, list, n, lens, shares, part);
         }
         Form::Columns => {}
-        Form::None => {}
     }
 }
 

@@ -3,7 +3,7 @@
 // and Rust; a slice is a pointer and a length. A call over a book goes by the book's own mark. Inner
 // functions, which may ask something, stand in the crates below.
 ghost use Rattle.std.specs.Prelude.{◌≡◌, map};
-ghost use Rattle.format.specs.Kinds.{ColumnBook, FoldedBook, PlainBook, ThinBook};
+ghost use Rattle.format.specs.Kinds.{ColumnBook, FoldedBook, PlainBook};
 ghost use Rattle.answers.specs.Calls.{batch, build, check, read_back};
 ghost use Rattle.answers.specs.Converting.{converted};
 ghost use Rattle.answers.specs.Counts.{counted_question};
@@ -31,14 +31,6 @@ pub extern "C" fn book_build_folded(list: &[u8], block: usize, room: &mut [u8]) 
     ensures { written result room.new ≡ build FoldedBook list.now block room.old }
 {
     build::build_list(Kind::Folded, list, block, room)
-}
-
-// Builds the thin book, which has no node table: 9 goes by its own length.
-#[unsafe(no_mangle)]
-pub extern "C" fn book_build_thin(list: &[u8], block: usize, room: &mut [u8]) -> Answer
-    ensures { written result room.new ≡ build ThinBook list.now block room.old }
-{
-    build::build_list(Kind::Thin, list, block, room)
 }
 
 // The book by columns of a plain book: the same names in blocks of the same size, and the node table field by field. Refusals: 2, also for a
@@ -104,10 +96,6 @@ pub extern "C" fn book_read(book: &[u8], position: usize, room: &mut [u8]) -> An
 pub extern "C" fn book_exact(book: &[u8], question: &[u8]) -> Counted
     ensures { counted result ≡ counted_question 1 book.now question.now }
 {
-    if trailer::looks_thin(book) {
-        let found = questions::ask_thin(book, 1, question);
-        return found;
-    }
     questions::ask_alone(book, 1, question)
 }
 
@@ -116,10 +104,6 @@ pub extern "C" fn book_exact(book: &[u8], question: &[u8]) -> Counted
 pub extern "C" fn book_place(book: &[u8], question: &[u8]) -> Counted
     ensures { counted result ≡ counted_question 2 book.now question.now }
 {
-    if trailer::looks_thin(book) {
-        let found = questions::ask_thin(book, 2, question);
-        return found;
-    }
     questions::ask_alone(book, 2, question)
 }
 
@@ -128,10 +112,6 @@ pub extern "C" fn book_place(book: &[u8], question: &[u8]) -> Counted
 pub extern "C" fn book_range(book: &[u8], question: &[u8]) -> Counted
     ensures { counted result ≡ counted_question 3 book.now question.now }
 {
-    if trailer::looks_thin(book) {
-        let found = questions::ask_thin(book, 3, question);
-        return found;
-    }
     questions::ask_alone(book, 3, question)
 }
 
@@ -140,10 +120,6 @@ pub extern "C" fn book_range(book: &[u8], question: &[u8]) -> Counted
 pub extern "C" fn book_nearest(book: &[u8], question: &[u8]) -> Counted
     ensures { counted result ≡ counted_question 4 book.now question.now }
 {
-    if trailer::looks_thin(book) {
-        let found = questions::ask_thin(book, 4, question);
-        return found;
-    }
     questions::ask_alone(book, 4, question)
 }
 
@@ -152,10 +128,6 @@ pub extern "C" fn book_nearest(book: &[u8], question: &[u8]) -> Counted
 pub extern "C" fn book_width(book: &[u8], question: &[u8]) -> Counted
     ensures { counted result ≡ counted_question 5 book.now question.now }
 {
-    if trailer::looks_thin(book) {
-        let found = questions::ask_thin(book, 5, question);
-        return found;
-    }
     questions::ask_alone(book, 5, question)
 }
 

@@ -11,7 +11,8 @@ use mathlib.Core.List.{List}
 use lib.ListN.{length}
 use borrow.Author.Tests.{le-leb, lt-leb}
 use Rattle.words.specs.Words.{Bytes, Rule, pick}
-use Rattle.format.specs.Kinds.{BookKind, form_of, rule_of}
+use Rattle.format.specs.Full.{is_full}
+use Rattle.format.specs.Kinds.{BookKind, rule_of}
 use Rattle.format.proofs.BookKinds.{kind-sure}
 use Rattle.format.specs.Book.{good_block}
 use Rattle.format.specs.Records.{Names, Reading, Refused, most_names, read_list, sound}
@@ -22,7 +23,7 @@ use Rattle.symbols.specs.Rules.{rule_by}
 use Rattle.symbols.specs.declared.Rule.{Rule as ByRule}
 use Rattle.records.specs.Lists.{Judged, Noted, names, names_in, verdict_numbers, reading_of}
 use Rattle.records.proofs.Names.{names-are}
-use Rattle.assembly.specs.Whole.{BuildAsk, Writable}
+use Rattle.assembly.specs.Whole.{BuildAsk}
 use Rattle.build.specs.Ends.{built_of, shown_built}
 use Rattle.build.specs.declared.Built.{Built}
 use Rattle.build.specs.declared.Built.TheVariants.{Refused as Stopped, Written as Wrote}
@@ -61,9 +62,9 @@ module _ (κ : BookKind) (s : Bytes) (k : ℕ) (room : Bytes) where
         go (Names xs) f = absurd (let y : code ≡ 0 = ap (λ (a : Numbers). a.code) f in omega (arith, j.refuses code i u))
         go (Refused c j) f = ap (λ (a : Numbers). record { answer = a; room = room }) f
 
-    pub judged-asks : (rule : ByRule) → rule_by rule ≡ rule_of κ → (n : ℕ) (lens counts shares : List ℕ) (v : Verdict) → Judged (rule_by rule) s most_names lens counts shares v → v ≡ Good n → length lens ≡ most_names → Writable (form_of κ) → BuildAsk κ s n lens counts shares k
+    pub judged-asks : (rule : ByRule) → rule_by rule ≡ rule_of κ → (n : ℕ) (lens counts shares : List ℕ) (v : Verdict) → Judged (rule_by rule) s most_names lens counts shares v → v ≡ Good n → length lens ≡ most_names → is_full κ ≡ true → BuildAsk κ s n lens counts shares k
     unfolding reading_of
-    judged-asks rule re n lens counts shares v by-rule e places form = go (read_list (rule_of κ) most_names s) refl (ap verdict_numbers (sym e) ∙ j.verdict)
+    judged-asks rule re n lens counts shares v by-rule e places full = go (read_list (rule_of κ) most_names s) refl (ap verdict_numbers (sym e) ∙ j.verdict)
       where
         j : Judged (rule_of κ) s most_names lens counts shares v
         j = subst (λ (ρ : Rule). Judged ρ s most_names lens counts shares v) re by-rule
@@ -87,7 +88,7 @@ module _ (κ : BookKind) (s : Bytes) (k : ℕ) (room : Bytes) where
               };
               low = omega arith;
               high = h;
-              form = form;
+              full = full;
             }
 
     -- what building a judged list gave, as the call's own answer

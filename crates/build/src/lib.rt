@@ -1,12 +1,13 @@
 // Building a book from a list: it is judged; then come the sizes, so that nothing is written before it is known that all of it fits; and then
 // the book is put together (crate `assembly`).
-ghost use Rattle.std.specs.Prelude.{◌≡◌};
+ghost use Rattle.std.specs.Prelude.{◌≡◌, true};
 ghost use Rattle.format.specs.Records.{most_names, read_list};
 ghost use Rattle.answers.specs.Calls.{build};
-ghost use Rattle.format.specs.Kinds.{form_of, rule_of};
+ghost use Rattle.format.specs.Full.{is_full};
+ghost use Rattle.format.specs.Kinds.{rule_of};
 ghost use Rattle.kinds.specs.Known.{kind_by};
 ghost use Rattle.shapes.specs.Shapes.{written};
-ghost use Rattle.assembly.specs.Whole.{BuildAsk, Writable};
+ghost use Rattle.assembly.specs.Whole.{BuildAsk};
 ghost use Rattle.build.specs.Ends.{built_of, shown_built};
 
 use kinds::Kind;
@@ -46,9 +47,9 @@ pub fn build_judged(
     Built::Written(total)
 }
 
-// The book of a list with blocks of so many names, of a kind whose table is written in rows, or not at all, at the front of the room. Refusals: 8; record by record 5, 6, 7; 9; 4.
+// The book of a list with blocks of so many names, of a full kind, at the front of the room. Refusals: 8; record by record 5, 6, 7; 9; 4.
 pub fn build_list(kind: Kind, list: &[u8], block: usize, room: &mut [u8]) -> shapes::Answer
-    requires { Writable (form_of (kind_by kind)) }
+    requires { is_full (kind_by kind) ≡ true }
     ensures { written result room.new ≡ build (kind_by kind) list.now block room.old }
 {
     if block == 0 {

@@ -27,7 +27,7 @@ use Rattle.words.specs.Words.{Bytes, InBytes, both, plain, same}
 use Rattle.words.proofs.Words.{apart, both_true, false≠true, same_refl, same_true}
 use Rattle.format.specs.Book.{number, numbers, told, trailer_size}
 use Rattle.format.specs.Full.{is_full}
-use Rattle.format.specs.Kinds.{BookKind, ColumnBook, FoldedBook, PlainBook, ThinBook, form_of, kind_of, mark_of, record_size}
+use Rattle.format.specs.Kinds.{BookKind, ColumnBook, FoldedBook, PlainBook, form_of, kind_of, mark_of, record_size}
 use Rattle.format.specs.Nodes.{node_size}
 use Rattle.format.specs.Salvage.{Block, Broken, Whole, block_count, bounds, climbs, from_zero, judged_alone, mapped, spans}
 use Rattle.format.proofs.Numbers.{numbers-are, numbers-told}
@@ -124,7 +124,6 @@ pub plain-full : (κ : BookKind) (r : ByRule) (full : Bool) → r ≡ by_kind κ
 plain-full PlainBook r full e h f = rw f refl
 plain-full FoldedBook r full e h f = absurd (rules-differ (sym e ∙ h))
 plain-full ColumnBook r full e h f = rw f (λ same. false≠true (ap is_full same))
-plain-full ThinBook r full e h f = rw f (λ same. false≠true (ap is_full same))
 
 pub not-by-plain : (κ : BookKind) (r : ByRule) → r ≡ by_kind κ → r ≡ Folded → PlainSays κ false
 not-by-plain κ r e h = λ z. rules-differ (sym h ∙ e ∙ ap by_kind z)

@@ -12,7 +12,7 @@ use lib.ListN.{get_or, length, length-append, take}
 use lib.Seq.{slice}
 use Rattle.words.specs.Words.{Bytes, plain, word}
 use Rattle.format.specs.Forms.{Form, laid_out}
-use Rattle.format.specs.Kinds.{BookKind, ColumnBook, PlainBook, Tabled, columnwise, count_in, form_of, kind_of, mark_of, rows, table_in}
+use Rattle.format.specs.Kinds.{BookKind, ColumnBook, PlainBook, count_in, form_of, kind_of, mark_of, table_in}
 use Rattle.format.specs.Layout.{Layout}
 use Rattle.format.specs.Nodes.{Node, node_size, table}
 use Rattle.format.specs.Book.{block_part, book, book_by, entry_part, fits, longest_book, names_of, numbers, told, trailer}
@@ -31,19 +31,10 @@ use Rattle.turning.proofs.Tables.{to-columns as rows-turned, to-rows as columns-
 use Rattle.convert.specs.declared.Turn.{Turn}
 use Rattle.convert.specs.Turns.{OtherAsk, Turns, to-columns, to-rows, turn_for, turn_in}
 
--- both kinds have nodes
-turns-from : {κ μ : BookKind} → Turns κ μ → Tabled (form_of κ)
-turns-from to-columns = rows
-turns-from to-rows = columnwise
-
-turns-to : {κ μ : BookKind} → Turns κ μ → Tabled (form_of μ)
-turns-to to-columns = columnwise
-turns-to to-rows = rows
-
 -- two forms of one list's table
-module _ {f g : Form} (tf : Tabled f) (tg : Tabled g) {mark other : Bytes} (y : Layout plain f mark) (z : Layout plain g other) (k : ℕ) (xs : List Bytes) where
+module _ {f g : Form} {mark other : Bytes} (y : Layout plain f mark) (z : Layout plain g other) (k : ℕ) (xs : List Bytes) where
   many : count_in f plain xs ≡ count_in g plain xs
-  many = node-number tf plain xs ∙ sym (node-number tg plain xs)
+  many = node-number f plain xs ∙ sym (node-number g plain xs)
 
   pub same_end : trailer_at y k xs ≡ trailer_at z k xs
   same_end = omega (arith, node-length f plain xs, node-length g plain xs, ap (λ (m : ℕ). m * node_size) many)
@@ -160,11 +151,11 @@ module _ {κ μ : BookKind} (turns : Turns κ μ) (y : Layout plain (form_of κ)
   by-forms-whole room r₁ w v big front w-is v-is =
       let at : length b - 16 ≡ trailer_at y k xs = omega (arith, size_is) in
       ap₂ (λ (o e : ℕ). put (put r₁ o e w) e (length b) v) nodes-are at ∙ ap (λ (l : ℕ). put (put r₁ (nodes_at y k xs) (trailer_at y k xs) w) (trailer_at y k xs) l v) size_is
-      ∙ other-parts (turns-from turns) (turns-to turns) y z k xs room r₁ w v (omega (arith, size_is)) (front ∙ ap₂ (λ (o : ℕ) (s : Bytes). over (take o s) room) nodes-are (sym is)) table v-numbers
+      ∙ other-parts y z k xs room r₁ w v (omega (arith, size_is)) (front ∙ ap₂ (λ (o : ℕ) (s : Bytes). over (take o s) room) nodes-are (sym is)) table v-numbers
     where
       table : w ≡ numbers (table_in (form_of μ) plain xs)
       table =
-          w-is ∙ turned-other turns b t.nodes_at (table_of xs) t.nodes (sym (count-is ∙ node-number (turns-from turns) plain xs)) table-there
+          w-is ∙ turned-other turns b t.nodes_at (table_of xs) t.nodes (sym (count-is ∙ node-number (form_of κ) plain xs)) table-there
           ∙ sym (ap numbers (node-table (form_of μ) plain xs))
 
       v-numbers : v ≡ numbers (trailer_numbers y k xs) ++ mark_of μ
@@ -186,7 +177,7 @@ module _ {κ μ : BookKind} (turns : Turns κ μ) (y : Layout plain (form_of κ)
     short = not-long;
     asks = λ part e. turn-asks turns b t.nodes_at t.nodes part (omega (arith, all_there)) not-long e;
     whole = λ room r₁ w v big front w-is v-is. by-forms-whole turns y z b t told_is fit is room r₁ w v big front w-is v-is ∙ ap (λ (x : Bytes). over x room) to;
-    size = ap length (sym to) ∙ book-length z t.block (names_of b) ∙ omega (arith, same_end (turns-from turns) (turns-to turns) y z t.block (names_of b), size_is turns y z b t told_is fit is);
+    size = ap length (sym to) ∙ book-length z t.block (names_of b) ∙ omega (arith, same_end y z t.block (names_of b), size_is turns y z b t told_is fit is);
   }
 
 other-book : {b : Bytes} {t : Trailer} {μ : BookKind} → OtherAsk b t μ → OtherBook b t μ

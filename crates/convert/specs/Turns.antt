@@ -7,7 +7,7 @@
 use Rattle.std.specs.Prelude.{ℕ, ◌*◌, ◌≡◌, leb}
 use Rattle.words.specs.Words.{Bytes, InBytes, pick, same}
 use Rattle.format.specs.Book.{Book, names_of, opened}
-use Rattle.format.specs.Kinds.{Bare, BookKind, ColumnBook, Columns, Form, PlainBook, Rows, form_of, kind_of, mark_of}
+use Rattle.format.specs.Kinds.{BookKind, ColumnBook, Columns, Form, PlainBook, Rows, form_of, kind_of, mark_of}
 use Rattle.trailer.specs.Trailer.{trailer_in}
 use Rattle.trailer.specs.declared.Trailer.{Trailer}
 use Rattle.convert.specs.declared.Turn.{Turn}
@@ -19,7 +19,6 @@ pub data Turns : BookKind → BookKind → Type 0 where
 abbrev pub turn_in : Form → ℕ → Turn
 turn_in Rows m = record { rows = m; inner = 6; step = 2 * m }
 turn_in Columns m = record { rows = 6; inner = m; step = 12 }
-turn_in Bare m = record { rows = 0; inner = 0; step = 0 }
 
 abbrev pub turn_for : BookKind → ℕ → Turn
 turn_for κ m = turn_in (form_of κ) m

@@ -19,7 +19,7 @@ pub struct Turn {
     pub step: usize,
 }
 
-// How a table of m nodes is turned into that of a kind. Where that has none, there is nothing to turn.
+// How a table of m nodes is turned into that of a kind.
 fn turn_to(kind: Kind, m: usize) -> Turn
     requires { m < 65536 }
     ensures { result ≡ turn_for (kind_by kind) m }
@@ -35,11 +35,6 @@ fn turn_to(kind: Kind, m: usize) -> Turn
             rows: 6,
             inner: m,
             step: 12,
-        },
-        Form::None => Turn {
-            rows: 0,
-            inner: 0,
-            step: 0,
         },
     }
 }

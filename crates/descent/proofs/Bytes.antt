@@ -11,7 +11,7 @@ use lib.Seq.{slice}
 use Rattle.words.specs.Rising.{All, Rises, cons, nil, nth}
 use Rattle.words.specs.Words.{Bytes, InBytes, Lawful, Rule, Words, word}
 use Rattle.format.specs.Forms.{laid_out}
-use Rattle.format.specs.Kinds.{Bare, BookKind, Columns, Form, Rows, Tabled, form_of, rule_of}
+use Rattle.format.specs.Kinds.{BookKind, Columns, Form, Rows, form_of, rule_of}
 use Rattle.format.specs.Layout.{Layout}
 use Rattle.format.specs.Spans.{words_of}
 use Rattle.format.specs.Book.{Book, book_by, fits_by, numbers, opened, told}
@@ -40,7 +40,6 @@ modest ρ ok (x ∷ xs) (cons h a) (cons k b) =
 form-paced : (f : Form) (start m : ℕ) → Paced (map_in f start m).stride
 form-paced Rows start m = record { some = omega arith; few = omega arith }
 form-paced Columns start m = record { some = omega arith; few = omega arith }
-form-paced Bare start m = record { some = omega arith; few = omega arith }
 
 -- records that stand are a table's nodes, which starts there
 module _ {b : Bytes} {ws : Words} where
@@ -52,7 +51,7 @@ module _ {b : Bytes} {ws : Words} where
       at v l = stands_at μ b (table ws) start e v no_node h l
 
 -- a book whose table has nodes, in any form
-module _ {ρ : Rule} {f : Form} {mark : Bytes} (y : Layout ρ f mark) (tabled : Tabled f) (k : ℕ) (xs : List Bytes) (fit : fits_by ρ f mark k xs ≡ true) (bytes : InBytes (book_by ρ f mark k xs)) (some : 0 < length xs) where
+module _ {ρ : Rule} {f : Form} {mark : Bytes} (y : Layout ρ f mark) (k : ℕ) (xs : List Bytes) (fit : fits_by ρ f mark k xs ≡ true) (bytes : InBytes (book_by ρ f mark k xs)) (some : 0 < length xs) where
   abbrev b : Bytes
   b = book_by ρ f mark k xs
 
@@ -84,7 +83,7 @@ module _ {ρ : Rule} {f : Form} {mark : Bytes} (y : Layout ρ f mark) (tabled : 
   stood : Stands (map_in f 0 (length records)) b (nodes_at y k xs) records (nodes_at y k xs + length records * (map_in f 0 (length records)).stride)
   stood =
       let low : All (λ n. n < 65536) (all_fields records) = table-small (map (word ρ) xs) up small (omega (arith, count, sound-few ρ xs fits.sound)) in
-      bytes-form b tabled records (nodes_at y k xs) (trailer_at y k xs) (omega (arith, node-length f ρ xs, ap (λ (m : ℕ). m * node_size) (node-number tabled ρ xs))) (omega (arith, book-length y k xs)) low part
+      bytes-form b f records (nodes_at y k xs) (trailer_at y k xs) (omega (arith, node-length f ρ xs, ap (λ (m : ℕ). m * node_size) (node-number f ρ xs))) (omega (arith, book-length y k xs)) low part
 
   table_at : NodesAt (map_in f (nodes_at y k xs) (length records)) b (map (word ρ) xs)
   table_at = go f stood
@@ -93,7 +92,6 @@ module _ {ρ : Rule} {f : Form} {mark : Bytes} (y : Layout ρ f mark) (tabled : 
           → NodesAt (map_in g (nodes_at y k xs) (length records)) b (map (word ρ) xs)
       go Rows h = nodes-at (map_in Rows 0 (length records)) (nodes_at y k xs) _ h
       go Columns h = nodes-at (map_in Columns 0 (length records)) (nodes_at y k xs) _ h
-      go Bare h = nodes-at (map_in Bare 0 (length records)) (nodes_at y k xs) _ h
 
   pub book-searchable : Searchable ρ b (map_in f (told b 3) (told b 4))
   unfolding words_of
@@ -102,7 +100,7 @@ module _ {ρ : Rule} {f : Form} {mark : Bytes} (y : Layout ρ f mark) (tabled : 
       let size : length (words_of ρ b) ≡ length xs = ap length names ∙ count in
       let few : length xs ≤ most_names = sound-few ρ xs fits.sound in
       let here : told b 3 ≡ nodes_at y k xs = read-field y k xs fits 3 (omega arith) in
-      let many : told b 4 ≡ length records = read-field y k xs fits 4 (omega arith) ∙ node-number tabled ρ xs in
+      let many : told b 4 ≡ length records = read-field y k xs fits 4 (omega arith) ∙ node-number f ρ xs in
       record {
         long = omega (arith, book-length y k xs);
         held = fits.short;
@@ -115,8 +113,8 @@ module _ {ρ : Rule} {f : Form} {mark : Bytes} (y : Layout ρ f mark) (tabled : 
         table = subst (λ (vs : Words). NodesAt (map_in f (told b 3) (told b 4)) b vs) (sym names) (rw (here, many) table_at);
       }
 
--- bytes that open as a book with names, of every kind that has nodes
-pub opened-searchable : (κ : BookKind) → Tabled (form_of κ) → (s : Bytes) (k : ℕ) (xs : List Bytes) → opened s ≡ Book κ k xs → InBytes s → 0 < length xs → Searchable (rule_of κ) s (map_in (form_of κ) (told s 3) (told s 4))
-opened-searchable κ tabled s k xs e bytes some =
+-- bytes that open as a book with names, of every kind
+pub opened-searchable : (κ : BookKind) (s : Bytes) (k : ℕ) (xs : List Bytes) → opened s ≡ Book κ k xs → InBytes s → 0 < length xs → Searchable (rule_of κ) s (map_in (form_of κ) (told s 3) (told s 4))
+opened-searchable κ s k xs e bytes some =
     let o = book-opened κ s k xs e in
-    subst (λ (t : Bytes). Searchable (rule_of κ) t (map_in (form_of κ) (told t 3) (told t 4))) o.1 (book-searchable (kind-layout κ) tabled k xs o.0 (subst InBytes (sym o.1) bytes) some)
+    subst (λ (t : Bytes). Searchable (rule_of κ) t (map_in (form_of κ) (told t 3) (told t 4))) o.1 (book-searchable (kind-layout κ) k xs o.0 (subst InBytes (sym o.1) bytes) some)

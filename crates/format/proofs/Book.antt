@@ -2,7 +2,8 @@
 -- All but the last part holds over any rule, form and mark of four bytes; the kinds are instances.
 --     table-length, count_low, table-count     the table's bytes are so many records
 --     laid-length                nodes laid out in any form take as many bytes
---     node-table, node-number, count_most, node-length, node-size     where the records are nodes: their numbers, how many there are, how many bytes they and each take
+--     node-table, node-number, node-length, node-size     where the records are nodes: their numbers, how many there are, how many bytes they and each take
+--     full-nodes                 of a full book they stand record behind record
 --     FitsBy, Fits, fits-parts, parts-fits     what `fits` asks
 --     book-parts, book-split, book-three, book-length      a book is its parts, its body and its trailer; how long it is
 --     from-blocks, from-nodes, from-trailer, from-mark     what stands from each part on
@@ -29,7 +30,8 @@ use Rattle.words.proofs.Lists.{all-at}
 use Rattle.words.proofs.Words.{both_true, same_refl, same_true}
 use Rattle.format.specs.Columns.{columns}
 use Rattle.format.specs.Forms.{laid_out}
-use Rattle.format.specs.Kinds.{BookKind, Bare, Columns, Tabled, columnwise, rows, Form, Rows, all_kinds, count_in, form_of, kind_of, mark_of, marked_as, record_size, rule_of, table_in}
+use Rattle.format.specs.Full.{is_full}
+use Rattle.format.specs.Kinds.{BookKind, Columns, Form, Rows, all_kinds, count_in, form_of, kind_of, mark_of, marked_as, record_size, rule_of, table_in}
 use Rattle.format.specs.Layout.{Layout}
 use Rattle.format.specs.Book.{Book, NoBook, block_part, book, book_by, entry_part, fits, fits_by, good_block, is_book, is_book_by, longest_book, names_of, number, numbers, opened, told, trailer, trailer_size}
 use Rattle.format.specs.Spans.{node_part}
@@ -38,7 +40,7 @@ use Rattle.format.specs.Nodes.{Node, all_fields, field_count, node_size, table}
 use Rattle.format.specs.Records.{sound}
 use Rattle.format.proofs.Columns.{columns-length}
 use Rattle.format.proofs.Entries.{decode-entries}
-use Rattle.format.proofs.BookKinds.{kind-layout, third-tells}
+use Rattle.format.proofs.BookKinds.{full-rows, kind-layout, third-tells}
 use Rattle.format.proofs.Numbers.{number_past, numbers-at, numbers-length}
 use Rattle.format.proofs.Records.{sound-few}
 
@@ -51,53 +53,46 @@ pub nodes-length : (rs : List Node) → length (node_part rs) ≡ node_size * le
 unfolding node_part
 nodes-length rs = omega (arith, numbers-length (all_fields rs), fields-length rs)
 
--- nodes laid out in any form that has them take as many bytes
-pub laid-length : {f : Form} → Tabled f → (rs : List Node) → length (numbers (laid_out f rs)) ≡ length rs * node_size
-laid-length rows rs = omega (arith, numbers-length (all_fields rs), fields-length rs)
-laid-length columnwise rs = omega (arith, numbers-length (columns rs), columns-length rs)
+-- nodes laid out in any form take as many bytes
+pub laid-length : (f : Form) (rs : List Node) → length (numbers (laid_out f rs)) ≡ length rs * node_size
+laid-length Rows rs = omega (arith, numbers-length (all_fields rs), fields-length rs)
+laid-length Columns rs = omega (arith, numbers-length (columns rs), columns-length rs)
 
 -- the table's bytes are so many records
 pub table-length : (f : Form) (ρ : Rule) (xs : List Bytes) → length (numbers (table_in f ρ xs)) ≡ count_in f ρ xs * record_size f
-table-length Rows ρ xs = laid-length rows (table (map (word ρ) xs))
-table-length Columns ρ xs = laid-length columnwise (table (map (word ρ) xs))
-table-length Bare ρ xs = numbers-length []
+table-length Rows ρ xs = laid-length Rows (table (map (word ρ) xs))
+table-length Columns ρ xs = laid-length Columns (table (map (word ρ) xs))
 
 pub count_low : (f : Form) (ρ : Rule) (xs : List Bytes) → count_in f ρ xs ≤ length (numbers (table_in f ρ xs))
 count_low Rows ρ xs = omega (arith, table-length Rows ρ xs)
 count_low Columns ρ xs = omega (arith, table-length Columns ρ xs)
-count_low Bare ρ xs = omega arith
 
 -- so they tell how many there are
 pub table-count : (f : Form) (ρ : Rule) (xs : List Bytes) (m : ℕ) → m * record_size f ≡ length (numbers (table_in f ρ xs)) → m ≡ count_in f ρ xs
 table-count Rows ρ xs m e = omega (arith, table-length Rows ρ xs)
 table-count Columns ρ xs m e = omega (arith, table-length Columns ρ xs)
-table-count Bare ρ xs m e = omega (arith, table-length Bare ρ xs)
 
 -- where the records are nodes: their numbers, how many there are, how many bytes they take
 pub node-table : (f : Form) (ρ : Rule) (xs : List Bytes) → table_in f ρ xs ≡ laid_out f (table (map (word ρ) xs))
 node-table Rows ρ xs = refl
 node-table Columns ρ xs = refl
-node-table Bare ρ xs = refl
 
-pub node-number : {f : Form} → Tabled f → (ρ : Rule) (xs : List Bytes) → count_in f ρ xs ≡ length (table (map (word ρ) xs))
-node-number rows ρ xs = refl
-node-number columnwise ρ xs = refl
-
--- there are never more records than nodes
-pub count_most : (f : Form) (ρ : Rule) (xs : List Bytes) → count_in f ρ xs ≤ length (table (map (word ρ) xs))
-count_most Rows ρ xs = omega arith
-count_most Columns ρ xs = omega arith
-count_most Bare ρ xs = omega arith
+pub node-number : (f : Form) (ρ : Rule) (xs : List Bytes) → count_in f ρ xs ≡ length (table (map (word ρ) xs))
+node-number Rows ρ xs = refl
+node-number Columns ρ xs = refl
 
 pub node-length : (f : Form) (ρ : Rule) (xs : List Bytes) → length (numbers (table_in f ρ xs)) ≡ count_in f ρ xs * node_size
 node-length Rows ρ xs = table-length Rows ρ xs
 node-length Columns ρ xs = table-length Columns ρ xs
-node-length Bare ρ xs = table-length Bare ρ xs
 
 pub node-size : (f : Form) → record_size f ≡ node_size
 node-size Rows = refl
 node-size Columns = refl
-node-size Bare = refl
+
+-- of a full book, record behind record
+pub full-nodes : (κ : BookKind) → is_full κ ≡ true → (ρ : Rule) (xs : List Bytes) → numbers (table_in (form_of κ) ρ xs) ≡ node_part (table (map (word ρ) xs))
+unfolding node_part
+full-nodes κ full ρ xs = ap (λ (f : Form). numbers (table_in f ρ xs)) (full-rows κ full)
 
 -- what `fits` asks
 pub record FitsBy (ρ : Rule) (f : Form) (mark : Bytes) (k : ℕ) (xs : List Bytes) : Type 0 where

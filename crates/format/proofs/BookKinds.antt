@@ -3,6 +3,7 @@
 --     kind-sure, kind-layout     each kind's rule gives every byte a symbol from 1 to 256; with its form and its mark it is a layout
 --     mark-length, mark-bytes     a mark has four bytes
 --     third-tells       the third byte of a kind's mark tells the kind
+--     full-rows         the form of a full book
 -- Assumes nothing.
 use Prim.Native.Nat.{ℕ, suc, ◌+◌, ◌≤◌, ◌<◌}
 use native.Mathlib.Omega.{arith}
@@ -13,9 +14,10 @@ use lib.ListN.{get_or, length}
 use borrow.Author.Tests.{leb-true}
 use Rattle.words.specs.Words.{pick, plain}
 use Rattle.words.specs.Rising.{All, cons, nil, Sure}
-use Rattle.words.proofs.Words.{both_true, plain-sure, sure-lawful}
+use Rattle.words.proofs.Words.{both_true, false≠true, plain-sure, sure-lawful}
 use Rattle.format.specs.Folded.{capital, folded}
-use Rattle.format.specs.Kinds.{BookKind, ColumnBook, ThinBook, FoldedBook, PlainBook, all_kinds, form_of, mark_of, marked_as, rule_of}
+use Rattle.format.specs.Full.{is_full}
+use Rattle.format.specs.Kinds.{BookKind, ColumnBook, FoldedBook, PlainBook, Rows, all_kinds, form_of, mark_of, marked_as, rule_of}
 use Rattle.format.specs.Layout.{Layout}
 use Rattle.format.proofs.Numbers.{all-bytes}
 
@@ -29,7 +31,6 @@ pub small-rule : (κ : BookKind) (b : ℕ) → capital b ≡ false → rule_of �
 small-rule PlainBook b e = refl
 small-rule FoldedBook b e = rw e refl
 small-rule ColumnBook b e = refl
-small-rule ThinBook b e = refl
 
 folded_low : (b : ℕ) → 0 < folded b
 folded_low b = go (capital b)
@@ -49,19 +50,16 @@ pub kind-sure : (κ : BookKind) → Sure (rule_of κ)
 kind-sure PlainBook = plain-sure
 kind-sure FoldedBook = record { low = folded_low; high = folded-high }
 kind-sure ColumnBook = plain-sure
-kind-sure ThinBook = plain-sure
 
 pub mark-length : (κ : BookKind) → length (mark_of κ) ≡ 4
 mark-length PlainBook = refl
 mark-length FoldedBook = refl
 mark-length ColumnBook = refl
-mark-length ThinBook = refl
 
 pub mark-bytes : (κ : BookKind) → All (λ b. b < 256) (mark_of κ)
 mark-bytes PlainBook = cons {a = 0x4E} (omega arith) (cons {a = 0x42} (omega arith) (cons {a = 0x4B} (omega arith) (cons {a = 0x32} (omega arith) nil)))
 mark-bytes FoldedBook = cons {a = 0x4E} (omega arith) (cons {a = 0x42} (omega arith) (cons {a = 0x46} (omega arith) (cons {a = 0x32} (omega arith) nil)))
 mark-bytes ColumnBook = cons {a = 0x4E} (omega arith) (cons {a = 0x42} (omega arith) (cons {a = 0x43} (omega arith) (cons {a = 0x32} (omega arith) nil)))
-mark-bytes ThinBook = cons {a = 0x4E} (omega arith) (cons {a = 0x42} (omega arith) (cons {a = 0x50} (omega arith) (cons {a = 0x31} (omega arith) nil)))
 
 pub kind-layout : (κ : BookKind) → Layout (rule_of κ) (form_of κ) (mark_of κ)
 kind-layout κ = record { lawful = sure-lawful (kind-sure κ); four = mark-length κ; bytes = all-bytes (mark_of κ) (mark-bytes κ) }
@@ -70,4 +68,8 @@ pub third-tells : (κ : BookKind) → marked_as (get_or (mark_of κ) 2 0) all_ki
 third-tells PlainBook = refl
 third-tells FoldedBook = refl
 third-tells ColumnBook = refl
-third-tells ThinBook = refl
+
+pub full-rows : (κ : BookKind) → is_full κ ≡ true → form_of κ ≡ Rows
+full-rows PlainBook e = refl
+full-rows FoldedBook e = refl
+full-rows ColumnBook e = absurd (false≠true e)

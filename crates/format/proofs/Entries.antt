@@ -1,6 +1,6 @@
 -- Entries give the names back, from the start and from the start of any block.
 --     decode-skip, decode-entries
---     blocks-first, joined-blocks, entries-first, entries-cut, by_blocks    the first block, and then those of the names after it
+--     blocks-first, joined-blocks, entries-first, by_blocks    the first block, and then those of the names after it
 --     offset_at_lem, decode-at      where block j begins, and what is read from there on
 -- Assumes nothing.
 use Prim.Native.Nat.{ℕ, zero, suc, ◌+◌, ◌*◌, ◌≤◌, ◌<◌}
@@ -9,7 +9,7 @@ use native.Mathlib.Omega.{arith}
 use mathlib.Core.Path.{◌≡◌, refl, sym, ap, ap₂, ◌∙◌}
 use mathlib.Core.List.{List, [], ◌∷◌, ◌++◌, map, append_assoc, append-nil}
 use lib.ListN.{length, get_or, take, drop, length-append, take-append-drop, length-drop, length-map}
-use lib.Seq.{take-append_seam, drop-append_seam, drop-append-add, drop-append-le, drop-drop, drop-nil, take-append-le}
+use lib.Seq.{take-append_seam, drop-append_seam, drop-append-add, drop-drop, drop-nil}
 use Rattle.words.specs.Words.{Bytes, shared}
 use Rattle.words.proofs.Words.{take-shared}
 use Rattle.format.specs.Book.{entry_part, joined}
@@ -105,21 +105,6 @@ decode-entries k xs h = decode-blocks [] (blocks_from k 0 xs) ∙ joined-blocks 
 pub entries-first : (k : ℕ) (x : Bytes) (xs : List Bytes) → 1 ≤ k → entry_part k (x ∷ xs) ≡ front [] (take k (x ∷ xs)) ++ entry_part k (drop k (x ∷ xs))
 unfolding entry_part blocks joined
 entries-first k x xs h = ap (λ (bs : List (List Bytes)). joined (map (front []) bs)) (blocks-first k x xs h)
-
--- names that fill their blocks: their entries, and then those of the names behind them
-pub entries-cut : (k j : ℕ) → 1 ≤ k → (us vs : List Bytes) → length us ≡ j * k → entry_part k (us ++ vs) ≡ entry_part k us ++ entry_part k vs
-unfolding entry_part blocks blocks_from joined
-entries-cut k zero h [] vs e = refl
-entries-cut k zero h (u ∷ us) vs e = absurd (not-suc-le-zero {n = length us} (omega (arith, e)))
-entries-cut k (suc j) h [] vs e = refl
-entries-cut k (suc j) h (u ∷ us) vs e =
-    let whole : k ≤ length (u ∷ us) = omega (arith, e) in
-    let left : length (drop k (u ∷ us)) ≡ j * k = omega (arith, e, length-drop k (u ∷ us)) in
-    entries-first k u (us ++ vs) h
-    ∙ ap₂ (λ (b : List Bytes) (r : List Bytes). front [] b ++ entry_part k r) (take-append-le k (u ∷ us) vs whole) (drop-append-le k (u ∷ us) vs whole)
-    ∙ ap (λ (r : Bytes). front [] (take k (u ∷ us)) ++ r) (entries-cut k j h (drop k (u ∷ us)) vs left)
-    ∙ sym (append_assoc (front [] (take k (u ∷ us))) (entry_part k (drop k (u ∷ us))) (entry_part k vs))
-    ∙ ap (λ (r : Bytes). r ++ entry_part k vs) (sym (entries-first k u us h))
 
 -- ---- a block's offset
 

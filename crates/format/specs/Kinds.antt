@@ -1,39 +1,35 @@
 -- Document 02, CR 7: the kinds of book. A kind is a symbol rule, a form of table and a mark.
---     BookKind          document 01's kind, the folded one, that of columns (CR 10) and the thin one (CR 11)
+--     BookKind          document 01's kind, the folded one, and that of columns (CR 10)
 --     rule_of, form_of, mark_of     each kind's rule and form, and the last four bytes of its books
 --     kind_of, rule_in    the kind that bytes are marked as, and its rule
 -- The laws are in proofs/BookKinds.antt. Assumes nothing: these are definitions.
 use Rattle.std.specs.Prelude.{ℕ, ◌-◌, List, [], ◌∷◌, eqb, get_or, length}
 use Rattle.words.specs.Words.{Bytes, Rule, pick, plain}
 use Rattle.format.specs.Folded.{folded}
-pub use Rattle.format.specs.Forms.{Form, Rows, Columns, Bare, Tabled, rows, columnwise, table_in, count_in, record_size}
+pub use Rattle.format.specs.Forms.{Form, Rows, Columns, table_in, count_in, record_size}
 
 pub data BookKind : Type 0 where
   PlainBook : BookKind
   FoldedBook : BookKind
   ColumnBook : BookKind
-  ThinBook : BookKind
 
 abbrev pub rule_of : BookKind → Rule
 rule_of PlainBook = plain
 rule_of FoldedBook = folded
 rule_of ColumnBook = plain
-rule_of ThinBook = plain
 
 abbrev pub form_of : BookKind → Form
 form_of PlainBook = Rows
 form_of FoldedBook = Rows
 form_of ColumnBook = Columns
-form_of ThinBook = Bare
 
 abbrev pub mark_of : BookKind → Bytes
 mark_of PlainBook = 0x4E ∷ 0x42 ∷ 0x4B ∷ 0x32 ∷ []
 mark_of FoldedBook = 0x4E ∷ 0x42 ∷ 0x46 ∷ 0x32 ∷ []
 mark_of ColumnBook = 0x4E ∷ 0x42 ∷ 0x43 ∷ 0x32 ∷ []
-mark_of ThinBook = 0x4E ∷ 0x42 ∷ 0x50 ∷ 0x31 ∷ []
 
 abbrev pub all_kinds : List BookKind
-all_kinds = PlainBook ∷ FoldedBook ∷ ColumnBook ∷ ThinBook ∷ []
+all_kinds = PlainBook ∷ FoldedBook ∷ ColumnBook ∷ []
 
 -- the first of some kinds whose mark has this third byte; document 01's where none has
 abbrev pub marked_as : ℕ → List BookKind → BookKind

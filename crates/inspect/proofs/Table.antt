@@ -22,7 +22,7 @@ use Rattle.words.proofs.Lists.{all_append, all_right}
 use Rattle.words.proofs.Words.{false≠true, same_refl, same_true, sure-lawful}
 use Rattle.format.specs.Columns.{columns}
 use Rattle.format.specs.Forms.{laid_out}
-use Rattle.format.specs.Kinds.{Bare, Columns, Form, Rows, form_of, kind_of, rule_in}
+use Rattle.format.specs.Kinds.{Columns, Form, Rows, form_of, kind_of, rule_in}
 use Rattle.format.specs.Spans.{words_in, words_of, node_table}
 use Rattle.format.specs.Book.{names_of, numbers, told}
 use Rattle.format.specs.Nodes.{Node, all_fields, field_count, node_size, table, table_within}
@@ -70,7 +70,6 @@ no-nodes : (f : Form) → numbers (laid_out f (table [])) ≡ []
 unfolding all_fields columns numbers table node_table table_within
 no-nodes Rows = refl
 no-nodes Columns = refl
-no-nodes Bare = refl
 
 said : (x y : Bytes) (t : Bool) → (t ≡ true → x ≡ y) → (x ≡ y → t ≡ true) → t ≡ same x y
 said x y true p q = sym (subst (λ (z : Bytes). same x z ≡ true) (p refl) (same_refl x))
@@ -86,28 +85,23 @@ said x y false p q = go (same x y) refl
 form-some : (f : Form) (m : ℕ) → 1 ≤ (map_in f 0 m).stride
 form-some Rows m = omega arith
 form-some Columns m = omega arith
-form-some Bare m = omega arith
 
 form-few : (f : Form) (m : ℕ) → (map_in f 0 m).stride ≤ node_size
 form-few Rows m = omega arith
 form-few Columns m = omega arith
-form-few Bare m = omega arith
 
 -- it is told by its other two numbers
 form-map : (f : Form) (m : ℕ) → map_in f 0 m ≡ map_by (map_in f 0 m).stride (map_in f 0 m).step
 form-map Rows m = refl
 form-map Columns m = refl
-form-map Bare m = refl
 
 form-room : (f : Form) (m o : ℕ) → 1 ≤ m → o + pred field_count * (map_in f 0 m).step + 2 ≤ o + m * node_size
 form-room Rows m o h = omega arith
 form-room Columns m o h = omega arith
-form-room Bare m o h = omega arith
 
 form-rooms : (f : Form) (m start o : ℕ) → o < start + m * (map_in f 0 m).stride → o + pred field_count * (map_in f 0 m).step + 2 ≤ start + m * node_size + node_size
 form-rooms Rows m start o h = omega arith
 form-rooms Columns m start o h = omega arith
-form-rooms Bare m start o h = omega arith
 
 -- ---- the equation at the root
 
@@ -147,12 +141,12 @@ module _ (b : Bytes) (start end n : ℕ) (held : Held b) (a : TableAsk b start e
   node_of : numbers (laid_out form (table (words_in b))) ≡ slice start end b → Root pace piece b n start past
   node_of q =
       let rs : List Node = table (words_in b) in
-      let many : length rs ≡ told b 4 = omega (arith, ap length q, laid-length a.tabled rs, length-slice start end b within, a.counted) in
+      let many : length rs ≡ told b 4 = omega (arith, ap length q, laid-length form rs, length-slice start end b within, a.counted) in
       record {
         stands = subst (λ (μ : Map). Stands μ b start (node_table 0 0 (span (words_in b) 0 (0 + n))) past) (form-map form (told b 4))
             (subst (λ (ns : List Node). Stands (map_in form 0 (told b 4)) b start ns past) (sym root_is)
             (subst (λ (m : ℕ). Stands (map_in form 0 m) b start rs (start + m * (map_in form 0 m).stride)) many
-            (bytes-form b a.tabled rs start end (omega (arith, a.counted, many)) within small (sym q))));
+            (bytes-form b form rs start end (omega (arith, a.counted, many)) within small (sym q))));
       }
 
   table-not : (Root pace piece b n start past → ⊥) → false ≡ is_nodes b start end
@@ -165,7 +159,7 @@ module _ (b : Bytes) (start end n : ℕ) (held : Held b) (a : TableAsk b start e
       let rs : List Node = table (words_in b) in
       let stands : Stands (map_in form 0 (told b 4)) b start rs past = subst (λ (ns : List Node). Stands (map_in form 0 (told b 4)) b start ns past) root_is (subst (λ (μ : Map). Stands μ b start (node_table 0 0 (span (words_in b) 0 (0 + n))) past) (sym (form-map form (told b 4))) g.stands) in
       let many : told b 4 ≡ length rs = strides-differ pace (form-some form (told b 4)) (told b 4) (length rs) (omega (arith, stands-end (map_in form 0 (told b 4)) b rs start past stands)) in
-      said _ _ true (λ t. sym (form-bytes b a.tabled bytes rs start end (omega (arith, a.counted, many)) within
+      said _ _ true (λ t. sym (form-bytes b form bytes rs start end (omega (arith, a.counted, many)) within
       (subst (λ (m : ℕ). Stands (map_in form 0 m) b start rs (start + m * (map_in form 0 m).stride)) many stands))) (λ q. refl)
 
   pub table-nothing : n ≡ 0 → eqb start end ≡ is_nodes b start end
@@ -201,7 +195,6 @@ module _ (b : Bytes) (start end n : ℕ) (held : Held b) (a : TableAsk b start e
           go : (f : Form) → (map_in f (told b 3) (told b 4)).stride ≡ (map_in f 0 (told b 4)).stride
           go Rows = refl
           go Columns = refl
-          go Bare = refl
 
       step_is : step ≡ piece
       step_is = pe ∙ go form
@@ -209,7 +202,6 @@ module _ (b : Bytes) (start end n : ℕ) (held : Held b) (a : TableAsk b start e
           go : (f : Form) → (map_in f (told b 3) (told b 4)).step ≡ (map_in f 0 (told b 4)).step
           go Rows = refl
           go Columns = refl
-          go Bare = refl
 
       paced : Paced stride
       paced = record { some = omega (arith, stride-is, form-some form (told b 4)); few = omega (arith, stride-is, form-few form (told b 4)) }

@@ -9,7 +9,7 @@ use Rattle.std.specs.Prelude.{ℕ, pred, ◌+◌, ◌*◌, ◌/◌, ◌%◌, ◌
 use Rattle.std.proofs.Math.Seq.{slice}
 use Rattle.words.specs.Words.{Bytes, same}
 use Rattle.format.specs.Forms.{laid_out}
-use Rattle.format.specs.Kinds.{Tabled, form_of, kind_of, rule_in}
+use Rattle.format.specs.Kinds.{form_of, kind_of, rule_in}
 use Rattle.format.specs.Spans.{words_in}
 use Rattle.format.specs.Book.{names_of, numbers, trailer_size, told}
 use Rattle.format.specs.Nodes.{node_size, table}
@@ -51,7 +51,6 @@ pub record NodeSays (b : Bytes) (stride step o e r : ℕ) : Type 0 where
 -- ---- the whole table
 
 pub record TableAsk (b : Bytes) (start end n : ℕ) : Type 0 where
-  pub tabled : Tabled (form_of (kind_of b))
   pub known : Known (rule_in b) b
   pub blocks : InBlocks b (told b 1) (told b 2)
   pub ended : told b 2 ≡ offset_at b (length (names_of b))

@@ -5,28 +5,25 @@
 --     IsMark, MarkSays  a number is the back of some kind's mark; whether it is
 -- The laws are in proofs/Telling.antt. Assumes nothing: these are definitions.
 use Rattle.std.specs.Prelude.{ℕ, ◌≡◌, Bool, false, true}
-use Rattle.format.specs.Kinds.{Bare, BookKind, ColumnBook, Columns as ByColumns, FoldedBook, Form, PlainBook, Rows, ThinBook}
+use Rattle.format.specs.Kinds.{BookKind, ColumnBook, Columns as ByColumns, FoldedBook, Form, PlainBook, Rows}
 use Rattle.kinds.specs.declared.Form.{Form as CodeForm}
-use Rattle.kinds.specs.declared.Form.TheVariants.{Columns as InColumns, None as InNone, Rows as InRows}
+use Rattle.kinds.specs.declared.Form.TheVariants.{Columns as InColumns, Rows as InRows}
 use Rattle.kinds.specs.declared.Kind.{Kind}
-use Rattle.kinds.specs.declared.Kind.TheVariants.{Columns, Folded, Plain, Thin}
+use Rattle.kinds.specs.declared.Kind.TheVariants.{Columns, Folded, Plain}
 
 abbrev pub kind_by : Kind → BookKind
 kind_by Plain = PlainBook
 kind_by Folded = FoldedBook
 kind_by Columns = ColumnBook
-kind_by Thin = ThinBook
 
 abbrev pub kind_for : BookKind → Kind
 kind_for PlainBook = Plain
 kind_for FoldedBook = Folded
 kind_for ColumnBook = Columns
-kind_for ThinBook = Thin
 
 abbrev pub form_by : CodeForm → Form
 form_by InRows = Rows
 form_by InColumns = ByColumns
-form_by InNone = Bare
 
 abbrev pub mark_front : ℕ
 mark_front = 0x424E
@@ -35,7 +32,6 @@ abbrev pub mark_back : BookKind → ℕ
 mark_back PlainBook = 0x324B
 mark_back FoldedBook = 0x3246
 mark_back ColumnBook = 0x3243
-mark_back ThinBook = 0x3150
 
 -- the back of some kind's mark
 pub record IsMark (back : ℕ) : Type 0 where

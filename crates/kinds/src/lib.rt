@@ -19,8 +19,6 @@ pub enum Kind {
     Folded,
     // Document 01's rule, and the node table by columns.
     Columns,
-    // Document 01's rule, and no node table.
-    Thin,
 }
 
 // What stands between the block table and the trailer.
@@ -30,18 +28,14 @@ pub enum Form {
     Rows,
     // The same numbers, column by column.
     Columns,
-    // Nothing.
-    None,
 }
 
-// The backs of the marks, as numbers: 4B 32 for plain books, 46 32 for folded ones, 43 32 for those by columns, 50 31 for thin ones.
+// The backs of the marks, as numbers: 4B 32 for plain books, 46 32 for folded ones, 43 32 for those by columns.
 const PLAIN: usize = 0x324B;
 
 const FOLDED: usize = 0x3246;
 
 const COLUMNS: usize = 0x3243;
-
-const THIN: usize = 0x3150;
 
 // The kind that the third byte of a mark tells. Of a byte that is in no mark it says Plain; whether the whole mark stands is asked elsewhere.
 pub fn marked(third: u8) -> Kind
@@ -53,9 +47,6 @@ pub fn marked(third: u8) -> Kind
     if third == 0x43 {
         return Kind::Columns;
     }
-    if third == 0x50 {
-        return Kind::Thin;
-    }
     Kind::Plain
 }
 
@@ -66,7 +57,6 @@ pub fn rule_of(kind: Kind) -> Rule
         Kind::Plain => Rule::Plain,
         Kind::Folded => Rule::Folded,
         Kind::Columns => Rule::Plain,
-        Kind::Thin => Rule::Plain,
     }
 }
 
@@ -77,7 +67,6 @@ pub fn form_of(kind: Kind) -> Form
         Kind::Plain => Form::Rows,
         Kind::Folded => Form::Rows,
         Kind::Columns => Form::Columns,
-        Kind::Thin => Form::None,
     }
 }
 
@@ -89,7 +78,6 @@ pub fn mark_back(kind: Kind) -> usize
         Kind::Plain => PLAIN,
         Kind::Folded => FOLDED,
         Kind::Columns => COLUMNS,
-        Kind::Thin => THIN,
     }
 }
 
@@ -103,10 +91,7 @@ pub fn is_mark(back: usize) -> bool
     if back == FOLDED {
         return true;
     }
-    if back == COLUMNS {
-        return true;
-    }
-    back == THIN
+    back == COLUMNS
 }
 
 // How many bytes a record of the table has: a node's at the most.
@@ -116,7 +101,6 @@ pub fn record_size(form: Form) -> usize
     match form {
         Form::Rows => fields::SIZE,
         Form::Columns => fields::SIZE,
-        Form::None => fields::SIZE,
     }
 }
 
@@ -128,6 +112,5 @@ pub fn is_full(kind: Kind) -> bool
     match form {
         Form::Rows => true,
         Form::Columns => false,
-        Form::None => false,
     }
 }

@@ -1,5 +1,5 @@
 // Runs the listing where `list_book` does not, and the gate holds what it prints to the file `stdout`: bytes that are no book, a book
-// without names, a book of names with bytes that are escaped, a folded book, whose counts are of bytes, a book by columns, and a thin one.
+// without names, a book of names with bytes that are escaped, a folded book, whose counts are of bytes, and a book by columns.
 ghost use Rattle.std.specs.Prelude.{◌≡◌, ◌≤◌, length};
 
 // Builds a book of either kind.
@@ -32,8 +32,5 @@ fn main() {
     list_built(true, b"\x03mar\x06Marina\x0DMARKET Square", 4);
     listing::list(
         b"\x00\x03Mar\x03\x03ina\x00\x0DMarket Square\x00\x00\x0A\x00\x00\x00\x00\x00j\x00l\x00\x03\x00\x04\x00\x07\x00\x0E\x00\x00\x00\x00\x00\x01\x00\x02\x00\x03\x00\x01\x00\x01\x00\x01\x00\x04\x00\x01\x00\x01\x00\x01\x00\x0D\x00\x03\x00\x06\x00\x0D\x00\x03\x00\x02\x00\x19\x00\x1D\x00\x04\x00]\x00NBC2",
-    );
-    listing::list(
-        b"\x00\x03Mar\x03\x03ina\x00\x0DMarket Square\x00\x00\x0A\x00\x03\x00\x02\x00\x19\x00\x1D\x00\x00\x00-\x00NBP1",
     );
 }

@@ -1,3 +1,3 @@
--- Laws of the questions, and of going through the names of a thin book.
+-- Laws of how a check ends, and of the questions.
+pub mod Checks
 pub mod Asking
-pub mod Going

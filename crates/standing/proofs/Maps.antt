@@ -17,7 +17,7 @@ use mathlib.Core.Path.{◌≡◌, refl, sym, ap, ◌∙◌}
 use lib.ListN.{get_or}
 use Rattle.words.specs.Words.{Bytes}
 use Rattle.format.specs.Book.{number}
-use Rattle.format.specs.Kinds.{Bare, Columns, Form, Rows}
+use Rattle.format.specs.Kinds.{Columns, Form, Rows}
 use Rattle.format.specs.Nodes.{Node, field_count, fields}
 use Rattle.standing.specs.Maps.{Map, Placed, map_in, node_in, number_in, record_at}
 
@@ -41,7 +41,6 @@ module _ (step : ℕ) (b : Bytes) (o : ℕ) where
 pub map-starts : (f : Form) (start count : ℕ) → (map_in f start count).start ≡ start
 map-starts Rows start count = refl
 map-starts Columns start count = refl
-map-starts Bare start count = refl
 
 pub steps-within : (step j : ℕ) → j < field_count → j * step ≤ pred field_count * step
 steps-within step zero h = omega arith

@@ -4,7 +4,7 @@
 --     rows_at, in_rows    a table that starts at an offset, record behind record; the same, wherever it starts
 --     columns_at         a table that starts at an offset and has so many nodes, column behind column
 --     map_by             a map by its last two numbers, wherever the table starts
---     map_in, map_of      the map of a form of table (of none, as good as any), which starts at an offset and has so many nodes; the map of the table that bytes tell of
+--     map_in, map_of      the map of a form of table, which starts at an offset and has so many nodes; the map of the table that bytes tell of
 --     Paced             how far it can be from a node to the next
 --     Placed            at an offset stands a node, and not in between
 --     record_at          the record whose first number stands at an offset, and each other one a step behind the one before it
@@ -13,7 +13,7 @@
 use Rattle.std.specs.Prelude.{ℕ, pred, ◌+◌, ◌-◌, ◌*◌, ◌/◌, ◌<◌, ◌≤◌, ◌≡◌, length}
 use Rattle.words.specs.Words.{Bytes}
 use Rattle.format.specs.Book.{number, told}
-use Rattle.format.specs.Kinds.{Bare, Columns, Form, Rows, form_of, kind_of}
+use Rattle.format.specs.Kinds.{Columns, Form, Rows, form_of, kind_of}
 use Rattle.format.specs.Nodes.{Node, field_count, node_size}
 
 pub record Map : Type 0 where
@@ -43,7 +43,6 @@ in_rows = rows_at 0
 abbrev pub map_in : Form → ℕ → ℕ → Map
 map_in Rows start count = rows_at start
 map_in Columns start count = columns_at start count
-map_in Bare start count = rows_at start
 
 abbrev pub map_of : Bytes → Map
 map_of b = map_in (form_of (kind_of b)) (told b 3) (told b 4)

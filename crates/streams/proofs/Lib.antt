@@ -10,4 +10,3 @@ pub mod InBlocks
 pub mod Rereading
 pub mod Alone
 pub mod Laid
-pub mod Ahead

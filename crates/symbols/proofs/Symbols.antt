@@ -22,7 +22,7 @@ use Rattle.words.specs.Words.{Bytes, at, less, pick, plain, shared, word}
 use Rattle.words.specs.Rising.{Sure}
 use Rattle.words.proofs.Words.{at-past, false≠true, less_by, part_at, shared-comm, shared-le, shared-more, shared-other, word_at}
 use Rattle.format.specs.Folded.{capital}
-use Rattle.format.specs.Kinds.{BookKind, ColumnBook, FoldedBook, PlainBook, ThinBook, rule_of}
+use Rattle.format.specs.Kinds.{BookKind, ColumnBook, FoldedBook, PlainBook, rule_of}
 use Rattle.format.proofs.BookKinds.{capital-bounds, kind-sure, small-rule}
 use Rattle.symbols.specs.Parting.{Parted}
 use Rattle.symbols.specs.Rules.{by_kind, rule_by}
@@ -135,7 +135,6 @@ pub rule-by : (κ : BookKind) → rule_by (by_kind κ) ≡ rule_of κ
 rule-by PlainBook = refl
 rule-by FoldedBook = refl
 rule-by ColumnBook = refl
-rule-by ThinBook = refl
 
 -- the two rules are two: byte 65 tells them apart
 pub rules-differ : ◌≡◌ {A = ByRule} Folded Plain → ⊥

@@ -4,7 +4,7 @@
 -- Assumes nothing: these are definitions.
 use Rattle.words.specs.Words.{Rule, plain}
 use Rattle.format.specs.Folded.{folded}
-use Rattle.format.specs.Kinds.{BookKind, ColumnBook, FoldedBook, PlainBook, ThinBook}
+use Rattle.format.specs.Kinds.{BookKind, ColumnBook, FoldedBook, PlainBook}
 use Rattle.symbols.specs.declared.Rule.{Rule as ByRule}
 use Rattle.symbols.specs.declared.Rule.TheVariants.{Folded, Plain}
 
@@ -16,4 +16,3 @@ abbrev pub by_kind : BookKind → ByRule
 by_kind PlainBook = Plain
 by_kind FoldedBook = Folded
 by_kind ColumnBook = Plain
-by_kind ThinBook = Plain

@@ -1,8 +1,7 @@
 -- Document 02, CR 8: how far a single question looked, told by the public calls alone. n and k are the names and the block size that the check of the
 -- same bytes gives; the books of every rule are spoken of at once.
 --     looked-few        an accepted question visits at most n nodes, and at most its length and 2
---     looked-some       where the book has nodes, with a name at least it visits one; it reads nearest's position modulo k, plus 1, entries, and so at most k
---     looked-thin       CR 11: of a thin book both counts are 0
+--     looked-some       with a name at least it visits one; it reads nearest's position modulo k, plus 1, entries, and so at most k
 --     looked-alike      all kinds of one question look equally far
 --     looked-refused, looked-none     a refused question looks at nothing, and so does a question to a book without names
 --     looked-met        the bounds are met: of a, ab and b in blocks of two, the question a visits three nodes, and ab reads two entries
@@ -12,7 +11,7 @@ use Prim.Native.Nat.{ℕ, suc, ◌+◌, ◌%◌, ◌≤◌, ◌<◌}
 use native.Mathlib.Nat.{lt_irrefl, mod-lt}
 use native.Mathlib.Decide.{dec_le}
 use native.Mathlib.Omega.{arith}
-use mathlib.Core.Path.{◌≡◌, refl, subst, sym, ap, ◌∙◌}
+use mathlib.Core.Path.{◌≡◌, refl, sym, ap, ◌∙◌}
 use mathlib.Core.Bool.{Bool, true, false}
 use mathlib.Core.List.{List, [], ◌∷◌, map}
 use lib.Dec.{eqb}
@@ -20,7 +19,7 @@ use lib.ListN.{length, length-map}
 use borrow.Author.Tests.{eq-eqb, ne_eqb}
 use Rattle.words.specs.Rising.{Rises}
 use Rattle.words.specs.Words.{Bytes, Words, begins, less, pick, same, shared, word}
-use Rattle.format.specs.Kinds.{Bare, BookKind, Columns, Form, PlainBook, Rows, Tabled, ThinBook, columnwise, form_of, kind_of, rows, rule_of}
+use Rattle.format.specs.Kinds.{BookKind, PlainBook, rule_of}
 use Rattle.format.specs.Book.{Book, NoBook, Opened, block_part, book, book_by, entry_part, fits_by, is_book_by, joined, names_of, number, numbers, opened, trailer}
 use Rattle.format.specs.Entries.{blocks, blocks_from, decode, decode_from, entry, front, offsets}
 use Rattle.format.specs.Nodes.{all_fields, depth, glue, groups, row_by, table, table_within}
@@ -28,15 +27,15 @@ use Rattle.format.specs.Spans.{node_table}
 use Rattle.format.specs.Widths.{widest}
 use Rattle.format.specs.Records.{longest, rising, sound}
 use Rattle.format.specs.Outcomes.{Answer, check_of, refused}
-use Rattle.format.proofs.Book.{book-opened, fits-parts, opened-kind}
+use Rattle.format.proofs.Book.{book-opened, fits-parts}
 use Rattle.format.proofs.Records.{sound-rising, symbols-rises}
 use Rattle.answers.specs.Calls.{check, names_answer}
-use Rattle.answers.specs.Counts.{Counted, counted_in, counted_of, counted_question, entries, names_counted, visits}
+use Rattle.answers.specs.Counts.{Counted, counted_of, counted_question, entries, names_counted, visits}
 use Rattle.answers.specs.Lit.{lit, may_end}
 use Rattle.answers.specs.Questions.{answer, ask, child_of, count, exact, exact_from, nearest, place, range, reach_within, reached}
 use Rattle.answers.specs.Widths.{width}
 use Rattle.answers.proofs.Calls.{question-given, question-long}
-use Rattle.answers.proofs.Counts.{counted-in, entries-some, visits-few, visits-none, visits-short, visits-some}
+use Rattle.answers.proofs.Counts.{entries-some, visits-few, visits-none, visits-short, visits-some}
 use Rattle.shapes.specs.Shapes.{counted}
 use Rattle.shapes.specs.declared.Counted.{Counted as Given}
 use Rattle.shapes.proofs.Shapes.{counted-injective}
@@ -44,75 +43,37 @@ use Rattle.theorems.proofs.Lettered.{kind-names, names-symbols}
 
 -- ---- by what was opened
 
--- what is told of a count, by the form of the table
-told_in : Form → ℕ → ℕ
-told_in Rows n = n
-told_in Columns n = n
-told_in Bare n = 0
-
-told-few : (f : Form) (n : ℕ) → told_in f n ≤ n
-unfolding told_in
-told-few Rows n = omega arith
-told-few Columns n = omega arith
-told-few Bare n = omega arith
-
-told-all : {f : Form} → Tabled f → (n : ℕ) → told_in f n ≡ n
-unfolding told_in
-told-all rows n = refl
-told-all columnwise n = refl
-
-told_none : (f : Form) {n : ℕ} → n ≡ 0 → told_in f n ≡ 0
-told_none f {n} e = omega (arith, told-few f n, e)
-
-told-visits : (f : Form) (c : Counted) → (counted_in f c).visits ≡ told_in f c.visits
-unfolding told_in
-told-visits Rows c = refl
-told-visits Columns c = refl
-told-visits Bare c = refl
-
-told_entries : (f : Form) (c : Counted) → (counted_in f c).entries ≡ told_in f c.entries
-unfolding told_in
-told_entries Rows c = refl
-told_entries Columns c = refl
-told_entries Bare c = refl
-
--- the nodes that q visits there, and the entries that it reads, as far as they are told
+-- the nodes that q visits there, and the entries that it reads
 unfoldable visits_in : Bytes → Opened → ℕ
 visits_in q NoBook = 0
-visits_in q (Book κ k xs) = told_in (form_of κ) (visits (word (rule_of κ) q) (map (word (rule_of κ)) xs))
+visits_in q (Book κ k xs) = visits (word (rule_of κ) q) (map (word (rule_of κ)) xs)
 
 unfoldable entries_in : Bytes → Opened → ℕ
 entries_in q NoBook = 0
-entries_in q (Book κ k xs) = told_in (form_of κ) (entries k (word (rule_of κ) q) (map (word (rule_of κ)) xs))
+entries_in q (Book κ k xs) = entries k (word (rule_of κ) q) (map (word (rule_of κ)) xs)
 
 abbrev Accepted : ℕ → Bytes → Opened → Type 0
 Accepted kind q o = (counted_of kind q o).answer.code ≡ 0
 
 module _ (kind : ℕ) (q : Bytes) where
-  -- the answer's code, whatever is counted
-  own_code : (κ : BookKind) (k : ℕ) (xs : List Bytes) → (counted_of kind q (Book κ k xs)).answer.code ≡ (names_answer (rule_of κ) kind q xs).code
-  unfolding counted_of names_counted
-  own_code κ k xs = ap (λ (a : Answer). a.code) (counted-in (form_of κ) (names_counted (rule_of κ) k kind q xs))
-
   given-visits : (o : Opened) → Accepted kind q o → (counted_of kind q o).visits ≡ visits_in q o
   unfolding counted_of names_counted visits_in
   given-visits NoBook e = refl
-  given-visits (Book κ k xs) e =
-      told-visits (form_of κ) (names_counted (rule_of κ) k kind q xs) ∙ ap (told_in (form_of κ)) (rw (eq-eqb (names_answer (rule_of κ) kind q xs).code 0 (sym (own_code κ k xs) ∙ e)) refl)
+  given-visits (Book κ k xs) e = rw (eq-eqb (names_answer (rule_of κ) kind q xs).code 0 e) refl
 
   given-entries : (o : Opened) → Accepted kind q o → (counted_of kind q o).entries ≡ entries_in q o
   unfolding counted_of names_counted entries_in
   given-entries NoBook e = refl
-  given-entries (Book κ k xs) e =
-      told_entries (form_of κ) (names_counted (rule_of κ) k kind q xs) ∙ ap (told_in (form_of κ)) (rw (eq-eqb (names_answer (rule_of κ) kind q xs).code 0 (sym (own_code κ k xs) ∙ e)) refl)
+  given-entries (Book κ k xs) e = rw (eq-eqb (names_answer (rule_of κ) kind q xs).code 0 e) refl
 
   -- a question that is accepted is not too long, and its bytes are a book
   accepted-short : (κ : BookKind) (k : ℕ) (xs : List Bytes) → Accepted kind q (Book κ k xs) → length q ≤ longest
+  unfolding counted_of names_counted
   accepted-short κ k xs e = elim (dec_le (length q) longest) [
     | yes h ↦ h
     | no h ↦
         let long : names_answer (rule_of κ) kind q xs ≡ refused 1 = question-long (rule_of κ) kind q xs (omega arith) in
-        absurd (lt_irrefl 0 (omega (arith, e, own_code κ k xs, ap (λ (a : Answer). a.code) long)))
+        absurd (lt_irrefl 0 (omega (arith, e, ap (λ (a : Answer). a.code) long)))
   ]
 
 -- the names of a book rise, by its rule
@@ -124,8 +85,7 @@ opened-rises κ s k xs o =
 nearest-there : (κ : BookKind) (k : ℕ) (q : Bytes) (xs : List Bytes) → length q ≤ longest → 0 < length xs → (counted_of 4 q (Book κ k xs)).answer.first ≡ reached (word (rule_of κ) q) (map (word (rule_of κ)) xs)
 unfolding counted_of names_counted answer ask nearest
 nearest-there κ k q xs short some =
-    ap (λ (a : Answer). a.first) (counted-in (form_of κ) (names_counted (rule_of κ) k 4 q xs))
-    ∙ ap (λ (a : Answer). a.first) (sym (question-given (rule_of κ) 4 q xs short (λ e z. lt_irrefl 0 (omega arith)) (answer (rule_of κ) 4 q xs) refl))
+    ap (λ (a : Answer). a.first) (sym (question-given (rule_of κ) 4 q xs short (λ e z. lt_irrefl 0 (omega arith)) (answer (rule_of κ) 4 q xs) refl))
 
 -- ---- how far
 
@@ -139,13 +99,12 @@ module _ (kind : ℕ) (s q : Bytes) where
       go (Book κ k xs) p e =
           let r = opened-rises κ s k xs p in
           let v = given-visits kind q (Book κ k xs) e in
-          let told = told-few (form_of κ) (visits (word (rule_of κ) q) (map (word (rule_of κ)) xs)) in
-          (omega (arith, v, told, visits-few (word (rule_of κ) q) (map (word (rule_of κ)) xs) r, length-map xs (word (rule_of κ))), omega (arith, v, told, visits-short (word (rule_of κ) q) (map (word (rule_of κ)) xs) r, length-map q (rule_of κ)))
+          (omega (arith, v, visits-few (word (rule_of κ) q) (map (word (rule_of κ)) xs) r, length-map xs (word (rule_of κ))), omega (arith, v, visits-short (word (rule_of κ) q) (map (word (rule_of κ)) xs) r, length-map q (rule_of κ)))
 
-  pub looked-some : Tabled (form_of (kind_of s)) → (counted_question kind s q).answer.code ≡ 0 → 0 < (check s).first
+  pub looked-some : (counted_question kind s q).answer.code ≡ 0 → 0 < (check s).first
       → (1 ≤ (counted_question kind s q).visits) × ((counted_question kind s q).entries ≡ suc ((counted_question 4 s q).answer.first % (check s).second)) × ((counted_question kind s q).entries ≤ (check s).second)
   unfolding counted_question check check_of visits_in entries_in
-  looked-some tabled ok some = go (opened s) refl ok some
+  looked-some ok some = go (opened s) refl ok some
     where
       go : (o : Opened) → opened s ≡ o → Accepted kind q o → 0 < (check_of o).first
           → (1 ≤ (counted_of kind q o).visits) × ((counted_of kind q o).entries ≡ suc ((counted_of 4 q o).answer.first % (check_of o).second)) × ((counted_of kind q o).entries ≤ (check_of o).second)
@@ -155,24 +114,12 @@ module _ (kind : ℕ) (s q : Bytes) where
           let w : List ℕ = word (rule_of κ) q in
           let ws : Words = map (word (rule_of κ)) (x ∷ xs) in
           let there : (counted_of 4 q (Book κ k (x ∷ xs))).answer.first ≡ reached w ws = nearest-there κ k q (x ∷ xs) (accepted-short kind q κ k (x ∷ xs) e) h in
-          let own : Tabled (form_of κ) = subst (λ (μ : BookKind). Tabled (form_of μ)) (opened-kind κ s k (x ∷ xs) p) tabled in
-          let read : (counted_of kind q (Book κ k (x ∷ xs))).entries ≡ suc (reached w ws % k) = given-entries kind q (Book κ k (x ∷ xs)) e ∙ told-all own (entries k w ws) ∙ entries-some k w ws (omega arith) in
+          let read : (counted_of kind q (Book κ k (x ∷ xs))).entries ≡ suc (reached w ws % k) = given-entries kind q (Book κ k (x ∷ xs)) e ∙ entries-some k w ws (omega arith) in
           let low : 0 < k = omega (arith, (fits-parts k (x ∷ xs) (book-opened κ s k (x ∷ xs) p).0).low) in (
-            omega (arith, given-visits kind q (Book κ k (x ∷ xs)) e, told-all own (visits w ws), visits-some w (word (rule_of κ) x) (map (word (rule_of κ)) xs) (opened-rises κ s k (x ∷ xs) p)),
+            omega (arith, given-visits kind q (Book κ k (x ∷ xs)) e, visits-some w (word (rule_of κ) x) (map (word (rule_of κ)) xs) (opened-rises κ s k (x ∷ xs) p)),
             read ∙ ap (λ (i : ℕ). suc (i % k)) (sym there),
             omega (arith, read, mod-lt (reached w ws) low),
           )
-
-  pub looked-thin : kind_of s ≡ ThinBook → ((counted_question kind s q).visits ≡ 0) × ((counted_question kind s q).entries ≡ 0)
-  unfolding counted_question counted_of
-  looked-thin thin = go (opened s) refl
-    where
-      go : (o : Opened) → opened s ≡ o → ((counted_of kind q o).visits ≡ 0) × ((counted_of kind q o).entries ≡ 0)
-      go NoBook p = (refl, refl)
-      go (Book κ k xs) p =
-          let own : κ ≡ ThinBook = sym (opened-kind κ s k xs p) ∙ thin in
-          let c : Counted = names_counted (rule_of κ) k kind q xs in
-          (ap (λ (μ : BookKind). (counted_in (form_of μ) c).visits) own, ap (λ (μ : BookKind). (counted_in (form_of μ) c).entries) own)
 
   pub looked-refused : ((counted_question kind s q).answer.code ≡ 0 → ⊥) → ((counted_question kind s q).visits ≡ 0) × ((counted_question kind s q).entries ≡ 0)
   unfolding counted_question counted_of names_counted
@@ -180,10 +127,7 @@ module _ (kind : ℕ) (s q : Bytes) where
     where
       go : (o : Opened) → (Accepted kind q o → ⊥) → ((counted_of kind q o).visits ≡ 0) × ((counted_of kind q o).entries ≡ 0)
       go NoBook n = (refl, refl)
-      go (Book κ k xs) n =
-          let f = ne_eqb (names_answer (rule_of κ) kind q xs).code 0 (λ z. n (own_code kind q κ k xs ∙ z)) in
-          let c : Counted = names_counted (rule_of κ) k kind q xs in
-          (told-visits (form_of κ) c ∙ told_none (form_of κ) (rw f refl), told_entries (form_of κ) c ∙ told_none (form_of κ) (rw f refl))
+      go (Book κ k xs) n = let f = ne_eqb (names_answer (rule_of κ) kind q xs).code 0 n in (rw f refl, rw f refl)
 
   pub looked-none : (check s).first ≡ 0 → ((counted_question kind s q).visits ≡ 0) × ((counted_question kind s q).entries ≡ 0)
   unfolding counted_question check check_of counted_of names_counted entries
@@ -197,10 +141,7 @@ module _ (kind : ℕ) (s q : Bytes) where
       go NoBook z = (refl, refl)
       go (Book κ k []) z =
           let t = eqb (names_answer (rule_of κ) kind q []).code 0 in
-          let c : Counted = names_counted (rule_of κ) k kind q [] in (
-            told-visits (form_of κ) c ∙ told_none (form_of κ) (either t (visits (word (rule_of κ) q) []) (visits-none (word (rule_of κ) q))),
-            told_entries (form_of κ) c ∙ told_none (form_of κ) (either t 0 refl),
-          )
+          (either t (visits (word (rule_of κ) q) []) (visits-none (word (rule_of κ) q)), either t 0 refl)
       go (Book κ k (x ∷ xs)) z = absurd (lt_irrefl 0 (omega arith))
 
 pub looked-alike : (i j : ℕ) (s q : Bytes) → (counted_question i s q).answer.code ≡ 0 → (counted_question j s q).answer.code ≡ 0

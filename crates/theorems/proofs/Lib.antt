@@ -9,11 +9,8 @@ pub mod Orders
 pub mod Questions
 pub mod Ranges
 pub mod Widths
-pub mod Alike
 pub mod Columns
 pub mod Counts
-pub mod Thin
-pub mod Revising
 pub mod Letters
 pub mod Neighbours
 pub mod Search

@@ -8,7 +8,7 @@
 --     search-child, search-end       at a fork: the place is before the first child with a greater symbol, or after the group
 --     search-range, search-no-range  the range is that node's names, or none
 --     search-exact, search-not-exact the reached name is q, or no name is
---     search-book       every accepted book with names and nodes gives a search what it asks
+--     search-book       every accepted book with names gives a search what it asks
 -- Assumes nothing.
 use Prim.Native.Nat.{ℕ, ◌+◌, ◌≤◌, ◌<◌}
 use native.Mathlib.Omega.{arith}
@@ -18,7 +18,7 @@ use mathlib.Core.List.{List, map}
 use lib.ListN.{length, length-map}
 use Rattle.words.specs.Rising.{Rises, nth}
 use Rattle.words.specs.Words.{Bytes, InBytes, Rule, Words, at, begins, shared, word}
-use Rattle.format.specs.Kinds.{BookKind, Tabled, form_of, rule_of}
+use Rattle.format.specs.Kinds.{BookKind, form_of, rule_of}
 use Rattle.format.specs.Book.{Book, opened, told}
 use Rattle.format.specs.Records.{sound}
 use Rattle.format.proofs.Records.{sound-rising, symbols-rises, word-short}
@@ -89,5 +89,5 @@ module _ (ρ : Rule) (xs : List Bytes) (letters : AllLettered ρ xs) (is : sound
       let none : count (begins q) ws ≡ 0 = sym (range_none ws q r (shared q (nth ws (reached q ws))) (λ i l. reached-most q ws r i l) h) in
       ap (λ (c : ℕ). (place q ws, c)) none
 
-pub search-book : (κ : BookKind) → Tabled (form_of κ) → (s : Bytes) (k : ℕ) (xs : List Bytes) → InBytes s → opened s ≡ Book κ k xs → 0 < length xs → Searchable (rule_of κ) s (map_in (form_of κ) (told s 3) (told s 4))
-search-book κ tabled s k xs h e some = opened-searchable κ tabled s k xs e h some
+pub search-book : (κ : BookKind) (s : Bytes) (k : ℕ) (xs : List Bytes) → InBytes s → opened s ≡ Book κ k xs → 0 < length xs → Searchable (rule_of κ) s (map_in (form_of κ) (told s 3) (told s 4))
+search-book κ s k xs h e some = opened-searchable κ s k xs e h some

@@ -2,8 +2,6 @@
 --     trailer-told      the numbers that were read are those that the trailer tells
 --     map-told          where the numbers of a node stand, by the form whose arm was taken
 --     rule-folded, rule-plain     the third byte of the mark tells the rule
---     thin-says         .. and whether the book is a thin one
---     says-thin, says-tabled, looks-says, looks-thin, looks-other     what either answer to that says
 --     mark-kind         the back of the mark tells the kind
 --     size_is           the size of a record, by the kind that the third byte tells
 --     trail-marked      the test of the mark's back, behind all others
@@ -13,16 +11,15 @@
 use Prim.Native.Nat.{ℕ, ◌+◌, ◌-◌, ◌*◌, ◌<◌, ◌≤◌}
 use native.Mathlib.Nat.{mul-le-mul}
 use native.Mathlib.Omega.{arith}
-use mathlib.Core.Path.{◌≡◌, refl, sym, subst, ap, ap₂, ◌∙◌}
+use mathlib.Core.Path.{◌≡◌, refl, sym, ap, ap₂, ◌∙◌}
 use mathlib.Core.Bool.{Bool, false, true}
 use mathlib.Core.List.{[], ◌∷◌}
 use lib.ListN.{get_or, length}
 use lib.Dec.{eqb}
-use borrow.Author.Tests.{eqb-true, ne_eqb}
+use borrow.Author.Tests.{ne_eqb}
 use Rattle.words.specs.Words.{Bytes, InBytes, pick}
-use Rattle.words.proofs.Words.{false≠true}
 use Rattle.format.specs.Book.{number, numbers, told, trailer, trailer_size}
-use Rattle.format.specs.Kinds.{BookKind, ColumnBook, FoldedBook, Form as TableForm, PlainBook, Tabled, ThinBook, all_kinds, columnwise, form_of, kind_of, mark_of, marked_as, record_size, rows}
+use Rattle.format.specs.Kinds.{BookKind, ColumnBook, FoldedBook, Form as TableForm, PlainBook, all_kinds, form_of, kind_of, mark_of, marked_as, record_size}
 use Rattle.format.specs.Nodes.{node_size}
 use Rattle.format.proofs.BookKinds.{third-tells}
 use Rattle.standing.specs.Maps.{map_in, map_of}
@@ -33,7 +30,7 @@ use Rattle.kinds.specs.Known.{MarkSays, form_by, kind_by, kind_for, mark_back, m
 use Rattle.kinds.specs.declared.Form.{Form}
 use Rattle.kinds.specs.declared.Kind.{Kind}
 use Rattle.kinds.proofs.Telling.{kind-told}
-use Rattle.trailer.specs.Trailer.{LooksOther, LooksSays, LooksThin, ThinSays, Trail, TrailSays, trailer_in}
+use Rattle.trailer.specs.Trailer.{Trail, TrailSays, trailer_in}
 
 pub trailer-told : (b : Bytes) (n k s u m : ℕ) (κ : Kind) → n ≡ told b 0 → k ≡ told b 1 → s ≡ told b 2 → u ≡ told b 3 → m ≡ told b 4 → κ ≡ kind_for (kind_of b)
     → record { names = n; block = k; blocks_at = s; nodes_at = u; nodes = m; kind = κ } ≡ trailer_in b
@@ -43,47 +40,12 @@ pub rule-folded : (b : Bytes) → get_or b (length b - 2) 0 ≡ 0x46 → Folded 
 rule-folded b e = ap (λ (x : ℕ). by_kind (marked_as x all_kinds)) (sym e)
 
 pub rule-plain : (b : Bytes) → (get_or b (length b - 2) 0 ≡ 0x46 → ⊥) → Plain ≡ by_kind (kind_of b)
-rule-plain b n = rw (ne_eqb (get_or b (length b - 2) 0) 0x46 n) (go (eqb (get_or b (length b - 2) 0) 0x4B) (eqb (get_or b (length b - 2) 0) 0x43) (eqb (get_or b (length b - 2) 0) 0x50))
+rule-plain b n = rw (ne_eqb (get_or b (length b - 2) 0) 0x46 n) (go (eqb (get_or b (length b - 2) 0) 0x4B) (eqb (get_or b (length b - 2) 0) 0x43))
   where
-    go : (t u v : Bool) → Plain ≡ by_kind (pick t PlainBook (pick u ColumnBook (pick v ThinBook PlainBook)))
-    go true u v = refl
-    go false true v = refl
-    go false false true = refl
-    go false false false = refl
-
-pub thin-says : (b : Bytes) (r : Bool) → r ≡ eqb (get_or b (length b - 2) 0) 0x50 → ThinSays b r
-thin-says b true e = ap (λ (x : ℕ). marked_as x all_kinds) (eqb-true (get_or b (length b - 2) 0) 0x50 (sym e))
-thin-says b false e =
-    let x : ℕ = get_or b (length b - 2) 0 in
-    subst (λ (t : Bool). Tabled (form_of (pick (eqb x 0x4B) PlainBook (pick (eqb x 0x46) FoldedBook (pick (eqb x 0x43) ColumnBook (pick t ThinBook PlainBook)))))) e
-    (go (eqb x 0x4B) (eqb x 0x46) (eqb x 0x43))
-  where
-    go : (t u v : Bool) → Tabled (form_of (pick t PlainBook (pick u FoldedBook (pick v ColumnBook PlainBook))))
-    go true u v = rows
-    go false true v = rows
-    go false false true = columnwise
-    go false false false = rows
-
-pub says-thin : (b : Bytes) (r : Bool) → r ≡ true → ThinSays b r → kind_of b ≡ ThinBook
-says-thin b true e says = says
-says-thin b false e says = absurd (false≠true e)
-
-pub says-tabled : (b : Bytes) (r : Bool) → r ≡ false → ThinSays b r → Tabled (form_of (kind_of b))
-says-tabled b true e says = absurd (false≠true (sym e))
-says-tabled b false e says = says
-
--- .. of bytes that may be too short
-pub looks-says : (b : Bytes) (r : Bool) → trailer_size ≤ length b → ThinSays b r → LooksSays b r
-looks-says b true long says = record { long = long; thin = says }
-looks-says b false long says = λ _. says
-
-pub looks-thin : (b : Bytes) (r : Bool) → r ≡ true → LooksSays b r → LooksThin b
-looks-thin b true e says = says
-looks-thin b false e says = absurd (false≠true e)
-
-pub looks-other : (b : Bytes) (r : Bool) → r ≡ false → LooksSays b r → LooksOther b
-looks-other b true e says = absurd (false≠true (sym e))
-looks-other b false e says = says
+    go : (t u : Bool) → Plain ≡ by_kind (pick t PlainBook (pick u ColumnBook PlainBook))
+    go true u = refl
+    go false true = refl
+    go false false = refl
 
 -- the form of the table whose map is asked for, where its arm was taken
 module _ (b : Bytes) (kind : Kind) (form arm : Form) (k : kind ≡ kind_for (kind_of b)) (e : form_by form ≡ form_of (kind_by kind)) (is : form ≡ arm) where
@@ -110,7 +72,6 @@ mark-kind b long bytes κ e = ap (λ (x : ℕ). marked_as x all_kinds) (is κ e)
     is PlainBook h = omega (arith, third b long bytes 0x324B h, bytes (length b - 2), bytes (length b - 1))
     is FoldedBook h = omega (arith, third b long bytes 0x3246 h, bytes (length b - 2), bytes (length b - 1))
     is ColumnBook h = omega (arith, third b long bytes 0x3243 h, bytes (length b - 2), bytes (length b - 1))
-    is ThinBook h = omega (arith, third b long bytes 0x3150 h, bytes (length b - 2), bytes (length b - 1))
 
 -- the size of a record in the table of that kind
 pub size_is : (b : Bytes) (kind : Kind) (form : Form) (size : ℕ) → kind ≡ kind_for (kind_of b) → form_by form ≡ form_of (kind_by kind) → size ≡ record_size (form_by form)
@@ -134,4 +95,3 @@ unfolding trailer numbers
 trailer-is PlainBook part n k s u m total back e h = h ∙ ap (λ (x : ℕ). numbers (n ∷ k ∷ s ∷ u ∷ m ∷ total ∷ mark_front ∷ x ∷ [])) e
 trailer-is FoldedBook part n k s u m total back e h = h ∙ ap (λ (x : ℕ). numbers (n ∷ k ∷ s ∷ u ∷ m ∷ total ∷ mark_front ∷ x ∷ [])) e
 trailer-is ColumnBook part n k s u m total back e h = h ∙ ap (λ (x : ℕ). numbers (n ∷ k ∷ s ∷ u ∷ m ∷ total ∷ mark_front ∷ x ∷ [])) e
-trailer-is ThinBook part n k s u m total back e h = h ∙ ap (λ (x : ℕ). numbers (n ∷ k ∷ s ∷ u ∷ m ∷ total ∷ mark_front ∷ x ∷ [])) e

@@ -1,14 +1,12 @@
 -- The trailer as the code has it at hand, and what is asked of it.
 --     trailer_in         the numbers that the trailer of some bytes tells
 --     Trail, TrailSays  what is asked of the trailer alone; whether it holds
---     ThinSays, LooksThin, LooksOther, LooksSays     whether the mark is that of a thin book, and any other kind has nodes; the same of bytes that may be too short
---                       for a trailer
 -- Assumes nothing: these are definitions.
 use Rattle.std.specs.Prelude.{◌*◌, ◌+◌, ◌≤◌, ◌≡◌, Bool, false, true, length}
 use Rattle.words.specs.Words.{Bytes}
 use Rattle.format.specs.Book.{longest_book, told, trailer_size}
 use Rattle.format.specs.Records.{most_names}
-use Rattle.format.specs.Kinds.{Tabled, ThinBook, form_of, kind_of, record_size}
+use Rattle.format.specs.Kinds.{form_of, kind_of, record_size}
 use Rattle.kinds.specs.Known.{kind_for, mark_back, mark_front}
 use Rattle.trailer.specs.declared.Trailer.{Trailer}
 
@@ -31,18 +29,3 @@ pub record Trail (b : Bytes) : Type 0 where
 abbrev pub TrailSays : Bytes → Bool → Type 0
 TrailSays b true = Trail b
 TrailSays b false = Trail b → ⊥
-
-abbrev pub ThinSays : Bytes → Bool → Type 0
-ThinSays b true = kind_of b ≡ ThinBook
-ThinSays b false = Tabled (form_of (kind_of b))
-
-pub record LooksThin (b : Bytes) : Type 0 where
-  pub long : trailer_size ≤ length b
-  pub thin : kind_of b ≡ ThinBook
-
-abbrev pub LooksOther : Bytes → Type 0
-LooksOther b = trailer_size ≤ length b → Tabled (form_of (kind_of b))
-
-abbrev pub LooksSays : Bytes → Bool → Type 0
-LooksSays b true = LooksThin b
-LooksSays b false = LooksOther b

@@ -6,7 +6,7 @@ ghost use Rattle.format.specs.Kinds.{kind_of, mark_of};
 ghost use Rattle.standing.specs.Maps.{map_of};
 ghost use Rattle.symbols.specs.Rules.{by_kind};
 ghost use Rattle.kinds.specs.Known.{kind_by, kind_for};
-ghost use Rattle.trailer.specs.Trailer.{LooksSays, ThinSays, TrailSays, trailer_in};
+ghost use Rattle.trailer.specs.Trailer.{TrailSays, trailer_in};
 
 use kinds::{Form, Kind};
 use symbols::Rule;
@@ -99,25 +99,7 @@ pub fn rule(book: &[u8]) -> Rule
     Rule::Plain
 }
 
-// Whether the mark is that of a thin book, which has no node table: one test of one byte.
-pub fn is_thin(book: &[u8]) -> bool
-    requires { trailer_size ≤ length book.now }
-    ensures { ThinSays book.now result }
-{
-    book[book.len() - 2] == 0x50
-}
-
-// The same of any bytes: those that are too short for a trailer have no mark.
-pub fn looks_thin(book: &[u8]) -> bool
-    ensures { LooksSays book.now result }
-{
-    if book.len() < SIZE {
-        return false;
-    }
-    is_thin(book)
-}
-
-// How the numbers of the table stand that the trailer tells of: an arm for each form. Where there is no table, no one goes by it.
+// How the numbers of the table stand that the trailer tells of: an arm for each form of table that has nodes.
 pub fn pace_of(book: &[u8]) -> Pace
     requires { trailer_size ≤ length book.now }
     ensures { (result.stride ≡ (map_of book.now).stride) × (result.step ≡ (map_of book.now).step) }
@@ -131,10 +113,6 @@ pub fn pace_of(book: &[u8]) -> Pace
         Form::Columns => Pace {
             stride: fields::STEP,
             step: fields::STEP * number(book, 4),
-        },
-        Form::None => Pace {
-            stride: fields::SIZE,
-            step: fields::STEP,
         },
     }
 }

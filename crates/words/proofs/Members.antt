@@ -1,8 +1,8 @@
 -- Lists by their members.
 --     all-member        what holds of all elements holds of a member
---     unique-by, rising-unique     two lists with the same members, whose keys rise, are one list; the same of words
+--     rising-unique     two rising lists of words with the same members are one list
 --     Distinct, rising-distinct, distinct-few     no element stands twice; so it is with rising words; as many as some list has members, at most
---     among-map, From, unmapped, map_injective     the members of a list that is mapped
+--     among-map, From, unmapped, map_injective     the members of a list that is among-map
 -- Assumes nothing.
 use Prim.Native.Nat.{ℕ, suc, ◌≤◌, zero-le}
 use native.Mathlib.Omega.{arith}
@@ -12,7 +12,7 @@ use mathlib.Core.Bool.{true}
 use mathlib.Core.List.Memᴰ
 use mathlib.Core.List.Memᴰ.{head as here}
 use mathlib.Core.List.Memᴰ.{tail as there}
-use mathlib.Core.List.{List, Memᴰ as Among, [], ◌∷◌, ◌++◌, map, map-id}
+use mathlib.Core.List.{List, Memᴰ as Among, [], ◌∷◌, ◌++◌, map}
 use lib.ListN.{length, length-append}
 use Rattle.words.specs.Rising.{All, Rises, cons, nil, rise, start}
 use Rattle.words.specs.Words.{Words, less}
@@ -23,11 +23,10 @@ all-member {P = P} (cons p a) (here e) = subst P (sym e) p
 all-member (cons p a) (there m) = all-member a m
 all-member nil m = absurd (Memᴰ.not-nil m)
 
-pub among-map : {A B : Type 0} (f : A → B) {z : A} {l : List A} → Among z l → Among (f z) (map f l)
-among-map f (here e) = here (ap f e)
-among-map f (there m) = there (among-map f m)
+-- ---- rising words
 
--- ---- what rises by a key
+abbrev Within : Words → Words → Type 0
+Within us vs = (w : List ℕ) → Among w us → Among w vs
 
 -- a word is not below itself, nor below a word that is below it
 not-both : (u v : List ℕ) → less u v ≡ true → less v u ≡ true → ⊥
@@ -36,38 +35,27 @@ not-both u v h k = false≠true (sym (less-asym u v h) ∙ k)
 not-self : (u v : List ℕ) → less u v ≡ true → u ≡ v → ⊥
 not-self u v h e = false≠true (sym (less-irrefl u) ∙ ap (less u) e ∙ h)
 
-module _ {A : Type 0} (key : A → List ℕ) where
-  abbrev Within : List A → List A → Type 0
-  Within us vs = (z : A) → Among z us → Among z vs
+-- the first words are one: each stands in the other list, and would else be above the other
+same_first : {u v : List ℕ} {us vs : Words} → All (λ w. less u w ≡ true) us → All (λ w. less v w ≡ true) vs → Among u (v ∷ vs) → Among v (u ∷ us) → u ≡ v
+same_first a b (here e) n = e
+same_first a b (there m) (here f) = sym f
+same_first {u} {v} a b (there m) (there n) = absurd (not-both u v (all-member a n) (all-member b m))
 
-  abbrev Over : A → List A → Type 0
-  Over u us = All (λ w. less (key u) w ≡ true) (map key us)
+-- what stands behind the first word of one list stands behind that of the other
+behind : {u v : List ℕ} {us vs : Words} → u ≡ v → All (λ w. less u w ≡ true) us → Within (u ∷ us) (v ∷ vs) → Within us vs
+behind {u} {v} {us} {vs} e a within w m = go (within w (there m))
+  where
+    go : Among w (v ∷ vs) → Among w vs
+    go (here f) = absurd (not-self u w (all-member a m) (e ∙ sym f))
+    go (there n) = n
 
-  -- the first elements are one: each stands in the other list, and would else be above the other
-  same_first : {u v : A} {us vs : List A} → Over u us → Over v vs → Among u (v ∷ vs) → Among v (u ∷ us) → u ≡ v
-  same_first a b (here e) n = e
-  same_first a b (there m) (here f) = sym f
-  same_first {u} {v} a b (there m) (there n) = absurd (not-both (key u) (key v) (all-member a (among-map key n)) (all-member b (among-map key m)))
-
-  -- what stands behind the first element of one list stands behind that of the other
-  behind : {u v : A} {us vs : List A} → u ≡ v → Over u us → Within (u ∷ us) (v ∷ vs) → Within us vs
-  behind {u} {v} {us} {vs} e a within w m = go (within w (there m))
-    where
-      go : Among w (v ∷ vs) → Among w vs
-      go (here f) = absurd (not-self (key u) (key w) (all-member a (among-map key m)) (ap key (e ∙ sym f)))
-      go (there n) = n
-
-  pub unique-by : (us vs : List A) → Rises (map key us) → Rises (map key vs) → Within us vs → Within vs us → us ≡ vs
-  unique-by [] [] r t f g = refl
-  unique-by [] (v ∷ vs) r t f g = absurd (Memᴰ.not-nil (g v (here refl)))
-  unique-by (u ∷ us) [] r t f g = absurd (Memᴰ.not-nil (f u (here refl)))
-  unique-by (u ∷ us) (v ∷ vs) (rise p a r) (rise q b t) f g =
-      let e : u ≡ v = same_first a b (f u (here refl)) (g v (here refl)) in
-      ap₂ (λ (w : A) (ws : List A). w ∷ ws) e (unique-by us vs r t (behind e a f) (behind (sym e) b g))
-
--- words are their own keys
-pub rising-unique : (us vs : Words) → Rises us → Rises vs → ((w : List ℕ) → Among w us → Among w vs) → ((w : List ℕ) → Among w vs → Among w us) → us ≡ vs
-rising-unique us vs r t f g = unique-by (λ (w : List ℕ). w) us vs (subst Rises (sym (map-id us)) r) (subst Rises (sym (map-id vs)) t) f g
+pub rising-unique : (us vs : Words) → Rises us → Rises vs → Within us vs → Within vs us → us ≡ vs
+rising-unique [] [] r t f g = refl
+rising-unique [] (v ∷ vs) r t f g = absurd (Memᴰ.not-nil (g v (here refl)))
+rising-unique (u ∷ us) [] r t f g = absurd (Memᴰ.not-nil (f u (here refl)))
+rising-unique (u ∷ us) (v ∷ vs) (rise p a r) (rise q b t) f g =
+    let e : u ≡ v = same_first a b (f u (here refl)) (g v (here refl)) in
+    ap₂ (λ (w : List ℕ) (ws : Words). w ∷ ws) e (rising-unique us vs r t (behind e a f) (behind (sym e) b g))
 
 -- ---- how many
 
@@ -104,7 +92,11 @@ pub rising-distinct : {ws : Words} → Rises ws → Distinct ws
 rising-distinct start = none
 rising-distinct (rise {w = w} p a r) = more (λ m. not-self w w (all-member a m) refl) (rising-distinct r)
 
--- ---- the members of a list that is mapped
+-- ---- the members of a list that is among-map
+
+pub among-map : {A B : Type 0} (f : A → B) {z : A} {l : List A} → Among z l → Among (f z) (map f l)
+among-map f (here e) = here (ap f e)
+among-map f (there m) = there (among-map f m)
 
 pub record From {A B : Type 0} (f : A → B) (w : B) (l : List A) : Type 0 where
   pub source : A

@@ -99,7 +99,7 @@ fn measured_exact(book: &[u8], question: &[u8]) -> proved::Counted {
 
 /// The same for `book_place`.
 #[inline(never)]
-fn measured_place(book: &[u8], question: &[u8]) -> proved::Counted {
+pub fn measured_place(book: &[u8], question: &[u8]) -> proved::Counted {
     proved::book_place(book, question)
 }
 

@@ -4,7 +4,7 @@
 use crate::asking::{call_of, shown_question};
 use crate::{mixed, read_file, shown, Ready};
 use format::{Kind, MOST_ROWS};
-use model::questions::Look;
+use model::questions::{look_from, Look};
 use model::tree::tree;
 use model::{book_batch, open, Answer, Counted};
 use proved::Row;
@@ -63,10 +63,10 @@ pub fn together(words: &[String]) -> Result<String, String> {
     let prepared = prepare(words)?;
     let opened = open(&prepared.book);
     let (kind, block, names) = opened.ok_or_else(|| format!("{} is no book", words.join(" ")))?;
-    let root = tree(kind.rule(), &names);
+    let (rule, root) = (kind.rule(), tree(kind.rule(), &names));
     let alone = |answer: Answer, question: &[u8]| {
         let look = match (answer.code, &root) {
-            (0, Some(root)) => mixed::look_in(kind, block, root, question),
+            (0, Some(root)) => look_from(rule, block, root, question),
             _ => Look::default(),
         };
         Counted::of(answer, look)

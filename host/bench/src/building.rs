@@ -1,6 +1,6 @@
-//! `book_build`, `book_build_folded` and `book_build_thin`, from a file of list records
-//! into a room for the longest book; the book and the thin book of a list, to measure
-//! with; and lists for the second call from lists for the first.
+//! `book_build` and `book_build_folded`, from a file of list records into a room for
+//! the longest book; the book of a list, to measure with; and lists for the second
+//! call from lists for the first.
 
 use crate::{read_file, read_number, Ready};
 use format::LONGEST_BOOK;
@@ -19,11 +19,6 @@ pub fn plain(words: &[String]) -> Result<Ready, String> {
 /// Makes `book_build_folded` ready likewise.
 pub fn folded(words: &[String]) -> Result<Ready, String> {
     ready(BookKind::Folded, words)
-}
-
-/// Makes `book_build_thin` ready likewise.
-pub fn thin(words: &[String]) -> Result<Ready, String> {
-    ready(BookKind::Thin, words)
 }
 
 /// Makes the call that builds books of this kind ready.
@@ -47,7 +42,6 @@ pub fn build(kind: BookKind, list: &[u8], block: usize, room: &mut [u8]) -> prov
     match kind {
         BookKind::Plain | BookKind::Columns => measured_build(list, block, room),
         BookKind::Folded => measured_build_folded(list, block, room),
-        BookKind::Thin => measured_build_thin(list, block, room),
     }
 }
 
@@ -61,24 +55,6 @@ fn measured_build(list: &[u8], block: usize, room: &mut [u8]) -> proved::Answer 
 #[inline(never)]
 fn measured_build_folded(list: &[u8], block: usize, room: &mut [u8]) -> proved::Answer {
     proved::book_build_folded(list, block, room)
-}
-
-/// The same.
-#[inline(never)]
-fn measured_build_thin(list: &[u8], block: usize, room: &mut [u8]) -> proved::Answer {
-    proved::book_build_thin(list, block, room)
-}
-
-/// Writes the thin book of a list with this block size, and tells how many names and
-/// bytes it has. There may be no full book of the list.
-pub fn thin_book(words: &[String]) -> Result<String, String> {
-    let [file, block, book] = words else {
-        return Err("thin needs a list file, a block size and a book file".to_string());
-    };
-    let (names, block) = (names_of(file)?, read_number(block)?);
-    let bytes = book_of(BookKind::Thin, block, &names);
-    fs::write(book, &bytes).map_err(|error| format!("{book}: {error}"))?;
-    Ok(format!("{} names, {} bytes", names.len(), bytes.len()))
 }
 
 /// Writes the book of a list with this block size, and tells how many names and

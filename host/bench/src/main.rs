@@ -8,14 +8,13 @@
 //! `bench together BOOKFILE` asks some of them as one batch, and then each of
 //! them alone; `bench texts BOOKFILE` checks the book and then asks for the clips of
 //! the same texts, and `bench announced BOOKFILE` does so without the second program;
-//! `bench screen BOOKFILE TYPED` asks for a range and reads its first names. In each
-//! case the answer is printed, and it has to be the second program's: a wrong answer
-//! is not worth measuring. `bench growth` and `bench worst` build, check and ask lists
-//! of many shapes, `bench worst_folded` those of folded books, and `bench growth_thin`
-//! and `bench worst_thin` those of thin ones. `bench split` parts a list into two, to
-//! merge them again, `bench wear` damages a book, to salvage it, `bench book` writes
-//! the book of a list, `bench thin` its thin book, `bench columns` the column book of a
-//! book, and `bench fold` makes lists and books to be folded.
+//! `bench screen BOOKFILE TYPED` asks for a range and reads its first names. In each case the answer is printed, and it has to be the second
+//! program's: a wrong answer is not worth measuring. `bench growth` and `bench
+//! worst` build, check and ask lists of many shapes, `bench worst_folded` those of
+//! folded books. `bench split` parts a list into two, to merge them again, `bench wear`
+//! damages a book, to salvage it, `bench book` writes the book of a list, `bench
+//! columns` the column book of a book, and `bench fold` makes lists and books to be
+//! folded.
 //!
 //! Another call is a module with one function, and one more line in [`CALLS`].
 
@@ -112,7 +111,7 @@ impl From<model::Counted> for Given {
 }
 
 /// Every call that can be measured.
-const CALLS: [Call; 19] = [
+const CALLS: [Call; 18] = [
     Call {
         name: "build",
         words: "LISTFILE K",
@@ -122,11 +121,6 @@ const CALLS: [Call; 19] = [
         name: "build_folded",
         words: "LISTFILE K",
         ready: building::folded,
-    },
-    Call {
-        name: "build_thin",
-        words: "LISTFILE K",
-        ready: building::thin,
     },
     Call {
         name: "check",
@@ -239,17 +233,14 @@ fn run(words: &[String]) -> Result<String, String> {
         "texts" => announcing::texts(rest),
         "announced" => announcing::announced(rest),
         "screen" => screen::run(rest),
-        "growth" => shaped::growth(BookKind::Plain),
-        "growth_thin" => shaped::growth(BookKind::Thin),
+        "growth" => shaped::growth(),
         "worst" => shaped::worst(BookKind::Plain, rest),
         "worst_folded" => shaped::worst(BookKind::Folded, rest),
-        "worst_thin" => shaped::worst(BookKind::Thin, rest),
         "split" => merging::split(rest),
         "wear" => salvaging::wear(rest),
         "fold" => building::fold(rest),
         "columns" => converting::columns(rest),
         "book" => building::book(rest),
-        "thin" => building::thin_book(rest),
         _ => {
             let Ready {
                 mut measured,
@@ -310,15 +301,12 @@ fn usage() -> String {
     lines.push("bench announced BOOKFILE".to_string());
     lines.push("bench screen BOOKFILE TYPED".to_string());
     lines.push("bench growth".to_string());
-    lines.push("bench growth_thin".to_string());
     lines.push("bench worst [SEED]".to_string());
     lines.push("bench worst_folded [SEED]".to_string());
-    lines.push("bench worst_thin [SEED]".to_string());
     lines.push("bench split LISTFILE ODD EVEN".to_string());
     lines.push("bench wear BOOKFILE CARDFILE".to_string());
     lines.push("bench fold LISTFILE K NAME".to_string());
     lines.push("bench book LISTFILE K BOOKFILE".to_string());
-    lines.push("bench thin LISTFILE K BOOKFILE".to_string());
     lines.push("bench columns BOOKFILE NEW".to_string());
     lines.join("\n")
 }

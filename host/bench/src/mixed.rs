@@ -7,9 +7,9 @@
 use crate::asking::{call_of, shown_question};
 use crate::{checking, read_file, shown, told, Given};
 use format::Kind;
-use model::questions::{exact, look_from, nearest_from, place, range, width, Look};
-use model::tree::{tree, Node};
-use model::{book_check, open, Answer, BookKind, Counted};
+use model::questions::{exact, look_from, nearest_from, place, range, width};
+use model::tree::tree;
+use model::{book_check, open, Answer, Counted};
 use vectors::lists::Names;
 use vectors::questions::{of_shape, SHAPES};
 use vectors::random::Random;
@@ -22,10 +22,10 @@ const EACH: usize = 20;
 /// program's.
 pub fn run(words: &[String]) -> Result<String, String> {
     let (file, book) = read_book(words)?;
-    let (book_kind, block, names) = open(&book).ok_or_else(|| format!("{file} is no book"))?;
+    let (kind, block, names) = open(&book).ok_or_else(|| format!("{file} is no book"))?;
     // The second program's calls open the book each time, which takes long; so its
     // questions are asked of the names, and the tree to go down in is made once.
-    let rule = book_kind.rule();
+    let rule = kind.rule();
     let root = tree(rule, &names).ok_or_else(|| format!("{file} has no names"))?;
     let expected = |kind: Kind, question: &[u8]| {
         let (first, second) = match kind {
@@ -40,23 +40,12 @@ pub fn run(words: &[String]) -> Result<String, String> {
             first,
             second,
         };
-        Counted::of(answer, look_in(book_kind, block, &root, question))
+        Counted::of(answer, look_from(rule, block, &root, question))
     };
     ask_all(&book, &names, |kind, question, answer| match kind {
         None => shown(answer, book_check(&book)),
         Some(kind) => shown(answer, expected(kind, question)),
     })
-}
-
-/// How far a question tells that it looked in a book of this kind, of whose names'
-/// tree this is the root: a thin book tells 0 and 0.
-pub fn look_in(kind: BookKind, block: usize, root: &Node, question: &[u8]) -> Look {
-    match kind {
-        BookKind::Plain | BookKind::Folded | BookKind::Columns => {
-            look_from(kind.rule(), block, root, question)
-        }
-        BookKind::Thin => Look::default(),
-    }
 }
 
 /// The same calls and lines, whatever the answers are: under a profiler the second

@@ -1,18 +1,16 @@
-//! Lists by their shape: each is built, its book checked, and a place asked; of a thin
-//! book the nearest name, which takes most there.
+//! Lists by their shape: each is built, its book checked, and a place asked.
 //!
 //! `growth` goes over lists of which one parameter doubles, `worst` over shapes
 //! that may cost most: some by a plan, some by chance. For folded books these are
 //! spelt so that neighbours differ in case where they share letters: what they share
 //! is then no stored count.
 
-use crate::asking::call_of;
 use crate::building::build;
 use crate::checking::measured_check;
-use crate::{read_number, shown};
-use format::{Kind, LONGEST_BOOK, MOST_NAMES};
+use crate::{asking, read_number, shown};
+use format::{LONGEST_BOOK, MOST_NAMES};
 use model::names::leading_equal;
-use model::questions::{lit, Look};
+use model::questions::Look;
 use model::{write_list, Answer, BookKind, Counted};
 use vectors::growth;
 use vectors::lists::{compared, compared_name, Names};
@@ -33,47 +31,25 @@ fn lines(label: &str, list: &Worst, room: &mut [u8]) -> Result<Vec<String>, Stri
     let book = &room[..built.first];
     let names = compared(list.kind, &list.names);
     let question = compared_name(list.kind, &list.question);
-    let checked = accepted(names.len(), list.block);
-    shown(measured_check(book), checked)?;
-    let kind = match list.kind {
-        BookKind::Plain | BookKind::Folded | BookKind::Columns => Kind::Place,
-        BookKind::Thin => Kind::Nearest,
-    };
-    shown(
-        call_of(kind)(book, &list.question),
-        expected(list.kind, &names, list.block, &question),
-    )?;
-    let bytes = built.first;
-    let line = |call: &str| format!("{call} {label}: {bytes}");
-    Ok(["build", "check", kind.name()].map(line).to_vec())
-}
-
-/// An answer with these numbers.
-fn accepted(first: usize, second: usize) -> Answer {
-    Answer {
+    let place = names.partition_point(|name| *name < question);
+    let expected = |first, second| Answer {
         code: 0,
         first,
         second,
-    }
+    };
+    shown(measured_check(book), expected(names.len(), list.block))?;
+    shown(
+        asking::measured_place(book, &list.question),
+        Counted::of(expected(place, 0), look(&names, list.block, &question)),
+    )?;
+    let bytes = built.first;
+    let line = |call: &str| format!("{call} {label}: {bytes}");
+    Ok(["build", "check", "place"].map(line).to_vec())
 }
 
-/// What a place, or in a thin book a nearest name, has to be by the plain list.
-fn expected(kind: BookKind, names: &Names, block: usize, question: &[u8]) -> Counted {
-    let (first, visits) = reached(names, question);
-    if kind == BookKind::Thin {
-        let shared = leading_equal(&names[first], question);
-        let nearest = accepted(first, lit(question, shared));
-        return Counted::of(nearest, Look::default());
-    }
-    let place = names.partition_point(|name| name[..] < *question);
-    let entries = first % block + 1;
-    Counted::of(accepted(place, 0), Look { visits, entries })
-}
-
-/// The position that a question reaches, and how many nodes it visits: it goes down in
-/// a run of names, of which those are left that have its next symbol behind what all
-/// of them share.
-fn reached(names: &Names, question: &[u8]) -> (usize, usize) {
+/// How far a question looks: it goes down in a run of names, of which those are left
+/// that have its next symbol behind what all of them share.
+fn look(names: &Names, block: usize, question: &[u8]) -> Look {
     let (mut first, mut run) = (0, &names[..]);
     let mut visits = 1;
     while let [low, .., high] = run {
@@ -91,17 +67,19 @@ fn reached(names: &Names, question: &[u8]) -> (usize, usize) {
         (first, run) = (first + from, &run[from..from + fitting]);
         visits += 1;
     }
-    (first, visits)
+    Look {
+        visits,
+        entries: first % block + 1,
+    }
 }
 
-/// Lists of which one parameter doubles, in books of this kind.
-pub fn growth(kind: BookKind) -> Result<String, String> {
+/// Lists of which one parameter doubles.
+pub fn growth() -> Result<String, String> {
     let mut room = vec![0; LONGEST_BOOK];
     let mut all = Vec::new();
     for grown in growth::all() {
         let label = format!("{}, {}", grown.parameter, grown.value);
-        let list = Worst { kind, ..grown.list };
-        all.extend(lines(&label, &list, &mut room)?);
+        all.extend(lines(&label, &grown.list, &mut room)?);
     }
     Ok(all.join("\n"))
 }
@@ -111,13 +89,12 @@ pub fn worst(kind: BookKind, words: &[String]) -> Result<String, String> {
     let seed = words.first().map_or(Ok(1), |word| read_number(word))?;
     let mut random = Random::from_seed(seed as u64);
     let shapes = match kind {
-        BookKind::Plain | BookKind::Columns | BookKind::Thin => plain_shapes(&mut random),
+        BookKind::Plain | BookKind::Columns => plain_shapes(&mut random),
         BookKind::Folded => folded_shapes(&mut random),
     };
     let mut room = vec![0; LONGEST_BOOK];
     let mut all = Vec::new();
-    for mut shape in shapes {
-        shape.kind = kind;
+    for shape in shapes {
         all.extend(lines(&shape.what, &shape, &mut room)?);
     }
     Ok(all.join("\n"))

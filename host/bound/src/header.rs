@@ -3,13 +3,10 @@
 use crate::page::grouped;
 
 /// The calls that have a number of their own.
-const BUILDS: [&str; 3] = ["book_build", "book_build_folded", "book_build_thin"];
+const BUILDS: [&str; 2] = ["book_build", "book_build_folded"];
 
 /// Their number, and that of all other calls.
 const NUMBERS: [&str; 2] = ["MISTROGU_BUILD_STACK", "MISTROGU_STACK"];
-
-/// The number of a question to bytes under the thin mark.
-const THIN_NUMBER: &str = "MISTROGU_THIN_STACK";
 
 /// A number may be above the largest bound of its calls by one part in so many
 /// of itself. That leaves some room for the guest's own functions and for another
@@ -20,9 +17,8 @@ const PART: u64 = 16;
 pub type Bound<'a> = (&'a str, u64);
 
 /// An error where the header says less than a call can take, or much more, or
-/// has other calls; or less than a question can take under the thin mark. That number
-/// may be far above: it is what was asked for.
-pub fn hold(header: &str, bounds: &[Bound], thin: &[Bound]) -> Result<(), String> {
+/// has other calls.
+pub fn hold(header: &str, bounds: &[Bound]) -> Result<(), String> {
     let mut declared = declared(header);
     let mut exported: Vec<&str> = bounds.iter().map(|bound| bound.0).collect();
     declared.sort_unstable();
@@ -36,19 +32,18 @@ pub fn hold(header: &str, bounds: &[Bound], thin: &[Bound]) -> Result<(), String
         let its_calls = bounds
             .iter()
             .filter(|bound| BUILDS.contains(&bound.0) == (name == NUMBERS[0]));
-        hold_close(name, number(header, name)?, its_calls.copied())?;
+        hold_number(name, number(header, name)?, its_calls.copied())?;
     }
-    let number = number(header, THIN_NUMBER)?;
-    hold_enough(THIN_NUMBER, number, thin.iter().copied())?;
     Ok(())
 }
 
-/// The call of these that can take most. An error where the number is less.
-fn hold_enough<'a>(
+/// An error where the number is less than one of its calls can take, or much
+/// more than all of them.
+fn hold_number<'a>(
     name: &str,
     number: u64,
     calls: impl Iterator<Item = Bound<'a>>,
-) -> Result<Bound<'a>, String> {
+) -> Result<(), String> {
     let most = calls.max_by_key(|bound| bound.1);
     let (call, bytes) = most.ok_or_else(|| format!("no call goes by {name}"))?;
     let (said, taken) = (grouped(number), grouped(bytes));
@@ -57,18 +52,6 @@ fn hold_enough<'a>(
             "{call} can take {taken} bytes of stack, and {name} is {said}"
         ));
     }
-    Ok((call, bytes))
-}
-
-/// An error where the number is less than one of its calls can take, or much
-/// more than all of them.
-fn hold_close<'a>(
-    name: &str,
-    number: u64,
-    calls: impl Iterator<Item = Bound<'a>>,
-) -> Result<(), String> {
-    let (call, bytes) = hold_enough(name, number, calls)?;
-    let (said, taken) = (grouped(number), grouped(bytes));
     if number - bytes > number / PART {
         return Err(format!(
             "{name} is {said}, and no call that goes by it takes more than {taken} bytes \
@@ -106,27 +89,24 @@ mod tests {
     const HEADER: &str = "/* Bytes. */
 #define MISTROGU_BUILD_STACK 1600
 #define MISTROGU_STACK 3200
-#define MISTROGU_THIN_STACK 800
 struct mistrogu_answer {
 struct mistrogu_answer MISTROGU_CALL(book_build)(
     const uint8_t *list, size_t list_length,
 struct mistrogu_answer MISTROGU_CALL(book_build_folded)(
-struct mistrogu_answer MISTROGU_CALL(book_build_thin)(
 struct mistrogu_answer MISTROGU_CALL(book_check)(
 struct mistrogu_head MISTROGU_CALL(list_head)(
     const uint8_t *first, size_t first_length,
 ";
 
-    /// What is said of bounds of the calls, of which the largest build has this one.
+    /// What is said of bounds of the calls, of which both builds have one.
     fn held(build: u64, check: u64, head: u64) -> Result<(), String> {
         let bounds = [
             ("book_check", check),
             ("book_build", build - 1),
             ("book_build_folded", build),
-            ("book_build_thin", 8),
             ("list_head", head),
         ];
-        hold(HEADER, &bounds, &[("book_exact", 8)])
+        hold(HEADER, &bounds)
     }
 
     #[test]
@@ -157,36 +137,12 @@ struct mistrogu_head MISTROGU_CALL(list_head)(
         let bounds = [
             ("book_build", 1600),
             ("book_build_folded", 1600),
-            ("book_build_thin", 1600),
             ("book_check", 3200),
         ];
-        let thin = [("book_exact", 8)];
-        let error = hold(HEADER, &bounds, &thin).unwrap_err();
-        assert!(error.contains("list_head"), "{error}");
+        assert!(hold(HEADER, &bounds).unwrap_err().contains("list_head"));
         let without = HEADER.replace("#define MISTROGU_STACK", "#define MISTROGU_HEAP");
-        let bounds = [bounds[0], bounds[1], bounds[2], bounds[3], ("list_head", 8)];
-        let error = hold(&without, &bounds, &thin).unwrap_err();
+        let bounds = [bounds[0], bounds[1], bounds[2], ("list_head", 8)];
+        let error = hold(&without, &bounds).unwrap_err();
         assert_eq!(error, "the header has no MISTROGU_STACK");
-        let without = HEADER.replace("#define MISTROGU_THIN_STACK", "#define MISTROGU_HEAP");
-        let error = hold(&without, &bounds, &thin).unwrap_err();
-        assert_eq!(error, "the header has no MISTROGU_THIN_STACK");
-    }
-
-    #[test]
-    fn under_the_thin_mark_a_number_has_to_be_enough_and_may_be_far_above() {
-        let bounds = [
-            ("book_build", 1600),
-            ("book_build_folded", 1600),
-            ("book_build_thin", 1600),
-            ("book_check", 3200),
-            ("list_head", 8),
-        ];
-        let held = |bytes| hold(HEADER, &bounds, &[("book_exact", 8), ("book_place", bytes)]);
-        assert_eq!(held(8), Ok(()));
-        assert_eq!(held(800), Ok(()));
-        let sentence = "book_place can take 801 bytes of stack, and MISTROGU_THIN_STACK is 800";
-        assert_eq!(held(801).unwrap_err(), sentence);
-        let error = hold(HEADER, &bounds, &[]).unwrap_err();
-        assert_eq!(error, "no call goes by MISTROGU_THIN_STACK");
     }
 }

@@ -10,7 +10,7 @@
 //! | [`step`] | what one instruction does to the stack |
 //! | [`frame`] | how deep the frame of a function gets, and how deep it is at each call |
 //! | [`function`] | all functions, and which of them each call enters |
-//! | [`way`] | the deepest way from a function, the one cycle, and the way under the thin mark |
+//! | [`way`] | the deepest way from a function, and the one cycle |
 //! | [`header`] | what `mistrogu.h` says, held to that |
 //! | [`page`] | the figures as tables |
 //!
@@ -26,8 +26,6 @@
 //!   too. The deepest way over all of them counts.
 //! - A cycle of calls is refused unless it is the one whose depth is proved:
 //!   [`way::MOST_LEVELS`] says where.
-//! - Under the thin mark a question makes the one call that [`way::THIN`] speaks of.
-//!   One that does not is refused.
 //! - `memcpy` and `memset` are the guest's own. Of them only the return address
 //!   is counted; any other function that is not in the archive is refused.
 //!

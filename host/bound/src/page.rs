@@ -9,17 +9,12 @@ pub const GUESTS: [u64; 4] = [2, 4, 8, 26];
 /// A call: its name, its deepest way, and what fits the stack of each guest.
 pub type Call<'a> = (&'a str, Way, [Fit; GUESTS.len()]);
 
-/// A question: its name, and its deepest way under the thin mark.
-pub type Question<'a> = (&'a str, Way);
-
-/// The page: the bound of each call with its deepest way, what the cycle costs, the
-/// same of each question under the thin mark, which guest can make which call, and the
-/// frame of each function.
-pub fn page(all: &[Call], thin: &[Question], cycles: &[Cycle], functions: &[Function]) -> String {
+/// The page: the bound of each call with its deepest way, what the cycle costs,
+/// which guest can make which call, and the frame of each function.
+pub fn page(all: &[Call], cycles: &[Cycle], functions: &[Function]) -> String {
     [
         calls(all),
         cycles.iter().map(cycle).collect(),
-        questions(thin),
         guests(all),
         frames(functions),
     ]
@@ -34,23 +29,15 @@ fn calls(all: &[Call]) -> String {
         OUTSIDE.join(" and ")
     );
     text += "| Call | Stack | The deepest way, with the bytes of each frame |\n|---|---:|---|\n";
-    text.extend(all.iter().map(|(name, way, _)| row(name, way)));
+    for (name, way, _) in all {
+        let frames: Vec<String> = way.frames.iter().map(shown).collect();
+        text += &format!(
+            "| `{name}` | {} | {} |\n",
+            grouped(way.bytes),
+            frames.join(", ")
+        );
+    }
     text
-}
-
-/// The bound of each question under the thin mark.
-fn questions(thin: &[Question]) -> String {
-    let mut text = "| Under the thin mark | Stack | The deepest way, with the bytes of each frame |\n|---|---:|---|\n"
-        .to_string();
-    text.extend(thin.iter().map(|(name, way)| row(name, way)));
-    text
-}
-
-/// A bound with its way.
-fn row(name: &str, way: &Way) -> String {
-    let frames: Vec<String> = way.frames.iter().map(shown).collect();
-    let bytes = grouped(way.bytes);
-    format!("| `{name}` | {bytes} | {} |\n", frames.join(", "))
 }
 
 /// A frame on a way.
@@ -165,20 +152,10 @@ mod tests {
             function("announcer.o", "inspect::check_node", 192),
         ];
         let fits = [Fit::Nothing, Fit::Levels(1), Fit::Levels(44), Fit::Any];
-        let thin = Way {
-            bytes: 80,
-            frames: vec![
-                held("book_exact", 64, 1),
-                held("questions::ask_thin", 16, 1),
-            ],
-        };
-        let calls = [("book_check", way, fits)];
-        let page = page(&calls, &[("book_exact", thin)], &[cycle], &functions);
+        let page = page(&[("book_check", way, fits)], &[cycle], &functions);
         for line in [
             "| `book_check` | 35,264 | `book_check` 64, 200 times `inspect::check_node` 176 |",
             "The cycle of `book.o` is `inspect::check_node`: 176 bytes a level, and at most 200 levels",
-            "\n\n| Under the thin mark | Stack | The deepest way, with the bytes of each frame |\n|---|---:|---|\n\
-             | `book_exact` | 80 | `book_exact` 64, `questions::ask_thin` 16 |\n\n",
             "| Call | 2 KiB | 4 KiB | 8 KiB | 26 KiB |\n|---|---|---|---|---|\n",
             "| `book_check` | nothing | 1 level | 44 levels | any |",
             "| `announcer.o` | `inspect::check_node` | 192 |\n| `book.o` | `book_check` | 1,064 |\n\

@@ -1,6 +1,6 @@
-//! The deepest way from a function, the one cycle, and the way of the thin mark.
+//! The deepest way from a function, and the one cycle.
 
-use crate::function::{Call, Callee, Function};
+use crate::function::{Callee, Function};
 use crate::step::WORD;
 
 /// How often each function of the cycle can be active at a time.
@@ -16,16 +16,6 @@ pub const MOST_LEVELS: u64 = 200;
 /// The functions that may call each other in a cycle. Any other cycle is an
 /// error.
 pub const CYCLE: [&str; 2] = ["inspect::check_node", "inspect::check_row"];
-
-/// The function that answers a question to bytes under the thin mark, and checks
-/// them before.
-///
-/// A question hands such bytes to no other, which is proved: what answers under any
-/// other mark, `ask_alone`, asks of its caller that there is no thin mark
-/// (`LooksOther`, in `crates/questions/src/lib.rt`), and each question in
-/// `crates/book` shows it. Bytes that are too short for a mark count as others there;
-/// the check ends at their length.
-pub const THIN: &str = "questions::ask_thin";
 
 /// A way down the stack.
 #[derive(Clone, Debug, PartialEq, Eq)]
@@ -173,33 +163,17 @@ impl<'a> Ways<'a> {
 
     /// The deepest way from a function that makes none of the calls of a cycle.
     fn deepest_outside(&self, number: usize, members: &[usize]) -> Way {
-        self.deepest_by(number, |callee| match callee {
-            Callee::Inside(callee) => !members.contains(callee),
-            Callee::Outside(_) => true,
-        })
-    }
-
-    /// The deepest way from a question, where it is asked of bytes under the thin
-    /// mark: of the archive's functions it calls [`THIN`] alone. None where it does not
-    /// call it.
-    pub fn deepest_thin(&self, number: usize) -> Option<Way> {
-        let is_thin = |callee: &Callee| match callee {
-            Callee::Inside(callee) => self.functions[*callee].name == THIN,
-            Callee::Outside(_) => false,
-        };
-        let mut calls = self.functions[number].calls.iter();
-        calls.find(|call| is_thin(&call.callee))?;
-        Some(self.deepest_by(number, |callee| {
-            is_thin(callee) || matches!(callee, Callee::Outside(_))
-        }))
-    }
-
-    /// The deepest way from a function that makes only calls of these functions.
-    fn deepest_by(&self, number: usize, is_made: impl Fn(&Callee) -> bool) -> Way {
         let function = &self.functions[number];
         let alone = Way::of(vec![once(&function.name, function.peak)]);
-        let calls = function.calls.iter().filter(|call| is_made(&call.callee));
-        let ways = calls.map(|call| self.by(function, call));
+        let ways = function.calls.iter().filter_map(|call| {
+            let mut frames = vec![once(&function.name, call.held)];
+            match &call.callee {
+                Callee::Inside(callee) if members.contains(callee) => return None,
+                Callee::Inside(callee) => frames.extend(self.deepest(*callee).frames),
+                Callee::Outside(name) => frames.push(once(name, WORD.unsigned_abs())),
+            }
+            Some(Way::of(frames))
+        });
         ways.fold(alone, |deepest, way| {
             if way.bytes > deepest.bytes {
                 way
@@ -207,16 +181,6 @@ impl<'a> Ways<'a> {
                 deepest
             }
         })
-    }
-
-    /// The deepest way by this call of a function.
-    fn by(&self, function: &Function, call: &Call) -> Way {
-        let mut frames = vec![once(&function.name, call.held)];
-        match &call.callee {
-            Callee::Inside(callee) => frames.extend(self.deepest(*callee).frames),
-            Callee::Outside(name) => frames.push(once(name, WORD.unsigned_abs())),
-        }
-        Way::of(frames)
     }
 
     /// The functions that are in a cycle with this one, itself among them; none
@@ -404,33 +368,6 @@ mod tests {
         assert_eq!(cycles.len(), 1);
         assert_eq!(cycles[0].object, "a.o");
         assert_eq!((cycles[0].level(), cycles[0].levels.len()), (48, 2));
-    }
-
-    #[test]
-    fn under_the_thin_mark_one_call_is_made() {
-        let node = "inspect::check_node";
-        let inside = format!("push   %rbx\n>call {node}\npop    %rbx\nret");
-        let ask =
-            format!("push   %rbx\n>call {THIN}\n>call {node}\n>call memset\npop    %rbx\nret");
-        let check = format!(">call {node}\nret");
-        let walk = "sub    $0x100,%rsp\n>call memset\nadd    $0x100,%rsp\nret";
-        for (thin, bytes) in [
-            ("ret", 24),
-            (walk, 16 + 264 + 8),
-            (&*inside, 16 + 16 + 200 * 16),
-        ] {
-            let bodies = [
-                ("book_exact", &*ask),
-                ("book_check", &*check),
-                (THIN, thin),
-                (node, &*inside),
-            ];
-            let functions = functions(&bodies);
-            let ways = Ways::of(&functions).unwrap();
-            assert_eq!(ways.deepest_thin(0).unwrap().bytes, bytes);
-            assert_eq!(ways.deepest_thin(1), None);
-            assert!(ways.deepest(0).bytes >= 16 + 200 * 16);
-        }
     }
 
     #[test]

@@ -5,9 +5,8 @@ use std::fs;
 use std::path::{Path, PathBuf};
 use std::process::{Command, Output};
 
-/// Four calls with frames that are known: one with a frame of two pages, one into the
-/// cycle, a question, which goes there or by the way of the thin mark, and one of
-/// lists.
+/// Three calls with frames that are known: one with a frame of two pages, one
+/// into the cycle, and one of lists.
 const CODE: &str = r#"
         .text
         .globl  book_build
@@ -33,19 +32,6 @@ book_check:
 1:      ret
         .size   book_check, . - book_check
 
-        .globl  book_exact
-        .type   book_exact, @function
-book_exact:
-        pushq   %rbx
-        testq   %rsi, %rsi
-        je      4f
-        call    "questions::ask_thin"
-        popq    %rbx
-        ret
-4:      popq    %rbx
-        jmp     "inspect::check_node"
-        .size   book_exact, . - book_exact
-
         .globl  list_head
         .type   list_head, @function
 list_head:
@@ -53,14 +39,6 @@ list_head:
         popq    %rbx
         ret
         .size   list_head, . - list_head
-
-        .type   "questions::ask_thin", @function
-"questions::ask_thin":
-        subq    $0x1f8, %rsp
-        call    memcpy@PLT
-        addq    $0x1f8, %rsp
-        ret
-        .size   "questions::ask_thin", . - "questions::ask_thin"
 
         .section ".text.inspect::check_node","ax",@progbits
         .type   "inspect::check_node", @function
@@ -105,14 +83,12 @@ announce_clip:
         .section .note.GNU-stack,"",@progbits
 "#;
 
-/// A header with these numbers, and enough for a question under the thin mark.
+/// A header with these numbers.
 fn header(build: u64, others: u64) -> String {
     format!(
         "#define MISTROGU_BUILD_STACK {build}\n#define MISTROGU_STACK {others}\n\
-         #define MISTROGU_THIN_STACK 536\n\
          struct mistrogu_answer MISTROGU_CALL(book_build)(void);\n\
          struct mistrogu_answer MISTROGU_CALL(book_check)(void);\n\
-         struct mistrogu_answer MISTROGU_CALL(book_exact)(void);\n\
          struct mistrogu_head MISTROGU_CALL(list_head)(void);\n"
     )
 }
@@ -164,11 +140,9 @@ fn known_frames_are_added_up() {
     for line in [
         "| `book_build` | 4,368 | `book_build` 4,360, `memset` 8 |",
         "| `book_check` | 12,800 | `book_check` 0, 200 times `inspect::check_node` 64 |",
-        "| `book_exact` | 12,800 | `book_exact` 0, 200 times `inspect::check_node` 64 |",
         "| `list_head` | 16 | `list_head` 16 |",
-        "\n|---|---:|---|\n| `book_exact` | 536 | `book_exact` 16, `questions::ask_thin` 512, `memcpy` 8 |\n\n",
         "The cycle of `code.o` is `inspect::check_node`: 64 bytes a level, and at most 200 levels, as is proved.",
-        "| `code.o` | `book_build` | 4,360 |\n| `code.o` | `book_check` | 8 |\n| `code.o` | `book_exact` | 16 |\n",
+        "| `code.o` | `book_build` | 4,360 |\n| `code.o` | `book_check` | 8 |\n| `code.o` | `inspect::check_node` | 64 |\n",
     ] {
         assert!(page.contains(line), "{page}");
     }
@@ -212,24 +186,7 @@ fn a_number_that_is_too_small_is_told_after_the_page() {
     let (page, errors) = ended(run("small", CODE, &header(4400, 12_792)), 1);
     assert!(page.contains("| `book_check` | 12,800 |"), "{page}");
     let sentence =
-        "bound: book_exact can take 12,800 bytes of stack, and MISTROGU_STACK is 12,792\n";
-    assert_eq!(errors, sentence);
-}
-
-#[test]
-fn under_the_thin_mark_a_question_has_a_number_of_its_own() {
-    let number = header(4400, 12_900);
-    let small = number.replace("STACK 536", "STACK 535");
-    let (_, errors) = ended(run("thin", CODE, &small), 1);
-    let sentence =
-        "bound: book_exact can take 536 bytes of stack, and MISTROGU_THIN_STACK is 535\n";
-    assert_eq!(errors, sentence);
-    let walk = "subq    $0x1f8, %rsp\n        call    memcpy@PLT";
-    let nodes = CODE.replace(walk, &walk.replace("memcpy@PLT", "\"inspect::check_node\""));
-    let more = header(4400, 13_400);
-    let (_, errors) = ended(run("thin nodes", &nodes, &more), 1);
-    let sentence =
-        "bound: book_exact can take 13,328 bytes of stack, and MISTROGU_THIN_STACK is 536\n";
+        "bound: book_check can take 12,800 bytes of stack, and MISTROGU_STACK is 12,792\n";
     assert_eq!(errors, sentence);
 }
 
@@ -253,12 +210,6 @@ fn code_that_is_not_understood_gets_no_figure() {
             "call    memset@PLT",
             "call abort@PLT",
             "asks for abort",
-        ),
-        (
-            "nothing thin",
-            "call    \"questions::ask_thin\"",
-            "call    list_head",
-            "book_exact calls no questions::ask_thin",
         ),
         (
             "cycle",

@@ -7,7 +7,6 @@
 //! | [`stations`](mod@stations) | names like those of stations |
 //! | [`mix`] | the questions and positions |
 //! | [`sorted`] | a plain sorted array, searched by halving |
-//! | [`sizes`] | how many bytes names are kept in, by each way |
 //! | [`steps`] | what is measured, and the figures |
 //! | [`turns`] | who takes turns with whom while times are taken |
 //! | [`tables`] | the figures as a page of Markdown |
@@ -21,7 +20,6 @@
 
 pub mod mix;
 pub mod plot;
-pub mod sizes;
 pub mod sorted;
 pub mod stations;
 pub mod steps;

@@ -1,7 +1,8 @@
 //! The figures as a page of Markdown.
 
-use crate::sizes::{Sizes, WAYS};
-use crate::steps::{middle_ratio, Figures, Middle, Spread, Step, Subject, LIBRARY, ROWS, SORTED};
+use crate::steps::{
+    middle_ratio, Figures, Middle, Spread, Step, Subject, LIBRARY, MODEL, REFERENCE, ROWS, SORTED,
+};
 use format::Kind;
 
 /// What the page says of the names.
@@ -18,8 +19,6 @@ pub struct About {
     pub merged: [usize; 2],
     /// How many names the folded book has, and how many bytes.
     pub folded: [usize; 2],
-    /// What the names are kept in, and those of other lists.
-    pub sizes: Vec<Sizes>,
     /// How many times everything was timed.
     pub rounds: usize,
     /// What was left out, a sentence each.
@@ -101,36 +100,22 @@ marisa's as far as they go.
     text
 }
 
-/// How many bytes the names of each list are kept in.
+/// How many bytes the names are kept in.
 fn sizes(about: &About, subjects: &[Subject]) -> String {
-    let others = subjects.iter().skip(SORTED + 1);
-    let others = others.map(|subject| format!("dictionary of {}", subject.name));
-    let ways = WAYS.map(str::to_string).into_iter().chain(others);
-    let mut head = "| Kept as |".to_string();
-    for sizes in &about.sizes {
-        let (list, names, block) = (&sizes.list, grouped(sizes.names as f64), sizes.block);
-        head += &format!(" `{list}`: {names} names, blocks of {block} |");
+    let mut text = "## Size\n\n| Kept as | Bytes |\n|---|---:|\n".to_string();
+    let mut row = |kept: &str, bytes: usize| {
+        text += &format!("| {kept} | {} |\n", grouped(bytes as f64));
+    };
+    row("plain list: a length byte, then the name", about.list);
+    for (number, subject) in subjects.iter().enumerate() {
+        match number {
+            LIBRARY => row("book, with blocks of 16", subject.size),
+            REFERENCE | MODEL => {}
+            SORTED => row("sorted array: list and offsets of four bytes", subject.size),
+            _ => row(&format!("dictionary of {}", subject.name), subject.size),
+        }
     }
-    let rows = ways.enumerate().map(|(way, name)| {
-        let cells = about.sizes.iter().map(|sizes| size(sizes, way));
-        format!("| {name} |{}\n", cells.collect::<String>())
-    });
-    format!(
-        "## Size\n\nBytes, and in brackets bytes a name. Where there is no number, the names have no such book: it would be too long. A folded \
-         book has no two names that differ in case alone, so it may have fewer.\n\n{head}\n|---|{}\n{}",
-        "---:|".repeat(about.sizes.len()),
-        rows.collect::<String>()
-    )
-}
-
-/// What a list's names take by this way, as a cell of the table.
-fn size(sizes: &Sizes, way: usize) -> String {
-    let kept = sizes.kept.get(way).copied().flatten();
-    let shown = kept.map(|kept| {
-        let each = kept.bytes as f64 / kept.names.max(1) as f64;
-        format!("{} ({each:.1})", grouped(kept.bytes as f64))
-    });
-    format!(" {} |", shown.unwrap_or_else(|| NONE.to_string()))
+    text
 }
 
 /// Instructions of single calls.

@@ -1,13 +1,11 @@
 //! The page and the drawing show what was measured.
 
 use compare::plot::drawing;
-use compare::sizes::Sizes;
 use compare::steps::{
     middle, middle_ratio, Figures, Middle, Step, Subject, LIBRARY, MODEL, REFERENCE, ROWS, SORTED,
 };
 use compare::tables::{page, About};
 use format::Kind;
-use vectors::lists::{binary, example};
 
 /// Four subjects, with figures that are easily told apart.
 fn made_up() -> (Vec<Subject>, Figures) {
@@ -97,18 +95,11 @@ fn the_page_has_a_row_for_each_call_and_says_what_is_left_out() {
         questions: 100,
         merged: [1200, 1150],
         folded: [1790, 63_000],
-        sizes: vec![
-            Sizes::of("example", &example(), 2, &[]),
-            Sizes::of("binary", &binary(2000), 1, &[]),
-        ],
         rounds: 2,
         left_out: vec!["fst is left out.".to_string()],
     };
     let page = page(&about, &subjects, &figures);
     for line in [
-        "| Kept as | `example`: 3 names, blocks of 2 | `binary`: 2,000 names, blocks of 1 |",
-        "| plain book | 93 (31.0) | - |",
-        "| thin book | 45 (15.0) | 30,016 (15.0) |",
         "| exact | 100,600 | 90,250 (0.90) | 5,000,000 (50) | 700 (1/140) |",
         "| exact | 600 / 800 | 250 / 300 (0.42) | 7,000 / 7,000 (12) | 700 / 700 (1.17) |",
         "| exact, after the check | 1/64 | 0.50 | 0.50 | 0.20 |",

@@ -22,7 +22,7 @@ fn they_are_those_that_the_table_over_them_describes() {
     let at = |tenths: usize| lengths[tenths * COUNT / 10];
     assert_eq!((at(1), at(5), at(9)), (6, 19, 33));
     assert_eq!(write_list(&names).len(), 37_257);
-    assert_eq!(node_count(BookKind::Plain, &names), 2451);
+    assert_eq!(node_count(Rule::Plain, &names), 2451);
 }
 
 #[test]

@@ -1,9 +1,10 @@
 //! Random calls of the five questions.
 
 use crate::agreeing;
-use crate::books::{any_book, stack_for};
+use crate::books::any_book;
 use crate::lent::{hex, lend};
 use fenced::{on_stack, Fenced};
+use mistrogu::STACK;
 use vectors::lists::Names;
 use vectors::questions::any_question;
 use vectors::random::Random;
@@ -47,7 +48,7 @@ fn run(
     let (book, names) = any_book(random);
     let question = any_lent_question(random, &names);
     let expected = model(&book, &question);
-    let found = on_stack(stack_for(&book), || proved(&book, &question));
+    let found = on_stack(STACK, || proved(&book, &question));
     agreeing::on_counted(expected, found).map_err(|answers| {
         let (question, book) = (hex(&question), hex(&book));
         format!("question {question}\nbook {book}\n{answers}")

@@ -4,7 +4,6 @@ use crate::lent::lend;
 use crate::shapes::{any_kind, any_names};
 use fenced::Fenced;
 use format::MOST_NAMES;
-use mistrogu::{STACK, THIN_STACK};
 use model::{book_of, BookKind};
 use vectors::damage::{mark_as, spoil_book, spoil_names};
 use vectors::hostile;
@@ -49,8 +48,8 @@ fn laid_out_book(random: &mut Random, kind: BookKind, block: usize) -> (Vec<u8>,
 }
 
 /// The bytes of a book with hostile nodes: mostly of some hundreds of names, now
-/// and then with as many and as long ones as there can be. The latter are plain, of
-/// columns, or marked as thin.
+/// and then with as many and as long ones as there can be. The latter are plain or of
+/// columns.
 fn hostile_book(random: &mut Random, kind: BookKind, block: usize) -> (Vec<u8>, Names) {
     let tables = hostile::kinds();
     let table = random.one_of(&tables);
@@ -75,14 +74,6 @@ fn several_names(random: &mut Random, kind: BookKind, block: usize) -> Names {
         return lists::sorted_for(kind, lists::pairs(random.between(2, 500)));
     }
     names
-}
-
-/// The bytes of stack that are enough for a question to these bytes, by their mark.
-pub fn stack_for(book: &[u8]) -> usize {
-    match BookKind::of_marked(book) {
-        Some(BookKind::Thin) => THIN_STACK,
-        _ => STACK,
-    }
 }
 
 /// A block size from 1 to 64, often a small one.

@@ -1,4 +1,4 @@
-//! Random calls of `book_build`, of `book_build_folded` and of `book_build_thin`.
+//! Random calls of `book_build` and of `book_build_folded`.
 
 use crate::agreeing;
 use crate::lent::{any_room_length, hex};
@@ -19,11 +19,6 @@ pub fn plain(random: &mut Random) -> Result<usize, String> {
 /// The same of `book_build_folded`.
 pub fn folded(random: &mut Random) -> Result<usize, String> {
     run(random, BookKind::Folded, proved::book_build_folded)
-}
-
-/// The same of `book_build_thin`.
-pub fn thin(random: &mut Random) -> Result<usize, String> {
-    run(random, BookKind::Thin, proved::book_build_thin)
 }
 
 /// Builds a book of this kind by both programs.

@@ -10,19 +10,16 @@
 //! and those of the announcer the clip of a text with the book's own answers, a route
 //! with its positions one by one, and both with the names that are read back; those of
 //! columns turn a book into columns and back, and compare what a plain book gives with
-//! what its column book gives; and those of thin books compare what a full book gives
-//! with what the thin book of the same list gives, the thin book's answers with the
-//! plain list's where there is no full book, and the refusals of calls that take no
-//! thin book. The seed is printed first; the same seed gives the same
+//! what its column book gives. The seed is printed first; the same seed gives the same
 //! cases. While it runs it says how far it is, and at the end it prints a table. A
 //! difference is printed with the whole case, and the exit status is then 1.
 //!
 //! The proved library is called on exactly as much stack as its header says is
-//! enough, by the mark where a question is asked, and all that is lent to it has a
-//! fence before or behind it. Where it takes more stack, or steps past what is lent,
-//! the system ends the run with a signal. Run again with the same seed and `--say`,
-//! which prints each case's own seed before it is run: the last one is that of the
-//! case, to be had alone with `--cases 1 --seed`.
+//! enough, and all that is lent to it has a fence before or behind it. Where it
+//! takes more stack, or steps past what is lent, the system ends the run with a
+//! signal. Run again with the same seed and `--say`, which prints each case's own
+//! seed before it is run: the last one is that of the case, to be had alone with
+//! `--cases 1 --seed`.
 //!
 //! Another call is a module with one function, and one more line in [`KINDS`].
 
@@ -45,8 +42,6 @@ mod records;
 mod salvaging;
 mod shapes;
 mod tally;
-mod thin;
-mod twins;
 
 use progress::Progress;
 use std::env;
@@ -67,7 +62,7 @@ pub struct Kind {
 }
 
 /// Every kind of call, as often as the others.
-const KINDS: [Kind; 35] = [
+const KINDS: [Kind; 30] = [
     Kind {
         name: "build",
         run: building::plain,
@@ -77,16 +72,8 @@ const KINDS: [Kind; 35] = [
         run: building::folded,
     },
     Kind {
-        name: "build thin",
-        run: building::thin,
-    },
-    Kind {
         name: "check",
         run: checking::run,
-    },
-    Kind {
-        name: "check thin",
-        run: checking::thin,
     },
     Kind {
         name: "read",
@@ -195,18 +182,6 @@ const KINDS: [Kind; 35] = [
     Kind {
         name: "columns alike",
         run: converting::alike,
-    },
-    Kind {
-        name: "thin alike",
-        run: thin::alike,
-    },
-    Kind {
-        name: "no full book",
-        run: thin::alone,
-    },
-    Kind {
-        name: "thin unserved",
-        run: thin::unserved,
     },
 ];
 

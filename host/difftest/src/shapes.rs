@@ -29,7 +29,7 @@ pub fn any_names(random: &mut Random, kind: BookKind, block: usize) -> Names {
 /// folded one they are also in capitals and in small letters by turns.
 fn in_any_spelling(random: &mut Random, kind: BookKind, names: Names) -> Names {
     match (kind, random.below(4)) {
-        (BookKind::Plain | BookKind::Columns | BookKind::Thin, 0..=2) => names,
+        (BookKind::Plain | BookKind::Columns, 0..=2) => names,
         (BookKind::Folded, 0) => by_turns(&lists::sorted_for(kind, names)),
         (BookKind::Folded, 1) => lists::sorted_for(kind, names),
         _ => names_respelt(random, kind, &names),
@@ -185,7 +185,7 @@ pub fn as_many_as_can_be(random: &mut Random) -> Names {
 }
 
 /// A book of this kind of about 65,535 bytes, sometimes more.
-pub fn as_large_as_can_be(random: &mut Random, kind: BookKind, block: usize) -> Names {
+fn as_large_as_can_be(random: &mut Random, kind: BookKind, block: usize) -> Names {
     let wanted = random.between(65_533, 65_538);
     let count = random.between(500, 1650);
     let names = match random.below(3) {

@@ -42,20 +42,13 @@ pub enum BookKind {
     Folded,
     /// As plain, with the node table stored as columns, one for each field.
     Columns,
-    /// As plain, without a node table.
-    Thin,
 }
 
 impl BookKind {
     /// Every kind.
-    pub const ALL: [BookKind; 4] = [
-        BookKind::Plain,
-        BookKind::Folded,
-        BookKind::Columns,
-        BookKind::Thin,
-    ];
+    pub const ALL: [BookKind; 3] = [BookKind::Plain, BookKind::Folded, BookKind::Columns];
 
-    /// The kinds that the announcer takes. Both have a node table, node by node.
+    /// The kinds that are built from a list, and that the announcer takes.
     pub const FULL: [BookKind; 2] = [BookKind::Plain, BookKind::Folded];
 
     /// The last four bytes of a book of this kind.
@@ -64,7 +57,6 @@ impl BookKind {
             BookKind::Plain => *b"NBK2",
             BookKind::Folded => *b"NBF2",
             BookKind::Columns => *b"NBC2",
-            BookKind::Thin => *b"NBP1",
         }
     }
 
@@ -75,7 +67,6 @@ impl BookKind {
     /// use format::BookKind;
     ///
     /// assert_eq!(BookKind::of_marked(b"NBF2"), Some(BookKind::Folded));
-    /// assert_eq!(BookKind::of_marked(b"NBP1"), Some(BookKind::Thin));
     /// assert_eq!(BookKind::of_marked(b"NBK1"), None);
     /// ```
     pub fn of_marked(bytes: &[u8]) -> Option<Self> {
@@ -94,7 +85,7 @@ impl BookKind {
     /// ```
     pub const fn compared(self, byte: u8) -> u8 {
         match self {
-            BookKind::Plain | BookKind::Columns | BookKind::Thin => byte,
+            BookKind::Plain | BookKind::Columns => byte,
             BookKind::Folded => byte.to_ascii_lowercase(),
         }
     }
@@ -121,7 +112,6 @@ impl BookKind {
             BookKind::Plain => "plain",
             BookKind::Folded => "folded",
             BookKind::Columns => "column",
-            BookKind::Thin => "thin",
         }
     }
 }

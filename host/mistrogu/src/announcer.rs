@@ -21,8 +21,8 @@ pub enum Spoken {
 /// The table has one clip for each name of the book, in the order of their positions,
 /// so it belongs to that book. When the book is built anew, the table is made anew.
 ///
-/// Refused, in this order: [`NoBook`](Refusal::NoBook), also for a column book and for a
-/// thin one; [`BadClipTable`](Refusal::BadClipTable);
+/// Refused, in this order: [`NoBook`](Refusal::NoBook), also for a column book;
+/// [`BadClipTable`](Refusal::BadClipTable);
 /// [`QuestionTooLong`](Refusal::QuestionTooLong).
 ///
 /// ```

@@ -13,7 +13,7 @@ use crate::{accepted, Refusal};
 /// field. A room as long as the book is long enough.
 ///
 /// Refused, in this order: [`NoBook`](Refusal::NoBook) for anything but a sound plain
-/// book, so also for a folded one, for a column book and for a thin one;
+/// book, so also for a folded one and for a column book;
 /// [`RoomTooShort`](Refusal::RoomTooShort).
 ///
 /// ```

@@ -25,8 +25,7 @@ use crate::{accepted, found, near, span, Nearest, Refusal};
 /// To one question all five kinds look equally far: at the nodes that lead to
 /// [`nearest`](crate::nearest)'s name. With n names in blocks of k, `visits` is 1 at
 /// least, and at most n and at most the question's length plus 2; `entries` is
-/// nearest's position modulo k, plus 1. Of a thin book and of a book without names both
-/// are 0.
+/// nearest's position modulo k, plus 1. Of a book without names both are 0.
 #[derive(Clone, Copy, Debug, PartialEq, Eq, Hash)]
 pub struct Looked {
     /// How many nodes it visited going down, the root and the last one counted.

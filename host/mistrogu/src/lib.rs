@@ -12,7 +12,6 @@
 //! |---|---|
 //! | make a book | [`build`], from a [`List`] |
 //! | make one in which capitals and small letters are the same | [`build_folded`] |
-//! | make a shorter one, without a node table | [`build_thin`] |
 //! | have a book's node table stored field by field, or record by record again | [`to_columns`], [`from_columns`] |
 //! | make one list of two | [`merge`] |
 //! | show the names of two lists in their order | [`heads`] |
@@ -51,7 +50,7 @@
 //! byte strings: `[u8]`'s own. Positions count from 0. A list is a run of
 //! records, each one byte with the length of a name and then the name.
 //!
-//! # Four kinds of book
+//! # Three kinds of book
 //!
 //! In a **folded** book the capitals A to Z count as the letters a to z wherever
 //! names are compared, with each other or with a question; spelling comes back
@@ -62,12 +61,6 @@
 //! memory that is faster when one field is read at a time. Names, answers, counts and
 //! length are those of the plain book. [`to_columns`] makes it, and [`from_columns`]
 //! gives the plain book back.
-//!
-//! A **thin** book is a plain book without a node table, for a device with little
-//! memory. On real names it has under 60 in a hundred of the plain book's bytes, so a
-//! list may have a thin book where its plain book would be too long. Names and answers
-//! are those of the plain book, and a question takes longer: it goes through the names
-//! in order. Both [counts](counted::Looked) are 0. [`build_thin`] makes it.
 //!
 //! A book's mark, its last four bytes, tells its [kind](BookKind), and every call goes
 //! by that. [`check`] tells the kind, too. [`clip`] and [`route`] take plain and folded
@@ -105,9 +98,8 @@
 //! questions, and [`counted`] tells how far a single one looked behind the check. A
 //! [`salvage`] takes bytes that need not be a book, and goes over their blocks alone.
 //! Every call that takes two lists judges both, and each name of [`heads`] is such a
-//! call. [`STACK`] bytes of stack are enough for a call, [`BUILD_STACK`] for [`build`],
-//! [`build_folded`] and [`build_thin`]. For a question to bytes that end with the thin
-//! mark [`THIN_STACK`] is enough, whatever stands before the mark.
+//! call. [`STACK`] bytes of stack are enough for a call, [`BUILD_STACK`] for [`build`]
+//! and [`build_folded`].
 //!
 //! # Linking
 //!
@@ -160,15 +152,12 @@ pub use salvage::{blocks_of, salvage, Block, Blocks, Names, Report, Salvaged};
 
 /// The version, as the header has it, too.
 pub const VERSION: &str = env!("CARGO_PKG_VERSION");
-/// The bytes of stack that are enough for [`build`], [`build_folded`] and
-/// [`build_thin`], whatever is lent to them.
+/// The bytes of stack that are enough for [`build`] and [`build_folded`], whatever is
+/// lent to them.
 pub const BUILD_STACK: usize = 7936;
 /// The bytes of stack that are enough for every other call, whatever is lent to
 /// it: a book, or bytes that are none.
 pub const STACK: usize = 26_624;
-/// The bytes of stack that are enough for a question to bytes that end with the mark
-/// of a thin book, be they one or not.
-pub const THIN_STACK: usize = 2048;
 
 /// What a check tells of a book.
 #[derive(Clone, Copy, Debug, PartialEq, Eq, Hash)]
@@ -271,26 +260,6 @@ pub fn build_folded(list: &[u8], block: usize, room: &mut [u8]) -> Result<usize,
     length_of_built(proved::book_build_folded(list, block, room))
 }
 
-/// Builds the thin book of a list, as [`build`] does the plain one: the same entries and
-/// the same block table, and no node table. Every answer is that of the plain book.
-///
-/// Refused as [`build`], and [`BookTooLong`](Refusal::BookTooLong) by the thin book's own
-/// length: a list whose plain book would be too long may have a thin one.
-///
-/// ```
-/// use mistrogu::{build, build_thin, nearest, Nearest};
-///
-/// let list = b"\x03Mar\x06Marina\x0DMarket Square";
-/// let (mut plain, mut thin) = ([0; 93], [0; 45]);
-/// assert_eq!(build(list, 2, &mut plain), Ok(93));
-/// assert_eq!(build_thin(list, 2, &mut thin), Ok(45));
-/// assert_eq!(nearest(&thin, b"Maxim"), Ok(Nearest { position: 1, lit: 2 }));
-/// assert_eq!(nearest(&thin, b"Maxim"), nearest(&plain, b"Maxim"));
-/// ```
-pub fn build_thin(list: &[u8], block: usize, room: &mut [u8]) -> Result<usize, Refused> {
-    length_of_built(proved::book_build_thin(list, block, room))
-}
-
 /// What the answer of a build says.
 fn length_of_built(answer: Answer) -> Result<usize, Refused> {
     let (length, _) = accepted(answer).map_err(|refusal| Refused {
@@ -301,10 +270,10 @@ fn length_of_built(answer: Answer) -> Result<usize, Refused> {
     Ok(length)
 }
 
-/// Tells whether bytes are a book: exactly those that [`build`], [`build_folded`] or
-/// [`build_thin`] writes for some list and block size, or [`to_columns`] for some plain
-/// book. All of the bytes count, so a book with one byte more is none. The kind is that
-/// of the mark that a book ends with.
+/// Tells whether bytes are a book: exactly those that [`build`] or [`build_folded`]
+/// writes for some list and block size, or [`to_columns`] for some plain book. All of
+/// the bytes count, so a book with one byte more is none. The kind is that of the mark
+/// that a book ends with.
 ///
 /// A book has no checksum, and a damaged one may be another book: one wrong bit makes
 /// Marine of Marina, and the bytes are accepted.
@@ -416,8 +385,7 @@ pub fn range(book: &[u8], question: &[u8]) -> Result<Range<usize>, Refusal> {
 /// A name that shares as many leading bytes with the question as any name does,
 /// and how many leading bytes of the question to light. They may be none. Of
 /// several such names the book's nodes lead to one, always the same, and not always
-/// the first: docs/STATEMENTS.md says which. A thin book has no nodes, and gives the same
-/// one.
+/// the first: docs/STATEMENTS.md says which.
 ///
 /// Of a text in UTF-8 no half character is lit. The number is the greatest, not
 /// above the shared bytes, that is 0, or the question's length, or a place where

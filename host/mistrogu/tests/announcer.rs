@@ -1,8 +1,7 @@
 //! The clip for a text and the clips of a route, as the plain list of names has them.
 
 use mistrogu::{
-    build, build_folded, build_thin, clip, route, to_columns, BookKind, List, Refusal, Spoken,
-    MOST_STOPS,
+    build, build_folded, clip, route, to_columns, BookKind, List, Refusal, Spoken, MOST_STOPS,
 };
 
 const NAMES: [&str; 8] = [
@@ -29,7 +28,6 @@ fn book_of(kind: BookKind, names: &[&str]) -> Vec<u8> {
     let length = match kind {
         BookKind::Plain | BookKind::Columns => build(list.records(), 3, &mut room),
         BookKind::Folded => build_folded(list.records(), 3, &mut room),
-        BookKind::Thin => build_thin(list.records(), 3, &mut room),
     };
     room.truncate(length.unwrap());
     if kind == BookKind::Columns {
@@ -43,7 +41,7 @@ fn book_of(kind: BookKind, names: &[&str]) -> Vec<u8> {
 /// What the list says of a text: by its letters where the book is folded.
 fn by_the_list(kind: BookKind, text: &str) -> Spoken {
     let letters = |text: &str| match kind {
-        BookKind::Plain | BookKind::Columns | BookKind::Thin => text.to_string(),
+        BookKind::Plain | BookKind::Columns => text.to_string(),
         BookKind::Folded => text.to_ascii_lowercase(),
     };
     let text = letters(text);
@@ -145,19 +143,17 @@ fn the_first_bad_position_is_told_whatever_stands_behind_it() {
 }
 
 #[test]
-fn column_books_and_thin_books_are_refused_with_2_before_all_else() {
-    for kind in [BookKind::Columns, BookKind::Thin] {
-        let book = book_of(kind, &NAMES);
-        for clips in [&CLIPS[..], &CLIPS[1..]] {
-            for text in [&b"Mar"[..], &[b'M'; 201]] {
-                assert_eq!(clip(&book, clips, text), Err(Refusal::NoBook));
-            }
-            let mut room = [0xAAAA; 3];
-            for positions in [&[][..], &[1, 2], &[9; MOST_STOPS + 1]] {
-                let refused = route(&book, clips, positions, &mut room).unwrap_err();
-                assert_eq!((refused.refusal, refused.place), (Refusal::NoBook, 0));
-            }
-            assert_eq!(room, [0xAAAA; 3]);
+fn a_column_book_is_refused_with_2_before_all_else() {
+    let book = book_of(BookKind::Columns, &NAMES);
+    for clips in [&CLIPS[..], &CLIPS[1..]] {
+        for text in [&b"Mar"[..], &[b'M'; 201]] {
+            assert_eq!(clip(&book, clips, text), Err(Refusal::NoBook));
         }
+        let mut room = [0xAAAA; 3];
+        for positions in [&[][..], &[1, 2], &[9; MOST_STOPS + 1]] {
+            let refused = route(&book, clips, positions, &mut room).unwrap_err();
+            assert_eq!((refused.refusal, refused.place), (Refusal::NoBook, 0));
+        }
+        assert_eq!(room, [0xAAAA; 3]);
     }
 }

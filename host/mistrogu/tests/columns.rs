@@ -48,7 +48,6 @@ fn field(book: &[u8], node: usize, field: usize) -> &[u8] {
     let at = match BookKind::of_marked(book).unwrap() {
         BookKind::Columns => start + 2 * (nodes * field + node),
         BookKind::Plain | BookKind::Folded => start + 12 * node + 2 * field,
-        BookKind::Thin => panic!("a thin book has no nodes"),
     };
     &book[at..at + 2]
 }

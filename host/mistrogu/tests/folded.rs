@@ -2,8 +2,8 @@
 //! and spelling comes back unchanged.
 
 use mistrogu::{
-    build, build_folded, build_thin, check, exact, nearest, place, range, read, salvage, width,
-    Batch, BookKind, Checked, Kind, List, Nearest, Refusal, Reply, Report,
+    build, build_folded, check, exact, nearest, place, range, read, salvage, width, Batch,
+    BookKind, Checked, Kind, List, Nearest, Refusal, Reply, Report,
 };
 
 /// Names in the order of a folded book, in which neighbours share few bytes.
@@ -127,7 +127,6 @@ fn the_order_of_a_kind_is_that_of_its_lists() {
             let built = match kind {
                 BookKind::Plain | BookKind::Columns => build(&list, 2, &mut room),
                 BookKind::Folded => build_folded(&list, 2, &mut room),
-                BookKind::Thin => build_thin(&list, 2, &mut room),
             };
             let rises = kind.order(one.as_bytes(), other.as_bytes()).is_lt();
             assert_eq!(built.is_ok(), rises, "{kind:?} {one} {other}");

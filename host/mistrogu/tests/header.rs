@@ -98,7 +98,6 @@ fn limits() {
         ("MISTROGU_LARGEST_BLOCK", mistrogu::LARGEST_BLOCK),
         ("MISTROGU_BUILD_STACK", mistrogu::BUILD_STACK),
         ("MISTROGU_STACK", mistrogu::STACK),
-        ("MISTROGU_THIN_STACK", mistrogu::THIN_STACK),
     ] {
         let line = format!("#define {name} {limit}");
         assert_eq!(
@@ -155,7 +154,6 @@ fn calls() {
     let answers = [
         "book_build",
         "book_build_folded",
-        "book_build_thin",
         "book_check",
         "book_read",
         "book_batch",

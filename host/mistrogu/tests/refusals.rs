@@ -2,9 +2,9 @@
 //! changed.
 
 use mistrogu::{
-    build, build_folded, build_thin, check, clip, exact, from_columns, heads, judge, merge,
-    nearest, place, range, read, route, to_columns, width, Batch, Kind, Refusal, Refused,
-    RouteRefused, Spoken, Which, MOST_STOPS,
+    build, build_folded, check, clip, exact, from_columns, heads, judge, merge, nearest, place,
+    range, read, route, to_columns, width, Batch, Kind, Refusal, Refused, RouteRefused, Spoken,
+    Which, MOST_STOPS,
 };
 
 const LIST: &[u8] = b"\x03Mar\x06Marina\x0DMarket Square";
@@ -34,15 +34,12 @@ fn refused_of(refusal: Refusal, record: usize, list: Which) -> Refused {
     }
 }
 
-/// Asserts that a build of a plain book, and that of a thin one, is refused so, and
-/// leaves the room as it was.
+/// Asserts that a build is refused so, and leaves the room as it was.
 fn build_refused(list: &[u8], block: usize, room: usize, refusal: Refusal, record: usize) {
-    for build in [build, build_thin] {
-        let mut room = vec![0xAA; room];
-        let refused = build(list, block, &mut room).unwrap_err();
-        assert_eq!(refused, refused_of(refusal, record, Which::Only));
-        assert!(room.iter().all(|&byte| byte == 0xAA));
-    }
+    let mut room = vec![0xAA; room];
+    let refused = build(list, block, &mut room).unwrap_err();
+    assert_eq!(refused, refused_of(refusal, record, Which::Only));
+    assert!(room.iter().all(|&byte| byte == 0xAA));
 }
 
 #[test]
@@ -53,7 +50,6 @@ fn a_build_is_refused_with_8_first() {
     }
     for block in [1, 64] {
         assert!(build(LIST, block, &mut [0; 100]).is_ok());
-        assert!(build_thin(LIST, block, &mut [0; 100]).is_ok());
     }
 }
 
@@ -64,7 +60,6 @@ fn a_build_is_refused_with_5_and_the_record() {
     let mut list = vec![200];
     list.extend_from_slice(&LONG[..200]);
     assert!(build(&list, 2, &mut [0; 300]).is_ok());
-    assert!(build_thin(&list, 2, &mut [0; 300]).is_ok());
     list[0] = 201;
     list.push(b'M');
     build_refused(&list, 2, 300, Refusal::BadRecord, 0);
@@ -83,10 +78,6 @@ fn a_build_is_refused_with_7_and_the_record() {
     list.truncate(5 * 2000);
     let checked = check(&book_of(&list)).unwrap();
     assert_eq!(checked.names, mistrogu::MOST_NAMES);
-    let mut room = vec![0; mistrogu::LONGEST_BOOK];
-    let length = build_thin(&list, 2, &mut room).unwrap();
-    let checked = check(&room[..length]).unwrap();
-    assert_eq!(checked.names, mistrogu::MOST_NAMES);
 }
 
 #[test]
@@ -100,62 +91,8 @@ fn a_build_is_refused_with_9_then_4() {
         })
         .collect();
     build_refused(&long, 2, 0, Refusal::BookTooLong, 0);
-    build_refused(LIST, 2, 44, Refusal::RoomTooShort, 0);
-    assert_eq!(build_thin(LIST, 2, &mut [0; 45]), Ok(45));
-    let mut room = [0xAA; 92];
-    let refused = build(LIST, 2, &mut room).unwrap_err();
-    let too_short = refused_of(Refusal::RoomTooShort, 0, Which::Only);
-    assert_eq!((refused, room), (too_short, [0xAA; 92]));
+    build_refused(LIST, 2, 92, Refusal::RoomTooShort, 0);
     assert_eq!(build(LIST, 2, &mut [0; 93]), Ok(93));
-}
-
-/// So many names of 200 bytes that share at most one byte with the name before.
-fn long_names(count: u16) -> Vec<u8> {
-    (0..count)
-        .flat_map(|number| {
-            let mut record = vec![200];
-            record.extend(number.to_be_bytes());
-            record.resize(201, b'x');
-            record
-        })
-        .collect()
-}
-
-/// The length of their thin book with blocks of one: a name takes 202 bytes of entries
-/// and 2 of the block table.
-fn thin(names: usize) -> usize {
-    204 * names + 16
-}
-
-/// The length of their plain book, which also has a root, two forks and a leaf for each
-/// name.
-fn plain(names: usize) -> usize {
-    thin(names) + 12 * (names + 3)
-}
-
-#[test]
-fn a_thin_book_is_refused_with_9_by_its_own_length() {
-    let mut room = vec![0; mistrogu::LONGEST_BOOK];
-    assert_eq!(build(&long_names(303), 1, &mut room), Ok(plain(303)));
-    for names in [304, 321] {
-        assert!(plain(names) > mistrogu::LONGEST_BOOK);
-        let list = long_names(u16::try_from(names).unwrap());
-        let refused = build(&list, 1, &mut room).unwrap_err();
-        assert_eq!(refused.refusal, Refusal::BookTooLong);
-        let short = build_thin(&list, 1, &mut room[..thin(names) - 1]).unwrap_err();
-        assert_eq!(short.refusal, Refusal::RoomTooShort);
-        assert_eq!(build_thin(&list, 1, &mut room), Ok(thin(names)));
-        assert_eq!(check(&room[..thin(names)]).unwrap().names, names);
-    }
-    // 321 names leave 35 bytes, and one more name of 31 bytes takes 35 of them.
-    assert_eq!(thin(321) + 35, mistrogu::LONGEST_BOOK);
-    for (length, built) in [(31, Ok(mistrogu::LONGEST_BOOK)), (32, Err(9))] {
-        let mut list = long_names(321);
-        list.push(length);
-        list.extend(vec![0xFF; usize::from(length)]);
-        let got = build_thin(&list, 1, &mut room).map_err(|refused| refused.refusal.number());
-        assert_eq!(got, built);
-    }
 }
 
 #[test]
@@ -191,15 +128,8 @@ fn a_reading_is_refused_with_2_then_3_then_4() {
 
 #[test]
 fn a_question_is_refused_with_2_then_1_then_10() {
-    questions_refused(&book_of(LIST), &book_of(&[]));
-    let (mut book, mut no_names) = ([0; 45], [0; 16]);
-    build_thin(LIST, 2, &mut book).unwrap();
-    build_thin(&[], 2, &mut no_names).unwrap();
-    questions_refused(&book, &no_names);
-}
+    let (book, no_names) = (book_of(LIST), book_of(&[]));
 
-/// Asserts that questions to these books, the second without names, are refused so.
-fn questions_refused(book: &[u8], no_names: &[u8]) {
     let refused = Refusal::NoBook;
     assert_eq!(exact(&book[1..], &LONG), Err(refused));
     assert_eq!(place(&book[1..], &LONG), Err(refused));
@@ -208,18 +138,18 @@ fn questions_refused(book: &[u8], no_names: &[u8]) {
     assert_eq!(width(&book[1..], &LONG), Err(refused));
 
     let refused = Refusal::QuestionTooLong;
-    for book in [book, no_names] {
+    for book in [&book, &no_names] {
         assert_eq!(exact(book, &LONG), Err(refused));
         assert_eq!(place(book, &LONG), Err(refused));
         assert_eq!(range(book, &LONG), Err(refused));
         assert_eq!(nearest(book, &LONG), Err(refused));
         assert_eq!(width(book, &LONG), Err(refused));
     }
-    assert_eq!(exact(book, &LONG[1..]), Ok(None));
+    assert_eq!(exact(&book, &LONG[1..]), Ok(None));
 
-    assert_eq!(nearest(no_names, b"Mar"), Err(Refusal::NoNames));
-    assert_eq!(exact(no_names, b"Mar"), Ok(None));
-    assert_eq!(width(no_names, b"Mar"), Ok(0));
+    assert_eq!(nearest(&no_names, b"Mar"), Err(Refusal::NoNames));
+    assert_eq!(exact(&no_names, b"Mar"), Ok(None));
+    assert_eq!(width(&no_names, b"Mar"), Ok(0));
 }
 
 /// A call that converts a book.
@@ -240,8 +170,6 @@ fn a_conversion_is_refused_with_2_then_4() {
     let mut folded = [0; 200];
     let length = build_folded(b"\x03mar\x06marina", 2, &mut folded).unwrap();
     let folded = &folded[..length];
-    let mut thin = [0; 45];
-    build_thin(LIST, 2, &mut thin).unwrap();
 
     let calls: [(Convert, &[u8], &[u8]); 2] = [
         (to_columns, &plain, &columns),
@@ -251,7 +179,7 @@ fn a_conversion_is_refused_with_2_then_4() {
         let mut longer = taken.to_vec();
         longer.push(0);
         for room in [0, 92, 93, 200] {
-            for none in [other, folded, &thin, &[], &taken[1..], &longer] {
+            for none in [other, folded, &[], &taken[1..], &longer] {
                 conversion_refused(convert, none, room, Refusal::NoBook);
             }
         }

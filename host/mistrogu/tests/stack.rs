@@ -1,14 +1,12 @@
 //! As much stack as the header says is enough, and no call touches a byte beside
 //! what is lent to it: every call on every hostile book, and on the deepest,
 //! widest and largest books there are, whole and worn; and those of two lists on
-//! their lists, whole and cut. There are fences around all of it. Questions to bytes
-//! with the thin mark have no more stack than the header says that they take.
+//! their lists, whole and cut. There are fences around all of it.
 
 use fenced::apart::{last_lines, run_test, word};
 use fenced::{on_stack, Fence, Fenced};
 use mistrogu::{
     blocks_of, BUILD_STACK, LONGEST_BOOK, LONGEST_NAME, MOST_SALVAGED, MOST_STOPS, STACK,
-    THIN_STACK,
 };
 use model::{book_check, book_of, write_list, BookKind};
 use proved::{Answer, Counted, Kept, Row};
@@ -82,38 +80,13 @@ fn as_columns(books: Vec<Lent>) -> Vec<Lent> {
         .collect()
 }
 
-/// Books under the thin mark: as they are, which are no thin books, and without their
-/// nodes, which are thin books where the names rise.
-fn as_thin(books: Vec<Lent>) -> Vec<Lent> {
-    let books = books.into_iter();
-    books
-        .flat_map(|lent| {
-            let trailer = lent.bytes.len() - 16;
-            let [low, high] = [trailer + 6, trailer + 7].map(|at| lent.bytes[at]);
-            let start = u16::from_le_bytes([low, high]);
-            let mut full = lent.bytes.clone();
-            full[trailer + 12..].copy_from_slice(&BookKind::Thin.mark());
-            let mut thin = full[..usize::from(start)].to_vec();
-            thin.extend(&full[trailer..trailer + 8]);
-            thin.extend([0, 0]);
-            thin.extend((start + 16).to_le_bytes());
-            thin.extend(BookKind::Thin.mark());
-            [("full", full), ("without nodes", thin)].map(|(how, bytes)| Lent {
-                about: format!("thin, {how}, {}", lent.about),
-                code: book_check(&bytes).code,
-                bytes,
-            })
-        })
-        .collect()
-}
-
 /// Lists of the deepest, the widest and the largest books of this kind. In folded
 /// ones neighbours share no byte, so that what they share is found by going along
 /// the block.
 fn extreme_lists_for(kind: BookKind) -> Vec<(&'static str, Names)> {
     let lists = extreme_lists().into_iter();
     let for_kind = lists.map(|(about, names)| match kind {
-        BookKind::Plain | BookKind::Columns | BookKind::Thin => (about, names),
+        BookKind::Plain | BookKind::Columns => (about, names),
         BookKind::Folded => (about, by_turns(&lists::sorted_for(kind, names))),
     });
     for_kind
@@ -121,12 +94,10 @@ fn extreme_lists_for(kind: BookKind) -> Vec<(&'static str, Names)> {
         .collect()
 }
 
-/// Lists of the deepest, the widest and the largest plain books, and of the largest
-/// thin book, which has no plain one.
-fn extreme_lists() -> [(&'static str, Names); 7] {
+/// Lists of the deepest, the widest and the largest plain books.
+fn extreme_lists() -> [(&'static str, Names); 6] {
     let deepest = [lists::chain(b'a', 200), lists::texts(&["b"])].concat();
-    let [largest, largest_thin] = [BookKind::Plain, BookKind::Thin]
-        .map(|kind| lists::with_book_length(kind, &lists::binary(2000), 16, LONGEST_BOOK));
+    let largest = lists::with_book_length(BookKind::Plain, &lists::binary(2000), 16, LONGEST_BOOK);
     [
         ("chain", deepest),
         ("mirror", lists::mirror(b'a', b'b', 200)),
@@ -134,7 +105,6 @@ fn extreme_lists() -> [(&'static str, Names); 7] {
         ("pairs", lists::pairs(2000)),
         ("long names", lists::long(300)),
         ("largest book", largest),
-        ("largest thin book", largest_thin),
     ]
 }
 
@@ -169,7 +139,13 @@ fn call_with_book(lent: &Lent, fence: Fence) {
     assert_eq!(read.code, *code);
 
     let question = Fenced::of(&[b'a'; LONGEST_NAME], fence);
-    ask_all(lent, &book, &question);
+    for (call, ask) in ASKS {
+        say(call, about);
+        let asked = on_stack(STACK, || ask(&book, &question));
+        assert_eq!(asked.code, *code);
+        let looked = [asked.visits, asked.entries].map(|count| count > 0);
+        assert_eq!(looked, [*code == 0; 2], "{call}: {about}");
+    }
     say("batch", about);
     let batched = batch(&book, &question, fence);
     assert_eq!(batched.code, *code);
@@ -177,7 +153,7 @@ fn call_with_book(lent: &Lent, fence: Fence) {
     let announced = announce(&book, &question, checked.first, fence);
     let kind = BookKind::of_marked(bytes);
     let expected = match kind {
-        Some(BookKind::Columns | BookKind::Thin) => 2,
+        Some(BookKind::Columns) => 2,
         _ => *code,
     };
     assert_eq!(
@@ -192,20 +168,6 @@ fn call_with_book(lent: &Lent, fence: Fence) {
             _ => [2; 2],
         };
         assert_eq!(convert_all(&book, convert, fence), expected, "{about}");
-    }
-}
-
-/// Asks all five kinds of question, on as much stack as they take of such a book.
-fn ask_all(lent: &Lent, book: &Fenced<u8>, question: &Fenced<u8>) {
-    let Lent { about, bytes, code } = lent;
-    let is_thin = BookKind::of_marked(bytes) == Some(BookKind::Thin);
-    let stack = if is_thin { THIN_STACK } else { STACK };
-    for (call, ask) in ASKS {
-        say(call, about);
-        let asked = on_stack(stack, || ask(book, question));
-        assert_eq!(asked.code, *code);
-        let looked = [asked.visits, asked.entries].map(|count| count > 0);
-        assert_eq!(looked, [*code == 0 && !is_thin; 2], "{call}: {about}");
     }
 }
 
@@ -303,7 +265,6 @@ fn build(kind: BookKind, lent: &Lent, fence: Fence) -> Answer {
     let build = match kind {
         BookKind::Plain | BookKind::Columns => proved::book_build,
         BookKind::Folded => proved::book_build_folded,
-        BookKind::Thin => proved::book_build_thin,
     };
     on_stack(BUILD_STACK, || build(&list, 16, &mut room))
 }
@@ -313,7 +274,7 @@ fn call_with_all(fence: Fence) {
     for lent in hostile_books() {
         call_with_book(&lent, fence);
         assert_eq!(salvage(&lent, fence).code, 0, "only nodes are hostile");
-        for kind in [BookKind::Plain, BookKind::Folded, BookKind::Thin] {
+        for kind in BookKind::FULL {
             assert_ne!(build(kind, &lent, fence).code, 0);
         }
     }
@@ -324,10 +285,6 @@ fn call_with_all(fence: Fence) {
             13,
             "the mark is that of columns"
         );
-    }
-    for lent in as_thin(hostile_books()) {
-        call_with_book(&lent, fence);
-        assert_eq!(salvage(&lent, fence).code, 13, "the mark is thin");
     }
     for lent in hostile_folded_books() {
         call_with_book(&lent, fence);
@@ -355,7 +312,7 @@ fn call_with_names(kind: BookKind, about: &str, names: &Names, fence: Fence) {
     call_with_book(&worn(&book), fence);
     let salvaged = match kind {
         BookKind::Plain => 0,
-        BookKind::Folded | BookKind::Columns | BookKind::Thin => 13,
+        BookKind::Folded | BookKind::Columns => 13,
     };
     for card in [&book, &worn(&book)] {
         assert_eq!(salvage(card, fence).code, salvaged);

@@ -78,6 +78,6 @@ fn open_full(book: &[u8]) -> Option<(Rule, Vec<Vec<u8>>)> {
     let (kind, _, names) = open(book)?;
     match kind {
         BookKind::Plain | BookKind::Folded => Some((kind.rule(), names)),
-        BookKind::Columns | BookKind::Thin => None,
+        BookKind::Columns => None,
     }
 }

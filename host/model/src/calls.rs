@@ -137,12 +137,6 @@ pub fn book_build_folded(list: &[u8], block: usize, room: &mut [u8]) -> Answer {
     build_kind(BookKind::Folded, list, block, room)
 }
 
-/// Builds a thin book. Refusals as for a plain one, in the same order; 9 goes by the
-/// thin book's own length, so a list may have a thin book and no plain one.
-pub fn book_build_thin(list: &[u8], block: usize, room: &mut [u8]) -> Answer {
-    build_kind(BookKind::Thin, list, block, room)
-}
-
 /// Builds a book of this kind. No call builds a column book so; it is what
 /// conversion is held to.
 pub fn build_kind(kind: BookKind, list: &[u8], block: usize, room: &mut [u8]) -> Answer {
@@ -209,18 +203,15 @@ pub fn book_width(book: &[u8], question: &[u8]) -> Counted {
 
 /// A single question. Refusals: 2, then those of `ask_names`. An accepted one of any
 /// kind tells how far it looked; to open the book is no part of that. A refused one
-/// has looked at nothing. The counts stay with the books that have a node table: to
-/// a thin book both are 0.
+/// has looked at nothing.
 fn ask_book(book: &[u8], kind: Kind, question: &[u8]) -> Counted {
     let Some((book_kind, block, names)) = open(book) else {
         return Counted::of(refused(NO_BOOK), Look::default());
     };
     let rule = book_kind.rule();
     let answer = ask_names(rule, &names, kind, question);
-    let looked = match (answer.code, book_kind) {
-        (0, BookKind::Plain | BookKind::Folded | BookKind::Columns) => {
-            look(rule, block, &names, question)
-        }
+    let looked = match answer.code {
+        0 => look(rule, block, &names, question),
         _ => Look::default(),
     };
     Counted::of(answer, looked)

@@ -1,14 +1,13 @@
 //! The kinds of book.
 //!
-//! Renders what document 02, change requests 7, 10 and 11, adds to document 01: a
-//! second kind, with a mark and a symbol rule of its own, a third, with a mark of its
-//! own and its node table in another order, and a fourth, with a mark of its own and
-//! no node table. A kind is named when a book is made; afterwards the mark tells it,
-//! and nobody says it again.
+//! Renders what document 02, change requests 7 and 10, adds to document 01: a second
+//! kind, with a mark and a symbol rule of its own, and a third, with a mark of its
+//! own and its node table in another order. A kind is named when a book is made;
+//! afterwards the mark tells it, and nobody says it again.
 
 use crate::names::Rule;
 
-/// The four kinds of book.
+/// The three kinds of book.
 #[derive(Clone, Copy, Debug, PartialEq, Eq)]
 pub enum BookKind {
     /// Document 01's: each byte has a symbol of its own.
@@ -17,20 +16,14 @@ pub enum BookKind {
     Folded,
     /// Document 02's: the plain book with its node table as columns.
     Columns,
-    /// Document 02's: the plain book without a node table.
-    Thin,
 }
 
 impl BookKind {
     /// Every kind.
-    pub const ALL: [BookKind; 4] = [
-        BookKind::Plain,
-        BookKind::Folded,
-        BookKind::Columns,
-        BookKind::Thin,
-    ];
+    pub const ALL: [BookKind; 3] = [BookKind::Plain, BookKind::Folded, BookKind::Columns];
 
-    /// The kinds of full book of either rule: those that the announcer serves.
+    /// The kinds of full book: those that a call builds from a list, and that the
+    /// announcer serves.
     pub const FULL: [BookKind; 2] = [BookKind::Plain, BookKind::Folded];
 
     /// The last four bytes of every book of this kind.
@@ -39,14 +32,13 @@ impl BookKind {
             BookKind::Plain => [0x4E, 0x42, 0x4B, 0x32],
             BookKind::Folded => [0x4E, 0x42, 0x46, 0x32],
             BookKind::Columns => [0x4E, 0x42, 0x43, 0x32],
-            BookKind::Thin => [0x4E, 0x42, 0x50, 0x31],
         }
     }
 
     /// How names and questions become symbols in a book of this kind.
     pub fn rule(self) -> Rule {
         match self {
-            BookKind::Plain | BookKind::Columns | BookKind::Thin => Rule::Plain,
+            BookKind::Plain | BookKind::Columns => Rule::Plain,
             BookKind::Folded => Rule::Folded,
         }
     }

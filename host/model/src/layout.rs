@@ -2,17 +2,17 @@
 //!
 //! Renders document 01, "Layout of a book": entries, block table, node table,
 //! trailer, one behind the other without gaps. The size of a node is that of
-//! document 02, change request 1; the kinds of book are those of change requests 7,
-//! 10 and 11. A kind has a say in whether there are nodes, in the nodes, which go by
-//! symbols, in the order of their numbers, and in the mark. The entries go by bytes
-//! whatever the kind, so that spelling comes back unchanged.
+//! document 02, change request 1; the kinds of book are those of change requests 7
+//! and 10. A kind has a say in the nodes, which go by symbols, in the order of their
+//! numbers, and in the mark. The entries go by bytes whatever the kind, so that
+//! spelling comes back unchanged.
 //!
 //! No limit is applied here. A number that does not fit its one or two bytes
 //! is cut to the low ones; for a list and block size that a build accepts, and
 //! a book of at most 65,535 bytes, that never happens.
 
 use crate::kinds::BookKind;
-use crate::names::{leading_equal, low_byte};
+use crate::names::{leading_equal, low_byte, Rule};
 use crate::tree::{tree, Node};
 
 /// The longest book.
@@ -85,8 +85,7 @@ pub fn block_table(block: usize, names: &[Vec<u8>]) -> Vec<u8> {
 }
 
 /// Part 3: the six numbers of every node of the tree, two bytes each; none without
-/// names. They stand node by node, or column by column; in a thin book nothing
-/// stands here.
+/// names. They stand node by node, or column by column.
 pub fn node_table(kind: BookKind, names: &[Vec<u8>]) -> Vec<u8> {
     let mut nodes = Vec::new();
     if let Some(root) = tree(kind.rule(), names) {
@@ -95,7 +94,6 @@ pub fn node_table(kind: BookKind, names: &[Vec<u8>]) -> Vec<u8> {
     match kind {
         BookKind::Plain | BookKind::Folded => record_by_record(&nodes),
         BookKind::Columns => column_by_column(&nodes),
-        BookKind::Thin => Vec::new(),
     }
 }
 
@@ -140,19 +138,12 @@ fn column_by_column(nodes: &[Record]) -> Vec<u8> {
     bytes
 }
 
-/// How many nodes the book of this kind of these names has: the trailer's number m.
-/// A thin book has none.
-pub fn node_count(kind: BookKind, names: &[Vec<u8>]) -> usize {
-    match kind {
-        BookKind::Plain | BookKind::Folded | BookKind::Columns => {
-            tree(kind.rule(), names).map_or(0, |root| root.nodes)
-        }
-        BookKind::Thin => 0,
-    }
+/// How many nodes the book of these names has: the trailer's number m.
+pub fn node_count(rule: Rule, names: &[Vec<u8>]) -> usize {
+    tree(rule, names).map_or(0, |root| root.nodes)
 }
 
-/// Part 4: six numbers and the mark. The node table starts where the block table
-/// ends; without nodes the trailer begins there.
+/// Part 4: six numbers and the mark.
 fn trailer(
     kind: BookKind,
     block: usize,
@@ -160,7 +151,7 @@ fn trailer(
     entries_length: usize,
     block_table_length: usize,
 ) -> Vec<u8> {
-    let nodes = node_count(kind, names);
+    let nodes = node_count(kind.rule(), names);
     let block_table_start = entries_length;
     let node_table_start = block_table_start + block_table_length;
     let book_length = node_table_start + NODE_LENGTH * nodes + TRAILER_LENGTH;

@@ -2,9 +2,9 @@
 //!
 //! Everything that document 01 asks for, with what document 02's change requests
 //! 1 (width), 2 (merging), 3 (nearest's number), 5 (worn cards), 7 (folded books), 8
-//! (how far it looked), 9 (the announcer), 10 (columns) and 11 (thin books) add to it
-//! or change of it, done over a plain sorted list of byte strings. Nothing here is
-//! fast and nothing is meant to be.
+//! (how far it looked), 9 (the announcer) and 10 (columns) add to it or change of it,
+//! done over a plain sorted list of byte strings. Nothing here is fast and nothing is
+//! meant to be.
 //! A reader with the documents in the other hand should be able to believe each
 //! function at sight, because test vectors for the proved library come from this
 //! crate. It shares no line with that library.
@@ -48,8 +48,8 @@ pub mod tree;
 
 pub use announcer::{announce_clip, announce_route};
 pub use calls::{
-    book_batch, book_build, book_build_folded, book_build_thin, book_check, book_exact,
-    book_nearest, book_place, book_range, book_read, book_width, build_kind, Answer, Counted, Row,
+    book_batch, book_build, book_build_folded, book_check, book_exact, book_nearest, book_place,
+    book_range, book_read, book_width, build_kind, Answer, Counted, Row,
 };
 pub use converting::{book_from_columns, book_to_columns};
 pub use kinds::BookKind;

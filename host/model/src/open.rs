@@ -1,7 +1,7 @@
 //! Which runs of bytes are a book.
 //!
 //! Renders demand 3, to which refusal 2 of document 01 points, as document 02,
-//! change requests 7, 10 and 11, reads it: bytes are a book exactly when the layout yields
+//! change requests 7 and 10, reads it: bytes are a book exactly when the layout yields
 //! them for some kind, some list that is sound for that kind and some block size from
 //! 1 to 64, within 65,535 bytes.
 //!

@@ -22,7 +22,7 @@ pub fn listing(book: &[u8]) -> Vec<u8> {
         return format!("refused {NO_BOOK}\n").into_bytes();
     };
     let count = names.len();
-    let nodes = node_count(kind, &names);
+    let nodes = node_count(kind.rule(), &names);
     let length = book.len();
     let mut text = format!("names {count} block {block} nodes {nodes} bytes {length}\n");
     for position in 0..count {

@@ -5,10 +5,7 @@
 //! and width go through all names. Only nearest needs the tree, because document 01
 //! says by the tree which of several equally near names it gives; and how far a
 //! question of any kind looks is counted on nearest's way down in it. All of them go
-//! by symbols, so each takes the rule of the names' book (change request 7). None of
-//! them looks at a book's node table, so a thin book, which has none, answers as the
-//! full one does, and nearest's position is still that of the tree of the names
-//! (change request 11).
+//! by symbols, so each takes the rule of the names' book (change request 7).
 
 use crate::names::{begins_with, is_less, is_same, shared_symbols, symbols, Rule};
 use crate::tree::{tree, Node};

@@ -35,7 +35,7 @@ struct Codes {
 /// Bytes as a book of this kind compares them.
 fn compared(kind: BookKind, bytes: &[u8]) -> Vec<u8> {
     match kind {
-        BookKind::Plain | BookKind::Columns | BookKind::Thin => bytes.to_vec(),
+        BookKind::Plain | BookKind::Columns => bytes.to_vec(),
         BookKind::Folded => bytes.to_ascii_lowercase(),
     }
 }
@@ -179,9 +179,7 @@ fn every_route(positions: &[usize], longest: usize) -> Vec<Vec<usize>> {
 /// Six names for each kind of book. Those for a folded one do not rise as bytes.
 fn candidates(kind: BookKind) -> Vec<Vec<u8>> {
     match kind {
-        BookKind::Plain | BookKind::Columns | BookKind::Thin => {
-            names(&["A", "Aa", "a", "aa", "ab", "b"])
-        }
+        BookKind::Plain | BookKind::Columns => names(&["A", "Aa", "a", "aa", "ab", "b"]),
         BookKind::Folded => names(&["a", "AA", "Ab", "b", "BA", "bB"]),
     }
 }

@@ -1,7 +1,7 @@
 //! Demand 2, tried out: many small random lists, every short question, and
 //! each answer compared with a direct look at the list.
 //!
-//! The comparisons, in `common/direct.rs`, use nothing of the model. They take the
+//! The comparisons here use nothing of the model but its calls. They take the
 //! usual order of byte vectors in place of symbols, and groups of names that
 //! shrink in place of a tree. A folded book is looked at in small letters: names
 //! and question are both put into these, and then it is the plain look.
@@ -9,15 +9,13 @@
 mod common;
 
 use common::answers::{book_exact, book_nearest, book_place, book_range, book_width};
-use common::direct::{
-    direct_answers, direct_exact, direct_nearest, direct_place, direct_range, direct_width,
-};
 use common::{
-    all_strings, ask_all, built, built_as, marked_as, no_record, shared, whole_letters, yes,
-    Random, FILLING,
+    all_strings, built, built_as, marked_as, no_record, shared, whole_letters, yes, Random,
+    FILLING, UNSET,
 };
 use model::{
-    book_build_folded, book_check, book_read, build_kind, open, read_list, write_list, BookKind,
+    book_batch, book_build_folded, book_check, book_read, build_kind, open, read_list, write_list,
+    Answer, BookKind, Row,
 };
 use std::collections::BTreeMap;
 
@@ -30,7 +28,7 @@ const CASES: [u8; 8] = *b"aAbB@[`{";
 /// Bytes as a book of this kind looks at them.
 fn looked_at(kind: BookKind, bytes: &[u8]) -> Vec<u8> {
     match kind {
-        BookKind::Plain | BookKind::Columns | BookKind::Thin => bytes.to_vec(),
+        BookKind::Plain | BookKind::Columns => bytes.to_vec(),
         BookKind::Folded => bytes.to_ascii_lowercase(),
     }
 }
@@ -58,6 +56,102 @@ fn random_list(
     let wanted = random.below(most + 1);
     let names = (0..wanted).map(|_| random.string(bytes, 1, longest));
     in_order(kind, names)
+}
+
+fn direct_exact(names: &[Vec<u8>], question: &[u8]) -> Answer {
+    match names.binary_search_by(|name| name.as_slice().cmp(question)) {
+        Ok(position) => yes(position, 1),
+        Err(_) => yes(0, 0),
+    }
+}
+
+fn direct_place(names: &[Vec<u8>], question: &[u8]) -> Answer {
+    let less = names.iter().filter(|name| name.as_slice() < question);
+    yes(less.count(), 0)
+}
+
+fn direct_range(names: &[Vec<u8>], question: &[u8]) -> Answer {
+    let begins = |name: &&Vec<u8>| name.get(..question.len()) == Some(question);
+    let beginning = names.iter().filter(begins).count();
+    yes(direct_place(names, question).first, beginning)
+}
+
+/// The names of the range stand together, from the question's place on.
+fn direct_width(names: &[Vec<u8>], question: &[u8]) -> Answer {
+    let range = direct_range(names, question);
+    let lengths = names[range.first..][..range.second].iter().map(Vec::len);
+    yes(lengths.max().unwrap_or(0), 0)
+}
+
+/// The symbol with this number; only asked for numbers up to the length.
+fn symbol(bytes: &[u8], number: usize) -> usize {
+    bytes.get(number).map_or(0, |&byte| usize::from(byte) + 1)
+}
+
+/// Document 01's descent without a tree: the group of names shrinks to those
+/// with the question's symbol behind what the group shares.
+fn direct_nearest(names: &[Vec<u8>], question: &[u8]) -> Answer {
+    if names.is_empty() {
+        return Answer {
+            code: 10,
+            ..Answer::default()
+        };
+    }
+    let mut group: Vec<usize> = (0..names.len()).collect();
+    while group.len() > 1 {
+        let depths = group.iter().map(|&at| shared(&names[group[0]], &names[at]));
+        let depth = depths.min().unwrap_or(0);
+        if depth > question.len() {
+            break;
+        }
+        let mut fitting = group.clone();
+        fitting.retain(|&at| symbol(&names[at], depth) == symbol(question, depth));
+        if fitting.is_empty() {
+            break;
+        }
+        group = fitting;
+    }
+    let shared = shared(&names[group[0]], question);
+    yes(group[0], whole_letters(question, shared))
+}
+
+/// The five expected answers, in the order of the kinds.
+fn direct_answers(names: &[Vec<u8>], question: &[u8]) -> [Answer; 5] {
+    [
+        direct_exact(names, question),
+        direct_place(names, question),
+        direct_range(names, question),
+        direct_nearest(names, question),
+        direct_width(names, question),
+    ]
+}
+
+/// Asks all kinds of all questions in batches of up to 60 rows.
+fn ask_all(book: &[u8], questions: &[Vec<u8>]) -> Vec<[Answer; 5]> {
+    let buffer = questions.concat();
+    let mut all = Vec::new();
+    let mut start = 0;
+    for some in questions.chunks(12) {
+        let mut rows = Vec::new();
+        for question in some {
+            let length = question.len();
+            rows.extend((1..=5).map(|kind| Row {
+                kind,
+                start,
+                length,
+            }));
+            start += length;
+        }
+        let mut answers = vec![UNSET; rows.len()];
+        let answer = book_batch(book, &buffer, &rows, &mut answers);
+        assert_eq!(answer, yes(rows.len(), 0));
+        all.extend(
+            answers
+                .chunks(5)
+                .map(|five| [five[0], five[1], five[2], five[3], five[4]]),
+        );
+    }
+    all
 }
 
 /// Check, reading back and the list of records all give the same names again,

@@ -10,14 +10,14 @@
 
 mod common;
 
-use common::{all_strings, built_as, names, Random, COUNTED, QUESTIONS};
+use common::{all_strings, built_as, names, Random, QUESTIONS};
 use model::{BookKind, Counted};
 use std::collections::BTreeSet;
 
 /// The symbols of a name or a question in a book of this kind, with the end.
 fn symbols(kind: BookKind, bytes: &[u8]) -> Vec<u16> {
     let bytes = match kind {
-        BookKind::Plain | BookKind::Columns | BookKind::Thin => bytes.to_vec(),
+        BookKind::Plain | BookKind::Columns => bytes.to_vec(),
         BookKind::Folded => bytes.to_ascii_lowercase(),
     };
     let own = bytes.iter().map(|&byte| u16::from(byte) + 1);
@@ -239,7 +239,7 @@ fn random_lists_of_both_kinds_and_every_short_question() {
     for seed in 80_000..80_300 {
         let mut random = Random::from_seed(seed);
         let block = 1 + random.below(7);
-        for kind in COUNTED {
+        for kind in BookKind::ALL {
             let list = random_list(kind, &mut random, 9, letters, 4);
             try_list(kind, &list, block, &questions, &mut met);
         }
@@ -250,7 +250,7 @@ fn random_lists_of_both_kinds_and_every_short_question() {
 #[test]
 fn deep_trees_of_two_bytes_and_questions_near_their_names() {
     let mut met = [0; 2];
-    for (seed, kind) in (90_000..90_200).zip(COUNTED.into_iter().cycle()) {
+    for (seed, kind) in (90_000..90_200).zip(BookKind::ALL.into_iter().cycle()) {
         let mut random = Random::from_seed(seed);
         let list = random_list(kind, &mut random, 24, b"aB", 9);
         let mut questions = vec![vec![], b"c".to_vec()];
@@ -270,7 +270,7 @@ fn deep_trees_of_two_bytes_and_questions_near_their_names() {
 
 #[test]
 fn longer_lists_of_longer_names() {
-    for (seed, kind) in (95_000..95_008).zip(COUNTED.into_iter().cycle()) {
+    for (seed, kind) in (95_000..95_008).zip(BookKind::ALL.into_iter().cycle()) {
         let mut random = Random::from_seed(seed);
         let list = random_list(kind, &mut random, 60, b"\0aA\xFF", 60);
         let mut questions = vec![vec![], vec![255; 200]];

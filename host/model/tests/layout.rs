@@ -279,15 +279,15 @@ fn the_deepest_chain_has_every_depth_from_0_to_201() {
 
 #[test]
 fn m_reaches_2n_minus_1_where_every_inner_node_has_two_children() {
-    assert_eq!(node_count(BookKind::Plain, &deepest_list()), 2 * 201 - 1);
-    assert_eq!(node_count(BookKind::Plain, &names(&["Mar"])), 1);
-    assert_eq!(node_count(BookKind::Plain, &names(&["Bar", "Mar"])), 3);
+    assert_eq!(node_count(Rule::Plain, &deepest_list()), 2 * 201 - 1);
+    assert_eq!(node_count(Rule::Plain, &names(&["Mar"])), 1);
+    assert_eq!(node_count(Rule::Plain, &names(&["Bar", "Mar"])), 3);
 }
 
 #[test]
 fn m_is_n_plus_1_where_the_root_has_all_leaves() {
     let list: Vec<Vec<u8>> = (0..=255).map(|byte| vec![byte]).collect();
-    assert_eq!(node_count(BookKind::Plain, &list), 257);
+    assert_eq!(node_count(Rule::Plain, &list), 257);
 }
 
 // Trailer

@@ -5,7 +5,7 @@ mod common;
 
 use common::answers::{book_exact, book_nearest, book_place, book_range, book_width};
 use common::{built, mar_names, yes, BOOK_BY_2, BOOK_BY_4, EMPTY_BOOK, FILLING, MAR_LIST};
-use model::{book_build, book_check, book_of, book_read, listing, open, BookKind};
+use model::{book_build, book_check, book_of, book_read, listing, open, BookKind, Rule};
 
 // A book in full
 
@@ -46,7 +46,7 @@ fn the_parts_have_the_lengths_that_the_document_counts() {
         model::layout::node_table(BookKind::Plain, &mar_names()).len(),
         48
     );
-    assert_eq!(model::layout::node_count(BookKind::Plain, &mar_names()), 4);
+    assert_eq!(model::layout::node_count(Rule::Plain, &mar_names()), 4);
 }
 
 #[test]

@@ -37,10 +37,9 @@ pub struct Counted {
     pub first: usize,
     /// The second number of the answer.
     pub second: usize,
-    /// How many nodes were visited going down, root and last node counted; 0 in a
-    /// thin book.
+    /// How many nodes were visited going down, root and last node counted.
     pub visits: usize,
-    /// How many entries were read to rebuild the one name compared; 0 in a thin book.
+    /// How many entries were read to rebuild the one name compared.
     pub entries: usize,
 }
 
@@ -113,22 +112,6 @@ pub fn book_build_folded(list: &[u8], block: usize, room: &mut [u8]) -> Answer {
     // borrowed for this call alone, so it does not overlap the list.
     unsafe {
         raw::book_build_folded(
-            list.as_ptr(),
-            list.len(),
-            block,
-            room.as_mut_ptr(),
-            room.len(),
-        )
-    }
-}
-
-/// Builds a thin book, which has no node table: as [`book_build`], with refusal 9 by
-/// the thin book's own length.
-pub fn book_build_thin(list: &[u8], block: usize, room: &mut [u8]) -> Answer {
-    // SAFETY: each pointer comes with the length of its own slice. The room is
-    // borrowed for this call alone, so it does not overlap the list.
-    unsafe {
-        raw::book_build_thin(
             list.as_ptr(),
             list.len(),
             block,

@@ -30,14 +30,6 @@ extern "C" {
         room: *mut u8,
         room_len: usize,
     ) -> Answer;
-    /// Builds a thin book from list records.
-    pub fn book_build_thin(
-        list: *const u8,
-        list_len: usize,
-        block: usize,
-        room: *mut u8,
-        room_len: usize,
-    ) -> Answer;
     /// Checks a book of any kind.
     pub fn book_check(book: *const u8, book_len: usize) -> Answer;
     /// Reads a name back by its position.

@@ -1,5 +1,5 @@
-//! A name read back, and the five questions by descent, of a book that passed the
-//! check. Each question counts how far it looked.
+//! A name read back and the five questions, of a book that passed the check. Each
+//! question counts how far it looked.
 
 use crate::bytes::{byte, leading_letters, part, put, two};
 use crate::checking::Parts;
@@ -11,15 +11,15 @@ use core::mem::MaybeUninit;
 /// A book that passed the check of its kind.
 #[derive(Clone, Copy)]
 pub struct Sound<'lent, R> {
-    pub(crate) book: &'lent [u8],
-    pub(crate) parts: Parts,
+    book: &'lent [u8],
+    parts: Parts,
     rule: PhantomData<R>,
 }
 
 /// A name that was rebuilt, from so many entries.
-pub(crate) struct Name {
-    pub bytes: [u8; LONGEST_NAME],
-    pub length: usize,
+struct Name {
+    bytes: [u8; LONGEST_NAME],
+    length: usize,
     entries: usize,
 }
 
@@ -106,7 +106,7 @@ fn symbol_at<R: Rule>(name: &[u8], at: usize) -> usize {
 /// How many leading bytes of a question to light where it shares so many, at most
 /// all: back over the bytes that go on with a character, unless all are shared.
 #[inline(always)]
-pub(crate) fn lit(question: &[u8], shared: usize) -> usize {
+fn lit(question: &[u8], shared: usize) -> usize {
     let mut at = shared;
     // SAFETY: where it is read the place lies inside.
     while 0 < at && at < question.len() && unsafe { byte(question, at) } & 0xC0 == 0x80 {
@@ -152,7 +152,7 @@ impl<'lent, R: Rule> Sound<'lent, R> {
     ///
     /// There is one.
     #[inline(always)]
-    pub(crate) unsafe fn name(self, position: usize) -> Name {
+    unsafe fn name(self, position: usize) -> Name {
         let block = position / self.parts.block;
         let mut at = two(self.book, self.parts.blocks_at + 2 * block);
         let mut name = Name {

@@ -1,4 +1,4 @@
-//! A list judged, then the parts of its book: four, or three without nodes.
+//! A list judged, then the four parts of its book.
 
 use crate::bytes::{byte, part, put, put_two};
 use crate::calls::{refused, Answer};
@@ -145,7 +145,7 @@ impl<R: Rule> Noted<R> {
     pub fn sizes(&self, block: usize) -> Sizes {
         let mut open = [0u8; MOST_OPEN];
         let mut depth = 0;
-        let mut nodes = if R::TABLE { self.names } else { 0 };
+        let mut nodes = self.names;
         let mut entries = 0;
         let mut left = 0;
         for position in 0..self.names {
@@ -160,9 +160,6 @@ impl<R: Rule> Noted<R> {
                     entries -= self.count(position);
                 }
                 left -= 1;
-                if !R::TABLE {
-                    continue;
-                }
                 while depth > 0 && *open.get_unchecked(depth - 1) > shared {
                     depth -= 1;
                 }
@@ -188,9 +185,7 @@ impl<R: Rule> Noted<R> {
     /// This list was judged, these are the sizes, and the room is long enough.
     pub unsafe fn write(&self, list: &[u8], block: usize, sizes: Sizes, room: &mut [u8]) {
         self.write_entries(list, block, sizes, room);
-        if R::TABLE {
-            self.write_nodes(list, sizes, room);
-        }
+        self.write_nodes(list, sizes, room);
         let at = sizes.book() - TRAILER;
         let numbers = [
             self.names,

@@ -1,13 +1,12 @@
 //! The calls, each with its refusals in their order.
 
-use crate::asking::{Found, Sound};
+use crate::asking::Sound;
 use crate::building::{judge, Noted};
 use crate::checking::check;
 use crate::converting;
 use crate::merging::{self, Pair};
-use crate::rules::{Columns, Folded, Plain, Rule, Thin};
+use crate::rules::{Columns, Folded, Plain, Rule};
 use crate::salvaging::{self, Judged};
-use crate::sweeping;
 use crate::{LARGEST_BLOCK, LONGEST_BOOK, LONGEST_NAME, MOST_NAMES};
 
 /// What every call gives back but a single question, and what an answer row of a
@@ -137,11 +136,6 @@ pub fn book_build_folded(list: &[u8], block: usize, room: &mut [u8]) -> Answer {
     build::<Folded>(list, block, room)
 }
 
-/// Builds a thin book. Refusals as of a plain one, with 9 by its own length.
-pub fn book_build_thin(list: &[u8], block: usize, room: &mut [u8]) -> Answer {
-    build::<Thin>(list, block, room)
-}
-
 /// Builds a book of this kind.
 #[inline(always)]
 fn build<R: Rule>(list: &[u8], block: usize, room: &mut [u8]) -> Answer {
@@ -171,8 +165,6 @@ pub fn book_check(book: &[u8]) -> Answer {
         check::<Folded>(book)
     } else if Columns::marks(book) {
         check::<Columns>(book)
-    } else if Thin::marks(book) {
-        check::<Thin>(book)
     } else {
         check::<Plain>(book)
     };
@@ -211,7 +203,6 @@ enum Book<'lent> {
     Plain(Sound<'lent, Plain>),
     Folded(Sound<'lent, Folded>),
     Columns(Sound<'lent, Columns>),
-    Thin(Sound<'lent, Thin>),
 }
 
 /// The book, if it is one; its mark says of which kind.
@@ -220,8 +211,6 @@ fn sound(book: &[u8]) -> Option<Book<'_>> {
         sound_as(book).map(Book::Folded)
     } else if Columns::marks(book) {
         sound_as(book).map(Book::Columns)
-    } else if Thin::marks(book) {
-        sound_as(book).map(Book::Thin)
     } else {
         sound_as(book).map(Book::Plain)
     }
@@ -242,7 +231,6 @@ impl Book<'_> {
             Book::Plain(sound) => ask(sound, kind, question),
             Book::Folded(sound) => ask(sound, kind, question),
             Book::Columns(sound) => ask(sound, kind, question),
-            Book::Thin(sound) => answered(question, || sweeping::ask(sound, kind, question)),
         }
     }
 
@@ -252,7 +240,6 @@ impl Book<'_> {
             Book::Plain(sound) => sound.names(),
             Book::Folded(sound) => sound.names(),
             Book::Columns(sound) => sound.names(),
-            Book::Thin(sound) => sound.names(),
         }
     }
 
@@ -263,7 +250,6 @@ impl Book<'_> {
             Book::Plain(sound) => read(sound, position, room),
             Book::Folded(sound) => read(sound, position, room),
             Book::Columns(sound) => read(sound, position, room),
-            Book::Thin(sound) => read(sound, position, room),
         }
     }
 }
@@ -324,24 +310,19 @@ fn ask_book(book: &[u8], kind: usize, question: &[u8]) -> Counted {
     }
 }
 
-/// A question to a book that was checked, by descent. Refusals: 1, 10.
+/// A question to a book that was checked. Refusals: 1, 10.
 fn ask<R: Rule>(sound: Sound<R>, kind: usize, question: &[u8]) -> Counted {
-    answered(question, || match kind {
+    if question.len() > LONGEST_NAME {
+        return unlooked(1);
+    }
+    let found = match kind {
         1 => Some(sound.exact(question)),
         2 => Some(sound.place(question)),
         3 => Some(sound.range(question)),
         4 => sound.nearest(question),
         _ => Some(sound.width(question)),
-    })
-}
-
-/// A question whose answer is found so. Refusals: 1, 10.
-#[inline(always)]
-fn answered(question: &[u8], find: impl FnOnce() -> Option<Found>) -> Counted {
-    if question.len() > LONGEST_NAME {
-        return unlooked(1);
-    }
-    match find() {
+    };
+    match found {
         None => unlooked(10),
         Some(found) => Counted {
             code: 0,
@@ -441,17 +422,11 @@ pub fn list_head(first: &[u8], second: &[u8], passed_first: usize, passed_second
     }
 }
 
-/// Whether the announcer takes books with this mark.
-#[inline(always)]
-fn is_spoken(book: &[u8]) -> bool {
-    !Columns::marks(book) && !Thin::marks(book)
-}
-
 /// The clip for a text: (1, clip) of the name that equals it, or else of the only one
 /// that begins with it; (0, how many names begin with it) where there is neither.
 /// Refusals: 2, 16, 1.
 pub fn announce_clip(book: &[u8], clips: &[u16], text: &[u8]) -> Answer {
-    if !is_spoken(book) {
+    if Columns::marks(book) {
         return refused(2, 0);
     }
     let Some(book) = sound(book) else {
@@ -479,7 +454,7 @@ pub fn announce_clip(book: &[u8], clips: &[u16], text: &[u8]) -> Answer {
 /// place of the first bad position; 4.
 pub fn announce_route(book: &[u8], clips: &[u16], positions: &[usize], room: &mut [u16]) -> Answer {
     let checked = book_check(book);
-    if checked.code != 0 || !is_spoken(book) {
+    if checked.code != 0 || Columns::marks(book) {
         return refused(2, 0);
     }
     if clips.len() != checked.first {

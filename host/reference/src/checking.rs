@@ -1,5 +1,5 @@
-//! Whether bytes are a book: the trailer, a walk over the entries, and, where there
-//! are nodes, a walk over them with a stack of its own.
+//! Whether bytes are a book: the trailer, a walk over the entries, and a walk
+//! over the nodes with a stack of its own.
 //!
 //! This is the one place where bytes come from nobody knows where, so every
 //! offset is compared before it is used.
@@ -27,18 +27,11 @@ pub struct Parts {
 /// The parts of a book of this kind; nothing where the bytes are none.
 pub fn check<R: Rule>(book: &[u8]) -> Option<Parts> {
     let parts = trailer::<R>(book)?;
-    if !R::TABLE {
-        // SAFETY: the trailer's numbers agree with the length.
-        unsafe { entries_stand::<R>(book, parts, |_, _| {})? };
-        return Some(parts);
-    }
     let mut shares = [0; MOST_NAMES];
     // SAFETY: the trailer's numbers agree with the length, and there are as
     // many places as names.
     unsafe {
-        entries_stand::<R>(book, parts, |position, shared| {
-            *shares.get_unchecked_mut(position) = shared as u8;
-        })?;
+        entries_stand::<R>(book, parts, &mut shares)?;
         nodes_stand::<R>(book, parts, &shares)?;
     }
     Some(parts)
@@ -67,8 +60,7 @@ pub(crate) fn numbers<R: Rule>(book: &[u8]) -> Option<Parts> {
         nodes: number(4),
     };
     let limits = parts.names <= MOST_NAMES && (1..=LARGEST_BLOCK).contains(&parts.block);
-    let nodes_fit = R::TABLE || parts.nodes == 0;
-    if !limits || !nodes_fit || number(5) != book.len() || !R::marks(book) {
+    if !limits || number(5) != book.len() || !R::marks(book) {
         return None;
     }
     let blocks = parts.names.div_ceil(parts.block);
@@ -148,8 +140,8 @@ impl<'book> Entry<'book> {
     }
 }
 
-/// Whether the entries and the block table are right. Notes of each position how many
-/// letters its name shares with the one before.
+/// Whether the entries and the block table are right. Notes how many letters each
+/// name shares with the one before.
 ///
 /// # Safety
 ///
@@ -157,7 +149,7 @@ impl<'book> Entry<'book> {
 unsafe fn entries_stand<R: Rule>(
     book: &[u8],
     parts: Parts,
-    mut note: impl FnMut(usize, usize),
+    shares: &mut [u8; MOST_NAMES],
 ) -> Option<()> {
     let mut name = [0; LONGEST_NAME];
     let mut length = 0;
@@ -178,7 +170,7 @@ unsafe fn entries_stand<R: Rule>(
             entry.share_of_other::<R>(before)?
         };
         left -= 1;
-        note(position, shared);
+        *shares.get_unchecked_mut(position) = shared as u8;
         put(&mut name, entry.stored, entry.rest);
         length = entry.length();
         at += 2 + entry.rest.len();

@@ -36,21 +36,6 @@ unsafe extern "C" fn book_build_folded(
 }
 
 #[no_mangle]
-unsafe extern "C" fn book_build_thin(
-    list: *const u8,
-    length: usize,
-    block: usize,
-    room: *mut u8,
-    space: usize,
-) -> Answer {
-    crate::book_build_thin(
-        from_raw_parts(list, length),
-        block,
-        from_raw_parts_mut(room, space),
-    )
-}
-
-#[no_mangle]
 unsafe extern "C" fn book_to_columns(
     book: *const u8,
     length: usize,

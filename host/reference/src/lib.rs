@@ -2,11 +2,10 @@
 //!
 //! **For measuring alone: not proved, and not for use.** It does what a good
 //! programmer does who trusts the own reasoning: no heap, no index test, one
-//! walk over the entries and one over the nodes, every question by descent, and of
-//! a book without nodes by one walk over the entries. A slip here reads or writes
-//! memory that is not its own, and no compiler says so; that is what the proved
-//! library is for. It is held to the second program by a test, and nothing in the
-//! repository answers by it.
+//! walk over the entries and one over the nodes, every question by descent. A
+//! slip here reads or writes memory that is not its own, and no compiler says
+//! so; that is what the proved library is for. It is held to the second
+//! program by a test, and nothing in the repository answers by it.
 //!
 //! Where to look:
 //!
@@ -14,14 +13,13 @@
 //! |---|---|
 //! | [`calls`] | the calls, each with its refusals in their order |
 //! | [`records`] | list records, judged one by one |
-//! | [`building`] | a list judged, then the parts of its book |
+//! | [`building`] | a list judged, then the four parts of its book |
 //! | [`checking`] | whether bytes are a book |
-//! | [`asking`] | a name read back, and the five questions by descent, of a book that passed |
-//! | [`sweeping`] | the five questions of a thin book, by one walk over its entries |
+//! | [`asking`] | a name read back and the five questions, of a book that passed |
 //! | [`salvaging`] | the blocks of a damaged book, judged alone and written |
 //! | [`merging`] | two lists judged, then gone through side by side |
 //! | [`converting`] | a plain book's nodes as columns, and back |
-//! | [`rules`] | the four kinds of book: their marks, letters and nodes |
+//! | [`rules`] | the three kinds of book: their marks, letters and nodes |
 //! | [`bytes`] | bytes and numbers at an offset, without a test |
 
 #![no_std]
@@ -39,13 +37,12 @@ pub mod merging;
 pub mod records;
 pub mod rules;
 pub mod salvaging;
-pub mod sweeping;
 
 pub use calls::{
-    announce_clip, announce_route, book_batch, book_build, book_build_folded, book_build_thin,
-    book_check, book_exact, book_from_columns, book_nearest, book_place, book_range, book_read,
-    book_salvage, book_to_columns, book_width, list_head, list_judge, list_merge, Answer, Counted,
-    Head, Kept, Row,
+    announce_clip, announce_route, book_batch, book_build, book_build_folded, book_check,
+    book_exact, book_from_columns, book_nearest, book_place, book_range, book_read, book_salvage,
+    book_to_columns, book_width, list_head, list_judge, list_merge, Answer, Counted, Head, Kept,
+    Row,
 };
 
 /// A name has 1 to 200 bytes, a question up to 200.

@@ -1,6 +1,6 @@
-//! The four kinds of book, as types: which mark a book ends in, which bytes are the
-//! same letter, whether there are nodes, and where their numbers stand. The code is
-//! compiled once for each, so a plain book pays nothing for the others.
+//! The three kinds of book, as types: which mark a book ends in, which bytes are the
+//! same letter, and where the numbers of a node stand. The code is compiled once for
+//! each, so a plain book pays nothing for the others.
 
 use crate::NODE;
 
@@ -11,9 +11,6 @@ pub trait Rule: Copy {
 
     /// Whether several bytes can be one letter.
     const FOLDS: bool;
-
-    /// Whether there is a node table.
-    const TABLE: bool = true;
 
     /// How many bytes lie between a node and the next.
     const STRIDE: usize = NODE;
@@ -53,10 +50,6 @@ pub struct Columns;
 #[derive(Clone, Copy)]
 pub struct Folded;
 
-/// As plain, without a node table.
-#[derive(Clone, Copy)]
-pub struct Thin;
-
 impl Rule for Plain {
     const MARK: [u8; 4] = *b"NBK2";
     const FOLDS: bool = false;
@@ -91,16 +84,5 @@ impl Rule for Folded {
     fn letter(byte: usize) -> usize {
         // What is not 65 to 90 wraps past 25 or stays above it.
         byte + 32 * usize::from(byte.wrapping_sub(65) < 26)
-    }
-}
-
-impl Rule for Thin {
-    const MARK: [u8; 4] = *b"NBP1";
-    const FOLDS: bool = false;
-    const TABLE: bool = false;
-
-    #[inline(always)]
-    fn letter(byte: usize) -> usize {
-        byte
     }
 }

@@ -53,16 +53,12 @@ fn any_names(random: &mut Random, kind: BookKind) -> Names {
     }
 }
 
-/// The kinds that are built from a list.
-const BUILT: [BookKind; 3] = [BookKind::Plain, BookKind::Folded, BookKind::Thin];
-
 /// The two builds of this kind.
 type Build<Answer> = fn(&[u8], usize, &mut [u8]) -> Answer;
 fn builds(kind: BookKind) -> (Build<reference::Answer>, Build<model::Answer>) {
     match kind {
         BookKind::Plain | BookKind::Columns => (reference::book_build, model::book_build),
         BookKind::Folded => (reference::book_build_folded, model::book_build_folded),
-        BookKind::Thin => (reference::book_build_thin, model::book_build_thin),
     }
 }
 
@@ -140,7 +136,7 @@ fn same_questions(book: &[u8], question: &[u8]) {
 fn builds_the_same_books() {
     let mut random = Random::from_seed(1);
     for _ in 0..1200 {
-        let kind = *random.one_of(&BUILT);
+        let kind = *random.one_of(&BookKind::FULL);
         let mut names = any_names(&mut random, kind);
         let block = random.below(67);
         if random.once_in(4) {
@@ -170,12 +166,10 @@ fn builds_the_largest_books() {
         lists::long(320),
         lists::with_book_length(BookKind::Plain, &lists::binary(1800), 16, 65_535),
         lists::with_book_length(BookKind::Plain, &lists::binary(1800), 16, 65_536),
-        lists::with_book_length(BookKind::Thin, &lists::binary(400), 16, 65_535),
-        lists::with_book_length(BookKind::Thin, &lists::binary(400), 16, 65_536),
     ];
     for (names, kind) in lists
         .iter()
-        .flat_map(|names| BUILT.map(|kind| (names, kind)))
+        .flat_map(|names| BookKind::FULL.map(|kind| (names, kind)))
     {
         let list = model::write_list(&lists::sorted_for(kind, names.clone()));
         let (mut one, mut other) = (vec![7; 65_536], vec![7; 65_536]);
@@ -220,8 +214,6 @@ fn refuses_every_change_that_the_second_program_refuses() {
         (BookKind::Plain, 16, lists::stops()),
         (BookKind::Columns, 2, lists::example()),
         (BookKind::Columns, 16, lists::stops()),
-        (BookKind::Thin, 2, lists::example()),
-        (BookKind::Thin, 16, lists::stops()),
         (BookKind::Folded, 16, by_turns),
     ] {
         let pieces = Pieces::of(kind, block, &names);
@@ -255,7 +247,7 @@ fn refuses_every_change_that_the_second_program_refuses() {
 fn refuses_every_hostile_table() {
     for kind in hostile::kinds() {
         for book in [kind.with_names(hostile::DEEPER_THAN_ANY), kind.largest()] {
-            for as_kind in [BookKind::Plain, BookKind::Columns, BookKind::Thin] {
+            for as_kind in [BookKind::Plain, BookKind::Columns] {
                 let bytes = book.clone().in_kind(as_kind).bytes();
                 let one = ours(reference::book_check(&bytes));
                 assert_eq!(one, theirs(model::book_check(&bytes)), "{}", kind.how);
@@ -271,7 +263,6 @@ fn answers_all_around_every_name() {
         (BookKind::Plain, 2, lists::example()),
         (BookKind::Plain, 7, lists::stops()),
         (BookKind::Columns, 7, lists::stops()),
-        (BookKind::Thin, 7, lists::stops()),
         (BookKind::Folded, 7, by_turns),
     ] {
         let book = book_of(kind, block, &names);
@@ -296,9 +287,6 @@ fn looks_as_far_down_the_deepest_trees_whatever_the_block_size() {
         (BookKind::Plain, &mirror, 64),
         (BookKind::Columns, &chain, 7),
         (BookKind::Columns, &mirror, 64),
-        (BookKind::Thin, &chain, 1),
-        (BookKind::Thin, &chain, 7),
-        (BookKind::Thin, &mirror, 64),
     ] {
         let book = book_of(kind, block, names);
         for length in [0, 1, 2, 63, 64, 65, 198, 199] {

@@ -127,15 +127,13 @@ fn salvages_hostile_books_alike() {
 }
 
 #[test]
-fn only_plain_cards_have_a_map() {
+fn folded_cards_have_no_map() {
     let mut random = Random::from_seed(5);
     for names in [Names::new(), lists::example(), any_names(&mut random)] {
-        for kind in [BookKind::Folded, BookKind::Columns, BookKind::Thin] {
-            let names = lists::sorted_for(kind, names.clone());
-            let card = book_of(kind, 2, &names);
-            hold(&card);
-            assert_eq!(book_salvage(&card, &mut [], &mut []).code, 13);
-        }
+        let names = lists::sorted_for(BookKind::Folded, names);
+        let card = book_of(BookKind::Folded, 2, &names);
+        hold(&card);
+        assert_eq!(book_salvage(&card, &mut [], &mut []).code, 13);
     }
 }
 

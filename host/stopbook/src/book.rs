@@ -73,19 +73,18 @@ impl Book {
     }
 
     /// The column book of a plain one, and the plain book of a column one. There is
-    /// none of a folded book or of a thin one.
+    /// none of a folded book.
     pub fn converted(&self) -> Result<Book, Failure> {
         let mut room = vec![0; self.bytes.len()];
         let source = self.source.clone();
         let converted = match self.kind {
             BookKind::Plain => mistrogu::to_columns(&self.bytes, &mut room),
             BookKind::Columns => mistrogu::from_columns(&self.bytes, &mut room),
-            kind @ (BookKind::Folded | BookKind::Thin) => {
-                let kind = kind.name();
+            BookKind::Folded => {
                 return Err(Failure::refused(format!(
-                    "{source} is a {kind} book, and only plain books and column books can be \
+                    "{source} is a folded book, and only plain books and column books can be \
                      converted; stopbook build makes a plain one from its names"
-                )));
+                )))
             }
         };
         converted.map_err(|refusal| Failure::refused(format!("{source}: {refusal}")))?;

@@ -7,7 +7,7 @@ use crate::files;
 use crate::names;
 use crate::outcome::{Failure, Outcome, Status, Streams};
 use crate::reading::{self, Text};
-use crate::size::{self, Fitting, Size};
+use crate::size::{self, Size};
 use crate::text::{counted, grouped};
 use crate::{help, Command};
 use mistrogu::{BookKind, Refusal, LARGEST_BLOCK, LONGEST_BOOK, MOST_NAMES};
@@ -19,7 +19,7 @@ pub const COMMAND: Command = Command {
     name: "build",
     shape: Shape {
         valued: &["-o", "--output", "--block"],
-        flags: &[FOLD, COLUMNS, THIN, reading::TRIM, reading::AS_IS, EMPTY],
+        flags: &[FOLD, COLUMNS, reading::TRIM, reading::AS_IS, EMPTY],
     },
     help: help::BUILD,
     run,
@@ -29,8 +29,6 @@ pub const COMMAND: Command = Command {
 const FOLD: &str = "--fold";
 /// The option for a column book.
 const COLUMNS: &str = "--columns";
-/// The option for a thin book.
-const THIN: &str = "--thin";
 
 /// The block size where none is given.
 const USUAL_BLOCK: usize = 16;
@@ -87,13 +85,12 @@ fn read_block(words: &Words) -> Result<usize, Failure> {
 
 /// The kind of book.
 fn read_kind(words: &Words) -> Result<BookKind, Failure> {
-    match [FOLD, COLUMNS, THIN].map(|option| words.has(option)) {
-        [false, false, false] => Ok(BookKind::Plain),
-        [true, false, false] => Ok(BookKind::Folded),
-        [false, true, false] => Ok(BookKind::Columns),
-        [false, false, true] => Ok(BookKind::Thin),
-        _ => Err(Failure::usage(
-            "give one of --fold, --columns and --thin: a book is of one kind",
+    match (words.has(FOLD), words.has(COLUMNS)) {
+        (false, false) => Ok(BookKind::Plain),
+        (true, false) => Ok(BookKind::Folded),
+        (false, true) => Ok(BookKind::Columns),
+        (true, true) => Err(Failure::usage(
+            "give --fold or --columns, not both: no folded book has columns",
         )),
     }
 }
@@ -118,7 +115,6 @@ fn build(kind: BookKind, names: &[Vec<u8>], block: usize, source: &str) -> Resul
     let built = match kind {
         BookKind::Plain | BookKind::Columns => mistrogu::build(&list, block, &mut room),
         BookKind::Folded => mistrogu::build_folded(&list, block, &mut room),
-        BookKind::Thin => mistrogu::build_thin(&list, block, &mut room),
     };
     let length = match built {
         Ok(length) => length,
@@ -126,7 +122,7 @@ fn build(kind: BookKind, names: &[Vec<u8>], block: usize, source: &str) -> Resul
             let text = match refused.refusal {
                 Refusal::BookTooLong => {
                     let size = size::size(kind, names, block);
-                    too_long(&size, block, &size::fitting(kind, names, block))
+                    too_long(&size, size::fitting_block(kind, names, block))
                 }
                 other => other.to_string(),
             };
@@ -137,24 +133,18 @@ fn build(kind: BookKind, names: &[Vec<u8>], block: usize, source: &str) -> Resul
     let book = Book::of(room, source.to_string())
         .map_err(|why| Failure::refused(format!("{source}: what was built is no book: {why}")))?;
     match kind {
-        BookKind::Plain | BookKind::Folded | BookKind::Thin => Ok(book),
+        BookKind::Plain | BookKind::Folded => Ok(book),
         BookKind::Columns => book.converted(),
     }
 }
 
-/// By how much a book with blocks of this size is too long, and what would help.
-fn too_long(size: &Size, block: usize, fitting: &Fitting) -> String {
+/// By how much a book is too long, and what would help.
+fn too_long(size: &Size, fitting: Option<usize>) -> String {
     let total = size.total();
     let over = total.saturating_sub(LONGEST_BOOK);
-    let thin = fitting.thin.map(|other| match other == block {
-        true => format!("a thin book fits with {THIN}"),
-        false => format!("a thin book fits with {THIN} --block {other}"),
-    });
-    let help = match (fitting.block, thin) {
-        (Some(block), None) => format!("it fits with --block {block}"),
-        (Some(block), Some(thin)) => format!("it fits with --block {block}; {thin}"),
-        (None, Some(thin)) => format!("no block size makes it fit; {thin}"),
-        (None, None) => "no block size makes it fit: take names out or make two books".to_string(),
+    let help = match fitting {
+        Some(block) => format!("it fits with --block {block}"),
+        None => "no block size makes it fit: take names out or make two books".to_string(),
     };
     let [total, most, over] = [total, LONGEST_BOOK, over].map(grouped);
     format!("the book would have {total} bytes, and {most} are the most: {over} too many; {help}")
@@ -179,16 +169,15 @@ fn full(names: usize, bytes: usize) -> String {
 
 /// The parts of a book.
 fn parts(book: &Book, size: &Size) -> String {
+    let (folded, columns) = match book.kind() {
+        BookKind::Plain => ("", ""),
+        BookKind::Folded => (", folded", ""),
+        BookKind::Columns => ("", ", in columns"),
+    };
     let block = counted(book.block(), "name");
     let nodes = counted(book.trailer().nodes, "node");
-    let (blocks, nodes) = match book.kind() {
-        BookKind::Plain => (block, nodes),
-        BookKind::Folded => (format!("{block}, folded"), nodes),
-        BookKind::Columns => (block, format!("{nodes}, in columns")),
-        BookKind::Thin => (block, "no node table".to_string()),
-    };
     let [entries, tables] = [size.entries, size.tables()].map(|part| counted(part, "byte"));
-    format!("blocks of {blocks}; {nodes}; entries {entries}, tables {tables}")
+    format!("blocks of {block}{folded}; {nodes}{columns}; entries {entries}, tables {tables}")
 }
 
 /// How the entries and the whole book compare with the plain list.
@@ -279,26 +268,9 @@ mod tests {
             blocks: 500,
             nodes: 1_000,
         };
-        let told = |block, thin| too_long(&size, 16, &Fitting { block, thin });
-        let text = told(Some(30), None);
+        let text = too_long(&size, Some(30));
         assert!(text.contains("66,516 bytes, and 65,535 are the most: 981 too many"));
-        assert!(text.ends_with("too many; it fits with --block 30"));
-        assert!(told(None, None).ends_with("makes it fit: take names out or make two books"));
-    }
-
-    #[test]
-    fn a_book_too_long_says_that_a_thin_one_fits() {
-        let size = Size {
-            entries: 65_000,
-            blocks: 500,
-            nodes: 1_000,
-        };
-        let told = |block, thin| too_long(&size, 16, &Fitting { block, thin });
-        let text = told(Some(30), Some(16));
-        assert!(text.ends_with("; it fits with --block 30; a thin book fits with --thin"));
-        let text = told(None, Some(16));
-        assert!(text.ends_with("; no block size makes it fit; a thin book fits with --thin"));
-        let text = told(None, Some(17));
-        assert!(text.ends_with("; a thin book fits with --thin --block 17"));
+        assert!(text.ends_with("--block 30"));
+        assert!(too_long(&size, None).contains("take names out"));
     }
 }

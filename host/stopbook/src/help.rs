@@ -34,14 +34,13 @@ or a file that cannot be read or written; 3 salvaged, and some names are lost.
 
 /// The help of `build`.
 pub const BUILD: &str = "\
-stopbook build NAMES.txt [-o BOOK] [--block K] [--fold | --columns | --thin] [--trim | --as-is] [--empty]
+stopbook build NAMES.txt [-o BOOK] [--block K] [--fold | --columns] [--trim | --as-is] [--empty]
 
 Makes a book from a text in UTF-8 with a name on each line, in any order. Lines end with LF
 or CR LF; empty ones are skipped. Names are sorted by their bytes; doubles are dropped, and
 told. Bad lines (over 200 bytes, not UTF-8, with a control character such as a tab) are told
 by number, and then no book is written. A book has at most 2,000 names and 65,535 bytes;
-with larger blocks it is shorter, and a thin book is much shorter. Where a book would be too
-long, it is told which of these fits.
+with larger blocks it is shorter.
 
 Where the text has no names, as after an export that failed, no book is written either, and
 an old one stays as it was; with --empty a book without names is made.
@@ -58,19 +57,14 @@ spellings are told.
 A column book is a plain book whose node table is stored field by field, for memory that is
 faster when one field is read at a time. It has the same names, answers and length.
 
-A thin book is a plain book without a node table, for a device with little memory. It has the
-same names and answers, and a question takes longer.
-
-Every command takes every kind of book, but for these: salvage takes plain books, clip and
-route take plain and folded ones, convert takes plain and column books, and tree takes all
-but thin ones. `stopbook convert` makes a plain book of a column book.
+Every command takes every kind of book, but for three: salvage takes plain books, clip and
+route take plain and folded ones. `stopbook convert` makes a plain book of a column book.
 
   -o BOOK, --output BOOK   where the book goes; without it NAMES.book, and standard output
                            where the names come from standard input
   --block K                names in a block, 1 to 64; without it 16
   --fold                   make a folded book
   --columns                make a column book
-  --thin                   make a thin book
   --trim                   take blanks off before and behind names; what is empty then is
                            left out. Blanks are the space, U+00A0, U+2007, U+202F, U+3000.
   --as-is                  take every line as it is, with control characters, too, and tell
@@ -81,7 +75,6 @@ Examples:
 
   stopbook build sample/stops.txt -o stops.book
   stopbook build sample/stops.txt --fold -o typed.book
-  stopbook build sample/stops.txt --thin -o thin.book
 ";
 
 /// The help of `convert`.
@@ -91,7 +84,7 @@ stopbook convert BOOK -o NEW
 Makes a column book of a plain book, or a plain book of a column book, and says which. The new
 book is the one that `stopbook build` makes of the same names with the same block size, byte
 for byte, so to columns and back gives the old book again. Both have the same length, names
-and answers. A folded book and a thin book cannot be converted.
+and answers. A folded book cannot be converted.
 
   -o NEW, --output NEW   where the new book goes; not to the file that is read
 
@@ -193,8 +186,7 @@ each behind the number of its line, and what is refused is told on standard erro
               nodes of the tree it visited on its way down, and how many entries it read to
               rebuild the one name that it compared. All kinds look equally far. Behind an
               answer it is a line of its own; with --tsv these two numbers are two more
-              fields behind the question, 0 and 0 where it is refused. In a thin book it is
-              not counted: that is told, and the fields are 0 and 0. A batch does not tell
+              fields behind the question, 0 and 0 where it is refused. A batch does not tell
               it, so lines of standard input are then asked one by one, each with a check.
 
 The exit status is 1 where exact, range or width find nothing or the question is refused;
@@ -216,7 +208,7 @@ stopbook clip BOOK CLIPS TEXT [--tsv]
 Tells which recorded clip the announcer plays for a text: that of the stop of this name, or
 else of the only stop whose name begins with the text. Where there is neither, it tells how
 many names begin with the text. A folded book takes the text in any case. A column book is
-not taken, and `stopbook convert` makes a plain one of it; nor is a thin book.
+not taken; `stopbook convert` makes a plain one of it.
 
 CLIPS is a text with a number on each line, 0 to 65535: line 1 is for the first name that
 `stopbook list BOOK` prints, line 2 for the second, and so on. No line may be empty, and
@@ -269,9 +261,9 @@ Examples:
 pub const CHECK: &str = "\
 stopbook check BOOK
 
-Says whether the bytes are a book, and if so whether it is a plain, a folded, a column or a
-thin book, and how many names, names in a block, nodes and bytes it has. The exit status is 1
-where they are none.
+Says whether the bytes are a book, and if so whether it is a plain, a folded or a column
+book, and how many names, names in a block, nodes and bytes it has. The exit status is 1 where
+they are none.
 
 A book has no checksum. If one letter of a name is damaged, the bytes are often another sound
 book: one wrong bit makes Marine of Marina, and check still says that it is a book. So keep a
@@ -294,8 +286,8 @@ Each block is judged alone, so damage in one block costs no name of another, and
 do not count. Standard error has the number of each block that is lost, from 0, how many
 names it had, and between which names they stood; and where a block is not above the one
 before it: then one of the two has other names than it had. Where the trailer or the block
-table makes no sense, where it is marked as a folded, a column or a thin book, and where no
-name is left, nothing is written, and an old text stays as it was.
+table makes no sense, where it is marked as a folded or a column book, and where no name is
+left, nothing is written, and an old text stays as it was.
 
 A book has no checksum, so a damaged letter may not show: if one wrong bit makes Marine of
 Marina, the block is still sound, Marine is written, and nothing is said to be lost. Read what
@@ -320,8 +312,7 @@ stopbook tree BOOK [--svg FILE | --dot FILE] [--limit N]
 
 Draws the node table of a book: the letters that lead to each node, its number, its depth,
 its width, which is how many bytes its longest name has, and its names. The letters of a
-folded book are small ones. A thin book has no node table, and is not drawn. Without a file it
-is indented text on standard output.
+folded book are small ones. Without a file it is indented text on standard output.
 
   --svg FILE   a picture, for a light or a dark page
   --dot FILE   the same in the DOT language

@@ -75,13 +75,12 @@ pub fn stored_counts(bytes: &[u8], names: usize) -> Option<Vec<usize>> {
     Some(counts)
 }
 
-/// The whole node table of a book of this kind. A thin book has none.
+/// The whole node table of a book of this kind.
 pub fn nodes(bytes: &[u8], kind: BookKind, trailer: &Trailer) -> Option<Vec<Node>> {
     // From a node to the next, and from a field of a node to its next.
     let (stride, step) = match kind {
         BookKind::Plain | BookKind::Folded => (NODE, 2),
         BookKind::Columns => (2, 2 * trailer.nodes),
-        BookKind::Thin => return Some(Vec::new()),
     };
     (0..trailer.nodes)
         .map(|index| node(bytes, trailer.nodes_at + stride * index, step))
@@ -124,9 +123,7 @@ pub fn why_no_book(bytes: &[u8]) -> String {
         format!("its trailer tells of {told}, and it has {length}; copy it again, whole")
     } else {
         let mend = match BookKind::of_marked(bytes) {
-            Some(BookKind::Folded | BookKind::Columns | BookKind::Thin) => {
-                "build it again from its names"
-            }
+            Some(BookKind::Folded | BookKind::Columns) => "build it again from its names",
             Some(BookKind::Plain) | None => "build it again, or see what stopbook salvage finds",
         };
         format!("its parts do not fit together, so it was damaged; {mend}")
@@ -203,10 +200,9 @@ pub mod tests {
         assert_eq!(trailer(&EXAMPLE[78..]), None);
         assert_eq!(stored_counts(&EXAMPLE[..11], 3), None);
         let trailer = trailer(EXAMPLE).unwrap();
-        for kind in [BookKind::Plain, BookKind::Folded, BookKind::Columns] {
+        for kind in BookKind::ALL {
             assert_eq!(nodes(&EXAMPLE[..76], kind, &trailer), None);
         }
-        assert_eq!(nodes(EXAMPLE, BookKind::Thin, &trailer), Some(Vec::new()));
     }
 
     #[test]
@@ -236,11 +232,11 @@ pub mod tests {
         changed[30] = 1;
         assert!(why_no_book(&changed).contains("damaged"));
         assert!(why_no_book(&changed).contains("salvage"));
-        for kind in [BookKind::Folded, BookKind::Columns, BookKind::Thin] {
-            changed[89..].copy_from_slice(&kind.mark());
+        for letter in [b'F', b'C'] {
+            changed[91] = letter;
             assert!(why_no_book(&changed).contains("damaged; build it again from its names"));
         }
-        changed[89..].copy_from_slice(OLD_MARK);
+        changed[91..].copy_from_slice(b"K1");
         assert!(why_no_book(&changed).contains("build it again from its names"));
     }
 }

@@ -56,7 +56,7 @@ fn run(words: &Words, streams: &mut Streams) -> Outcome {
 /// Why nothing can be salvaged.
 fn why_not(data: &[u8], refusal: Refusal) -> String {
     match BookKind::of_marked(data) {
-        Some(kind @ (BookKind::Folded | BookKind::Columns | BookKind::Thin)) => format!(
+        Some(kind @ (BookKind::Folded | BookKind::Columns)) => format!(
             "it is marked as a {} book, and only plain ones can be; \
              build it again from its names",
             kind.name()

@@ -1,10 +1,9 @@
 //! How long the book of some names will be.
 //!
 //! The library says only that a book would pass 65,535 bytes; here is by how
-//! much, and which block size or kind of book would help. Document 01's layout decides:
+//! much, and which block size would help. Document 01's layout decides:
 //! entries, two bytes for each block, twelve for each node, and 16. Entries go by the
 //! bytes that neighbours share, nodes by the letters, which for a folded book are more.
-//! A thin book has no nodes.
 
 use format::{NODE, TRAILER};
 use mistrogu::{BookKind, LARGEST_BLOCK, LONGEST_BOOK};
@@ -59,12 +58,7 @@ pub fn size(kind: BookKind, names: &[Vec<u8>], block: usize) -> Size {
     Size {
         entries: entries.sum(),
         blocks: 2 * names.len().div_ceil(block),
-        nodes: match kind {
-            BookKind::Plain | BookKind::Folded | BookKind::Columns => {
-                NODE * nodes(&shared(kind, names))
-            }
-            BookKind::Thin => 0,
-        },
+        nodes: NODE * nodes(&shared(kind, names)),
     }
 }
 
@@ -88,37 +82,10 @@ fn nodes(shared: &[usize]) -> usize {
     shared.len() + forks
 }
 
-/// What makes names fit whose book is too long.
-#[derive(Clone, Copy, Debug, PartialEq, Eq)]
-pub struct Fitting {
-    /// Another block size, with which the book of this kind fits.
-    pub block: Option<usize>,
-    /// A block size with which their thin book fits: the one that was asked for, where
-    /// that is so. Of a folded book there is none: a thin one takes capitals and small
-    /// letters for different ones.
-    pub thin: Option<usize>,
-}
-
-/// What makes these names fit, whose book of this kind is too long in blocks of so many.
-pub fn fitting(kind: BookKind, names: &[Vec<u8>], block: usize) -> Fitting {
-    let thin = match kind {
-        BookKind::Plain | BookKind::Columns => {
-            let fits = size(BookKind::Thin, names, block).total() <= LONGEST_BOOK;
-            fits.then_some(block)
-                .or_else(|| fitting_block(BookKind::Thin, names, block))
-        }
-        BookKind::Folded | BookKind::Thin => None,
-    };
-    Fitting {
-        block: fitting_block(kind, names, block),
-        thin,
-    }
-}
-
 /// A block size with which the book fits: the next larger one, or where none
 /// does, the next smaller one. Larger blocks mostly make shorter books, but
 /// where blocks begin counts too.
-fn fitting_block(kind: BookKind, names: &[Vec<u8>], block: usize) -> Option<usize> {
+pub fn fitting_block(kind: BookKind, names: &[Vec<u8>], block: usize) -> Option<usize> {
     let mut others = (block + 1..=LARGEST_BLOCK).chain((1..block).rev());
     others.find(|&other| size(kind, names, other).total() <= LONGEST_BOOK)
 }
@@ -208,53 +175,6 @@ mod tests {
         let names: Vec<Vec<u8>> = (0..400).map(long).collect();
         assert_eq!(fitting_block(BookKind::Plain, &names, 1), None);
         assert_eq!(fitting_block(BookKind::Plain, &names, 64), None);
-        let nothing = Fitting {
-            block: None,
-            thin: None,
-        };
-        for kind in BookKind::ALL {
-            assert_eq!(fitting(kind, &names, 16), nothing);
-        }
-    }
-
-    #[test]
-    fn a_thin_book_has_the_same_entries_and_no_nodes() {
-        let example = names(&["Mar", "Marina", "Market Square"]);
-        let expected = Size {
-            entries: 25,
-            blocks: 4,
-            nodes: 0,
-        };
-        assert_eq!(size(BookKind::Thin, &example, 2), expected);
-        assert_eq!(expected.total(), 45);
-        assert_eq!(size(BookKind::Thin, &[], 2).total(), 16);
-    }
-
-    #[test]
-    fn a_thin_book_is_named_where_it_fits_and_no_folded_book_was_asked_for() {
-        // The book with the most nodes: a plain one fits with large blocks, and a thin
-        // one with any.
-        let names = binary();
-        let plain = fitting(BookKind::Plain, &names, 1);
-        assert!(plain.block.is_some());
-        assert_eq!(plain.thin, Some(1));
-        assert_eq!(fitting(BookKind::Columns, &names, 1), plain);
-        assert_eq!(fitting(BookKind::Folded, &names, 1).thin, None);
-    }
-
-    #[test]
-    fn a_thin_book_may_fit_with_another_block_size_alone() {
-        // In blocks of one, 328 names of 198 bytes take 202 each: 737 too many. In larger
-        // blocks there are fewer starts, and most names store one byte less.
-        let long = |number: u16| [number.to_be_bytes().to_vec(), vec![b'x'; 196]].concat();
-        let names: Vec<Vec<u8>> = (0..328).map(long).collect();
-        assert_eq!(size(BookKind::Thin, &names, 1).total(), 66_272);
-        let fitting = fitting(BookKind::Plain, &names, 1);
-        assert_eq!(fitting.block, None);
-        let block = fitting.thin.expect("a larger block fits");
-        assert!(block > 1);
-        assert!(size(BookKind::Thin, &names, block).total() <= LONGEST_BOOK);
-        assert!(size(BookKind::Thin, &names, block - 1).total() > LONGEST_BOOK);
     }
 
     /// The name at a position of a list where only every 64th name shares much

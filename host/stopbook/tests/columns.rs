@@ -90,7 +90,7 @@ fn a_folded_book_is_not_converted_and_that_is_said() {
     ran.assert_fails(1, &[why]);
     assert_eq!(folder.read("old"), b"as it was");
     let ran = folder.run(&["build", "n.txt", "--fold", "--columns"]);
-    ran.assert_fails(2, &["give one of --fold, --columns and --thin"]);
+    ran.assert_fails(2, &["give --fold or --columns, not both"]);
 }
 
 #[test]

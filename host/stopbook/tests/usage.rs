@@ -81,17 +81,6 @@ fn the_outputs_in_the_readme_are_what_the_program_prints() {
 }
 
 #[test]
-fn so_are_those_of_a_thin_book() {
-    let folder = Folder::with("stops.txt", include_bytes!("../../../sample/stops.txt"));
-    let printed = [
-        &["build", "stops.txt", "--thin", "-o", "thin.book"][..],
-        &["check", "thin.book"],
-    ]
-    .map(|words| folder.run(words).out().to_string());
-    assert_in_readme(&printed.concat());
-}
-
-#[test]
 fn every_command_has_help_with_an_example() {
     let folder = Folder::new();
     for command in COMMANDS {
@@ -114,7 +103,7 @@ fn the_version_is_that_of_the_crate() {
 fn wrong_usage_has_exit_status_2_and_says_where_to_look() {
     let folder = Folder::with("mar.book", EXAMPLE);
     folder.write("mar.txt", b"1\n2\n3\n");
-    let cases: [(&[&str], &str); 30] = [
+    let cases: [(&[&str], &str); 28] = [
         (&[], "give a command"),
         (&["bild", "x"], "bild is no command"),
         (&["help", "bild"], "bild is no command"),
@@ -122,15 +111,7 @@ fn wrong_usage_has_exit_status_2_and_says_where_to_look() {
         (&["build", "a", "b"], "b is too many"),
         (
             &["build", "mar.txt", "--fold", "--columns"],
-            "give one of --fold, --columns and --thin",
-        ),
-        (
-            &["build", "mar.txt", "--thin", "--fold"],
-            "give one of --fold, --columns and --thin",
-        ),
-        (
-            &["build", "mar.txt", "--columns", "--thin"],
-            "give one of --fold, --columns and --thin",
+            "give --fold or --columns, not both",
         ),
         (&["convert"], "give one book"),
         (&["convert", "a", "b", "-o", "c"], "give one book"),

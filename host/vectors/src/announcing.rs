@@ -116,7 +116,6 @@ pub const SET: Set<Announce> = Set {
         random_books,
         books_spoilt_at_random,
         column_books,
-        thin_books,
     ],
 };
 
@@ -910,16 +909,6 @@ fn books_spoilt_at_random() -> Cases {
 
 /// Sound column books, which the announcer does not serve: 2, before 16, 1, 12 and 3.
 fn column_books() -> Cases {
-    unserved("column book", BookKind::Columns)
-}
-
-/// The same of sound thin books.
-fn thin_books() -> Cases {
-    unserved("thin book", BookKind::Thin)
-}
-
-/// Sound books of a kind that the announcer does not serve.
-fn unserved(why: &str, kind: BookKind) -> Cases {
     let mut cases = Vec::new();
     for names in [
         Names::new(),
@@ -928,7 +917,7 @@ fn unserved(why: &str, kind: BookKind) -> Cases {
         lists::stops(),
     ] {
         let count = names.len();
-        let book = book_of(kind, 2, &names);
+        let book = book_of(BookKind::Columns, 2, &names);
         let calls = [
             Announce::of(count)
                 .text("Mar")
@@ -938,7 +927,7 @@ fn unserved(why: &str, kind: BookKind) -> Cases {
                 .text(vec![b'M'; 201])
                 .route(vec![0; 121]),
         ];
-        cases.extend(of_bytes(why, book, calls));
+        cases.extend(of_bytes("column book", book, calls));
     }
     cases
 }

@@ -31,8 +31,8 @@ use model::{book_of, build_kind, write_list, BookKind};
 /// The longest room of a case.
 pub const LONGEST_ROOM: usize = 70_000;
 
-/// A call of `book_build`, of `book_build_folded` or of `book_build_thin`. Which of
-/// them it is does not stand in the file: a set has calls of one kind.
+/// A call of `book_build`, or of `book_build_folded`. Which of the two it is does
+/// not stand in the file: a set has calls of one kind.
 #[derive(Clone)]
 pub struct Build {
     pub(crate) kind: BookKind,

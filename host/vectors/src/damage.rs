@@ -292,7 +292,7 @@ pub fn old_books(book: &Pieces) -> Spoilt {
         let (front, rest) = bytes.split_at(book.trailer.node_table);
         let (nodes, trailer) = rest.split_at(nodes);
         let nodes: Vec<&[u8]> = match book.kind {
-            BookKind::Plain | BookKind::Folded | BookKind::Thin => {
+            BookKind::Plain | BookKind::Folded => {
                 nodes.chunks(NODE).map(|node| &node[..2 * WIDTH]).collect()
             }
             // the widths are the last column
@@ -366,7 +366,6 @@ pub fn spoil_book(random: &mut Random, kind: BookKind, block: usize, names: &Nam
     let mut pieces = Pieces::of(kind, block, names);
     let settled = random.once_in(2);
     match random.below(8) {
-        0 | 1 if kind == BookKind::Thin => give_nodes(random, &mut pieces),
         0 | 1 => spoil_node(random, &mut pieces.nodes),
         2 => spoil_entry(random, &mut pieces),
         3 => spoil_number(random, &mut pieces.trailer),
@@ -386,19 +385,6 @@ pub fn spoil_book(random: &mut Random, kind: BookKind, block: usize, names: &Nam
         pieces.settle();
     }
     pieces.bytes()
-}
-
-/// Gives a book without nodes the first of the plain book's, or all of them, or tells
-/// of some that are not there.
-fn give_nodes(random: &mut Random, pieces: &mut Pieces) {
-    let nodes = Pieces::of(BookKind::Plain, pieces.trailer.block, &pieces.made_of).nodes;
-    let most = nodes.len();
-    match random.below(4) {
-        0 => pieces.nodes = nodes,
-        1 => pieces.nodes = nodes[..random.below(most + 1)].to_vec(),
-        2 => pieces.trailer.nodes = near(random, most),
-        _ => pieces.trailer.node_table = near(random, pieces.trailer.node_table),
-    }
 }
 
 /// Spoils one node, or the order or number of nodes.

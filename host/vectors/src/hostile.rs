@@ -307,17 +307,13 @@ fn put_row(
 }
 
 /// Any book of some kind over these names, at least two, or one with a nest of
-/// any steps in place of any fork's row. A thin book has no fork; the plain book's
-/// nodes stand in it then.
+/// any steps in place of any fork's row.
 pub fn any(random: &mut Random, kind: BookKind, block: usize, names: &Names) -> Pieces {
     if random.once_in(2) {
         let kinds = kinds();
         return random.one_of(&kinds).over(kind, block, names);
     }
-    let mut book = match kind {
-        BookKind::Plain | BookKind::Folded | BookKind::Columns => Pieces::of(kind, block, names),
-        BookKind::Thin => Pieces::of(BookKind::Plain, block, names).in_kind(kind),
-    };
+    let mut book = Pieces::of(kind, block, names);
     let nodes = &book.nodes;
     let forks: Vec<usize> = (0..nodes.len())
         .filter(|&at| nodes[at][NAMES] > 1)

@@ -22,8 +22,6 @@
 //! | [`announcing`] | the set of the announcer's two calls, likewise |
 //! | [`folded`] | the sets of folded books, of `book_build_folded` and of all calls that take a book |
 //! | [`columns`] | the sets of column books: of the two conversions, and of all calls that take a book |
-//! | [`thin`] | the sets of thin books: of `book_build_thin`, and of all calls that take a book |
-//! | `by_kind` | groups of cases that several kinds of book have |
 //! | [`checksum`] | two small numbers that stand for many |
 //! | [`lists`] | lists of names by their shape |
 //! | [`questions`] | questions by how they stand to a list's names |
@@ -49,7 +47,6 @@ pub mod asking;
 pub mod batches;
 pub mod batching;
 pub mod building;
-pub(crate) mod by_kind;
 pub mod checking;
 pub mod checksum;
 pub mod columns;
@@ -67,7 +64,6 @@ pub mod rooms;
 pub mod salvaging;
 pub mod sets;
 pub mod spelling;
-pub mod thin;
 pub mod wear;
 pub mod worst;
 
@@ -90,7 +86,7 @@ pub const SETS: [&dyn Files; 12] = [
 ];
 
 /// Every set that no such program runs, but a test of the linked archive.
-pub const TESTED_SETS: [&dyn Files; 13] = [
+pub const TESTED_SETS: [&dyn Files; 7] = [
     &salvaging::SET,
     &announcing::SET,
     &columns::CONVERT,
@@ -98,12 +94,6 @@ pub const TESTED_SETS: [&dyn Files; 13] = [
     &columns::READ,
     &columns::ASK,
     &columns::BATCH,
-    &thin::BUILD,
-    &thin::CHECK,
-    &thin::READ,
-    &thin::ASK,
-    &thin::BATCH,
-    &thin::CONVERT,
 ];
 
 /// What a program that runs every set must print: the sets' texts, one after

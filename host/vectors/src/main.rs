@@ -9,7 +9,8 @@ use vectors::hostile;
 use vectors::lists::{self, Names};
 use vectors::sets::Files;
 use vectors::spelling::by_turns;
-use vectors::{worst, SETS, TESTED_SETS};
+use vectors::worst;
+use vectors::{SETS, TESTED_SETS};
 
 const USAGE: &str = "\
 vectors SET FOLDER       write FOLDER/SET.cases and FOLDER/SET.expected

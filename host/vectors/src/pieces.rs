@@ -81,7 +81,6 @@ impl Pieces {
         let by_nodes = match kind {
             BookKind::Plain | BookKind::Columns => BookKind::Plain,
             BookKind::Folded => BookKind::Folded,
-            BookKind::Thin => BookKind::Thin,
         };
         let nodes = numbers(&node_table(by_nodes, names));
         let nodes = nodes
@@ -115,11 +114,10 @@ impl Pieces {
         self
     }
 
-    /// The numbers of all nodes in the order in which they stand. A thin book has none;
-    /// where it was given some, they stand node by node.
+    /// The numbers of all nodes in the order in which they stand.
     fn node_numbers(&self) -> Vec<usize> {
         match self.kind {
-            BookKind::Plain | BookKind::Folded | BookKind::Thin => self.nodes.concat(),
+            BookKind::Plain | BookKind::Folded => self.nodes.concat(),
             BookKind::Columns => {
                 let fields = 0..NODE_FIELDS.len();
                 fields

@@ -29,7 +29,7 @@
 //!   lent, or in a refused call.
 
 use crate::checksum::checksum_of;
-use crate::damage::{gaps, large_counts, mark_as, other_counts, other_starts, Spoilt};
+use crate::damage::{gaps, large_counts, other_counts, other_starts, Spoilt};
 use crate::lists::{self, Names};
 use crate::pieces::Pieces;
 use crate::random::Random;
@@ -419,15 +419,10 @@ fn trailers() -> Cases {
     cases.push(fitting("old mark", worn_example(89, b"NBK1")));
     let folded = BookKind::Folded.mark();
     cases.push(fitting("folded mark", worn_example(89, &folded)));
-    for (kind, what) in [(BookKind::Columns, "column"), (BookKind::Thin, "thin")] {
-        let marked = worn_example(89, &kind.mark());
-        cases.push(fitting(format!("{what} mark"), marked));
-        let mut book = book_of(kind, 2, &lists::example());
-        cases.push(fitting(format!("{what} book"), book.clone()));
-        // No node is looked at, so how they stand, or whether there are any, is all one.
-        mark_as(BookKind::Plain, &mut book);
-        cases.push(fitting(format!("{what} book, plain mark"), book));
-    }
+    let columns = BookKind::Columns.mark();
+    cases.push(fitting("column mark", worn_example(89, &columns)));
+    let sound = book_of(BookKind::Columns, 2, &lists::example());
+    cases.push(fitting("column book", sound));
     cases
 }
 

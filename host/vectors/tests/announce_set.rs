@@ -216,20 +216,6 @@ fn books_of_0_1_and_2000_names_of_both_kinds_are_asked() {
 }
 
 #[test]
-fn books_of_kinds_that_the_announcer_does_not_serve_are_refused_with_2() {
-    for purpose in ["column book: ", "thin book: "] {
-        let all = all_expected().into_iter();
-        let cases: Vec<_> = all
-            .filter(|case| case.purpose.starts_with(purpose))
-            .collect();
-        assert_eq!(cases.len(), 12, "{purpose}");
-        for case in cases {
-            assert_eq!([case.clip, case.route], [[2, 0, 0]; 2], "{}", case.purpose);
-        }
-    }
-}
-
-#[test]
 fn bad_positions_are_the_first_the_last_and_every_one_of_a_route() {
     let file = announcing::SET.case_file();
     let mut places = BTreeSet::new();

@@ -11,7 +11,6 @@ use vectors::checksum::checksum_of;
 use vectors::columns;
 use vectors::folded;
 use vectors::sets::{Files, Set};
-use vectors::thin;
 
 /// A case as it stands in the file.
 struct Asked<'file> {
@@ -131,12 +130,7 @@ fn refused(code: usize) -> String {
 
 #[test]
 fn a_program_that_follows_the_description_prints_the_text() {
-    for set in [
-        &batching::SET,
-        &folded::BATCH,
-        &columns::BATCH,
-        &thin::BATCH,
-    ] {
+    for set in [&batching::SET, &folded::BATCH, &columns::BATCH] {
         let file = set.case_file();
         let mut text = String::new();
         for (number, case) in read_file(&file).iter().enumerate() {
@@ -153,7 +147,6 @@ fn the_batches_are_small_enough() {
         (&batching::SET, 800),
         (&folded::BATCH, 60),
         (&columns::BATCH, 250),
-        (&thin::BATCH, 250),
     ] {
         let file = set.case_file();
         let cases = read_file(&file);

@@ -7,13 +7,11 @@ use vectors::building::{self, Build, LONGEST_ROOM};
 use vectors::checksum::checksum;
 use vectors::folded;
 use vectors::sets::{Files, Set};
-use vectors::thin;
 
 /// The set of each kind of book.
-const SETS: [(BookKind, &Set<Build>); 3] = [
+const SETS: [(BookKind, &Set<Build>); 2] = [
     (BookKind::Plain, &building::SET),
     (BookKind::Folded, &folded::BUILD),
-    (BookKind::Thin, &thin::BUILD),
 ];
 
 /// A case as it stands in the file.

@@ -5,7 +5,6 @@ use vectors::checking::{self, Check};
 use vectors::columns;
 use vectors::folded;
 use vectors::sets::{Files, Set};
-use vectors::thin;
 
 /// Reads the file as its description says, and asserts that it ends with a
 /// case.
@@ -22,12 +21,7 @@ fn read_file(mut file: &[u8]) -> Vec<&[u8]> {
 
 #[test]
 fn a_program_that_follows_the_description_prints_the_text() {
-    for set in [
-        &checking::SET,
-        &folded::CHECK,
-        &columns::CHECK,
-        &thin::CHECK,
-    ] {
+    for set in [&checking::SET, &folded::CHECK, &columns::CHECK] {
         let file = set.case_file();
         let mut text = String::new();
         for (number, book) in read_file(&file).into_iter().enumerate() {
@@ -45,7 +39,6 @@ fn the_cases_are_not_too_many() {
         (&checking::SET, 1600),
         (&folded::CHECK, 900),
         (&columns::CHECK, 1400),
-        (&thin::CHECK, 1400),
     ] {
         let cases = set.cases().len();
         assert!(cases <= most, "{cases}");

@@ -7,7 +7,7 @@ use vectors::lists;
 use vectors::pieces::Pieces;
 use vectors::random::Random;
 use vectors::sets::{Call, Set};
-use vectors::{asking, batching, checking, columns, reading, thin};
+use vectors::{asking, batching, checking, columns, reading};
 
 /// All hostile books, small ones and the largest, with what is wrong.
 fn all_books() -> Vec<(String, Pieces)> {
@@ -33,7 +33,7 @@ fn with_right_nodes(book: &Pieces) -> Pieces {
 #[test]
 fn every_hostile_book_is_refused_with_2() {
     for (how, book) in all_books() {
-        for kind in [BookKind::Plain, BookKind::Columns, BookKind::Thin] {
+        for kind in [BookKind::Plain, BookKind::Columns] {
             let bytes = book.clone().in_kind(kind).bytes();
             assert_eq!(bytes.len(), book.trailer.length, "{how}");
             assert!(bytes.len() <= LONGEST_BOOK, "{how}");
@@ -165,8 +165,4 @@ fn every_kind_is_in_every_set_of_a_call_that_takes_a_book() {
     assert_every_kind_in(&columns::READ);
     assert_every_kind_in(&columns::ASK);
     assert_every_kind_in(&columns::BATCH);
-    assert_every_kind_in(&thin::CHECK);
-    assert_every_kind_in(&thin::READ);
-    assert_every_kind_in(&thin::ASK);
-    assert_every_kind_in(&thin::BATCH);
 }

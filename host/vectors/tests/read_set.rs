@@ -7,7 +7,6 @@ use vectors::columns;
 use vectors::folded;
 use vectors::reading::{self, Read as Call, LONGEST_ROOM};
 use vectors::sets::{Case, Files};
-use vectors::thin;
 
 /// A case as it stands in the file.
 struct Read<'file> {
@@ -61,7 +60,7 @@ fn answer(case: &Case<Call>) -> [usize; 3] {
 
 #[test]
 fn a_program_that_follows_the_description_prints_the_text() {
-    for set in [&reading::SET, &folded::READ, &columns::READ, &thin::READ] {
+    for set in [&reading::SET, &folded::READ, &columns::READ] {
         let file = set.case_file();
         let cases = read_file(&file);
         let lines = cases.iter().enumerate();
@@ -76,7 +75,6 @@ fn the_rooms_are_small_enough() {
         (&reading::SET, 1200),
         (&folded::READ, 300),
         (&columns::READ, 350),
-        (&thin::READ, 350),
     ] {
         let file = set.case_file();
         let cases = read_file(&file);
@@ -112,7 +110,7 @@ fn folded_names_are_read_as_they_were_spelt() {
 
 #[test]
 fn every_refusal_of_a_reading_is_among_the_cases() {
-    for set in [&reading::SET, &columns::READ, &thin::READ] {
+    for set in [&reading::SET, &columns::READ] {
         let mut counts = BTreeMap::new();
         for case in set.cases() {
             *counts.entry(answer(&case)[0]).or_insert(0) += 1;

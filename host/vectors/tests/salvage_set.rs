@@ -105,7 +105,7 @@ fn the_worn_books_rooms_and_reports_are_small_enough() {
     let file = salvaging::SET.case_file();
     assert!(file.len() < 200_000, "{}", file.len());
     let cases = read_file(&file);
-    assert!((150..=310).contains(&cases.len()), "{}", cases.len());
+    assert!((150..=300).contains(&cases.len()), "{}", cases.len());
     assert!(cases.iter().all(|case| case.room <= LONGEST_ROOM));
     assert!(cases.iter().all(|case| case.rows <= MOST_ROWS));
 }
@@ -190,13 +190,6 @@ fn the_edges_of_document_02_are_among_the_cases() {
         ("second block, two names of four: ", [0, 29, 0], [2, 0]),
         ("second block, one name of four: ", [0, 11, 0], [1, 1]),
         ("second block, below the first block: ", [0, 25, 0], [2, 0]),
-        ("folded mark: ", [13, 0, 0], [0, 0]),
-        ("column mark: ", [13, 0, 0], [0, 0]),
-        ("column book: ", [13, 0, 0], [0, 0]),
-        ("column book, plain mark: book 93, ", [0, 25, 0], [2, 0]),
-        ("thin mark: ", [13, 0, 0], [0, 0]),
-        ("thin book: book 45, ", [13, 0, 0], [0, 0]),
-        ("thin book, plain mark: book 45, ", [0, 25, 0], [2, 0]),
         ("falling names, k 1: ", [0, 52, 0], [26, 0]),
         ("falling names, k 2: ", [0, 0, 0], [0, 13]),
         ("small book, block 1 one later: ", [0, 2, 0], [1, 2]),

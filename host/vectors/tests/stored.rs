@@ -88,7 +88,6 @@ fn the_stored_listings_are_what_the_second_program_prints() {
         book_of(BookKind::Plain, 3, &escaped.map(<[u8]>::to_vec)),
         book_of(BookKind::Folded, 4, &folded::spelt_example()),
         book_of(BookKind::Columns, 2, &lists::example()),
-        book_of(BookKind::Thin, 2, &lists::example()),
     ];
     let today: Vec<u8> = others.iter().flat_map(|bytes| listing(bytes)).collect();
     assert_stored(&program_folder("list_others").join("stdout"), &today);

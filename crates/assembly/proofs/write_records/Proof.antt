@@ -3,7 +3,7 @@
 use borrow.Author.Rules.{rules}
 use Rattle.kinds.specs.Known.{kind_by}
 use Rattle.kinds.proofs.Telling.{rule_told}
-use Rattle.assembly.proofs.WholeBook.{columns-put, none-put, rows-ask, rows-put}
+use Rattle.assembly.proofs.WholeBook.{columns-put, rows-ask, rows-put}
 use Rattle.assembly.proofs.write_records.Statement.{statement}
 use Rattle.assembly.proofs.write_records.Tie as tie
 
@@ -20,17 +20,11 @@ write_records_spec =
     rows-ask (kind_by start.args.kind) ruled.rule-of.result (rule_told start.args.kind _ ruled.rule-of.ensures) start.requires)
     (λ c. search rules)
     (λ c. search rules)
-    (λ c. search rules)
     (λ c.
     let put = c.before.before in
-    let formed = put.before.before.before.before in
     let ruled = put.before.before.before.before.before in
     let start = ruled.before.before.before.before.before in
-    rows-put (kind_by start.args.kind) formed.form_of.result formed.form_of.ensures put.before.before.enum_told.given.1
-    ruled.rule-of.result (rule_told start.args.kind _ ruled.rule-of.ensures) put.write-nodes.ensures)
+    rows-put (kind_by start.args.kind) ruled.rule-of.result (rule_told start.args.kind _ ruled.rule-of.ensures) put.write-nodes.ensures)
     (λ c.
     let formed = c.before.before in
-    columns-put (kind_by formed.before.before.before.before.before.before.args.kind) formed.form_of.result formed.form_of.ensures c.enum-told2.given.1)
-    (λ c.
-    let formed = c.before.before in
-    none-put (kind_by formed.before.before.before.before.before.before.args.kind) formed.form_of.result formed.form_of.ensures c.enum-told3.given.1))
+    columns-put (kind_by formed.before.before.before.before.before.before.args.kind) formed.form_of.result formed.form_of.ensures c.enum-told2.given.1))

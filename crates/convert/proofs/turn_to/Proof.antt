@@ -1,7 +1,7 @@
 -- `convert::turn_to` meets its contract: an arm for each form of table.
 -- Assumes nothing.
 use borrow.Author.Rules.{rules}
-use Rattle.kinds.specs.declared.Form.TheVariants.{Columns, None, Rows}
+use Rattle.kinds.specs.declared.Form.TheVariants.{Columns, Rows}
 use Rattle.convert.proofs.Other.{told-turn}
 use Rattle.convert.proofs.turn_to.Statement.{statement}
 use Rattle.convert.proofs.turn_to.Tie as tie
@@ -14,7 +14,5 @@ turn_to_spec =
     (λ c. search rules)
     (λ c. search rules)
     (λ c. search rules)
-    (λ c. search rules)
     (λ c. told-turn c.before.before.before.args.kind _ _ Rows c.before.before.form_of.ensures c.enum_told.given.1)
-    (λ c. told-turn c.before.before.before.args.kind _ _ Columns c.before.before.form_of.ensures c.enum-told2.given.1)
-    (λ c. told-turn c.before.before.before.args.kind _ _ None c.before.before.form_of.ensures c.enum-told3.given.1))
+    (λ c. told-turn c.before.before.before.args.kind _ _ Columns c.before.before.form_of.ensures c.enum-told2.given.1))

@@ -1,7 +1,7 @@
 -- `kinds::is_full` meets its contract: the form of the kind's table tells it.
 -- Assumes nothing.
 use borrow.Author.Rules.{rules}
-use Rattle.kinds.specs.declared.Form.TheVariants.{Columns, None, Rows}
+use Rattle.kinds.specs.declared.Form.TheVariants.{Columns, Rows}
 use Rattle.kinds.proofs.Telling.{full-told}
 use Rattle.kinds.proofs.is_full.Statement.{statement}
 use Rattle.kinds.proofs.is_full.Tie as tie
@@ -13,7 +13,5 @@ is_full_spec =
     (λ c κs. search rules)
     (λ c. search rules)
     (λ c. search rules)
-    (λ c. search rules)
     (λ c. full-told c.before.before.before.args.kind _ Rows c.before.before.form_of.ensures c.enum_told.given.1)
-    (λ c. full-told c.before.before.before.args.kind _ Columns c.before.before.form_of.ensures c.enum-told2.given.1)
-    (λ c. full-told c.before.before.before.args.kind _ None c.before.before.form_of.ensures c.enum-told3.given.1))
+    (λ c. full-told c.before.before.before.args.kind _ Columns c.before.before.form_of.ensures c.enum-told2.given.1))

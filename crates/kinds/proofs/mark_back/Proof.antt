@@ -3,7 +3,7 @@
 use borrow.Author.Rules.{rules}
 use Rattle.kinds.specs.Known.{kind_by, mark_back}
 use Rattle.kinds.specs.declared.Kind.{Kind}
-use Rattle.kinds.specs.declared.Kind.TheVariants.{Columns, Folded, Plain, Thin}
+use Rattle.kinds.specs.declared.Kind.TheVariants.{Columns, Folded, Plain}
 use Rattle.kinds.proofs.Telling.{by_arm}
 use Rattle.kinds.proofs.mark_back.Statement.{statement}
 use Rattle.kinds.proofs.mark_back.Tie as tie
@@ -15,8 +15,6 @@ mark_back_spec =
     (λ c. search rules)
     (λ c. search rules)
     (λ c. search rules)
-    (λ c. search rules)
     (λ c. by_arm (λ (x : Kind). mark_back (kind_by x)) _ Plain c.enum_told.given.1)
     (λ c. by_arm (λ (x : Kind). mark_back (kind_by x)) _ Folded c.enum-told2.given.1)
-    (λ c. by_arm (λ (x : Kind). mark_back (kind_by x)) _ Columns c.enum-told3.given.1)
-    (λ c. by_arm (λ (x : Kind). mark_back (kind_by x)) _ Thin c.enum-told4.given.1))
+    (λ c. by_arm (λ (x : Kind). mark_back (kind_by x)) _ Columns c.enum-told3.given.1))

@@ -1,8 +1,8 @@
 -- `kinds::marked` meets its contract.
 -- Assumes nothing.
-use Rattle.kinds.proofs.Telling.{marked-columns, marked-folded, marked-plain, marked-thin}
+use Rattle.kinds.proofs.Telling.{marked-columns, marked-folded, marked-plain}
 use Rattle.kinds.proofs.marked.Statement.{statement}
 use Rattle.kinds.proofs.marked.Tie as tie
 
 pub marked_spec : {M : Type 1} → statement M
-marked_spec = tie.close (tie.spec (λ c. marked-folded _ c.if1.true) (λ c. marked-columns _ c.if2.true) (λ c. marked-thin _ c.if3.true) (λ c. marked-plain _ c.before.before.if1.false c.before.if2.false c.if3.false))
+marked_spec = tie.close (tie.spec (λ c. marked-folded _ c.if1.true) (λ c. marked-columns _ c.if2.true) (λ c. marked-plain _ c.before.if1.false c.if2.false))

@@ -4,7 +4,7 @@ use borrow.Author.Rules.{rules}
 use Rattle.symbols.specs.Rules.{by_kind}
 use Rattle.kinds.specs.Known.{kind_by}
 use Rattle.kinds.specs.declared.Kind.{Kind}
-use Rattle.kinds.specs.declared.Kind.TheVariants.{Columns, Folded, Plain, Thin}
+use Rattle.kinds.specs.declared.Kind.TheVariants.{Columns, Folded, Plain}
 use Rattle.kinds.proofs.Telling.{by_arm}
 use Rattle.kinds.proofs.rule_of.Statement.{statement}
 use Rattle.kinds.proofs.rule_of.Tie as tie
@@ -16,8 +16,6 @@ rule_of_spec =
     (λ c. search rules)
     (λ c. search rules)
     (λ c. search rules)
-    (λ c. search rules)
     (λ c. by_arm (λ (x : Kind). by_kind (kind_by x)) _ Plain c.enum_told.given.1)
     (λ c. by_arm (λ (x : Kind). by_kind (kind_by x)) _ Folded c.enum-told2.given.1)
-    (λ c. by_arm (λ (x : Kind). by_kind (kind_by x)) _ Columns c.enum-told3.given.1)
-    (λ c. by_arm (λ (x : Kind). by_kind (kind_by x)) _ Thin c.enum-told4.given.1))
+    (λ c. by_arm (λ (x : Kind). by_kind (kind_by x)) _ Columns c.enum-told3.given.1))

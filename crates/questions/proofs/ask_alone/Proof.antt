@@ -1,25 +1,21 @@
 -- `questions::ask_alone` meets its contract: the check, and then the question.
 -- Assumes nothing.
 use borrow.Author.Rules.{rules}
-use Rattle.questions.proofs.Asking.{ask-unsound, parts-nodes}
+use Rattle.questions.proofs.Asking.{ask-unsound}
+use Rattle.questions.proofs.Checks.{check-opens}
 use Rattle.questions.proofs.ask_alone.Statement.{statement}
 use Rattle.questions.proofs.ask_alone.Tie as tie
-
-returns : tie.Need-returns
-returns c =
-    let asked = c.before.before in
-    let start = asked.before.before.before in
-    ask-unsound start.args.kind start.args.book.now start.args.question.now _ c.look-at-nothing.ensures asked.is-book.result c.before.if1.true asked.is-book.ensures
 
 pub ask_alone_spec : {M : Type 1} → statement M
 ask_alone_spec =
     tie.close
     (tie.spec
     (λ c κs. search rules)
+    (λ c. search rules)
     (λ c κs. search rules)
-    returns
+    (λ c. search rules)
     (λ c κs.
-    let asked = c.before in
-    let known = asked.before.before in
-    parts-nodes _ known.shared-slice-known.given asked.is-book.result c.if1.false asked.is-book.ensures known.before.requires.0 known.before.requires.1)
+    let told = c.enum-told2.given in
+    record { trailer = told.0.0; checked = check-opens _ _ _ c.before.before.check-book.ensures.1 told.1; number = c.before.before.before.before.before.requires })
+    (λ c. search ask-unsound)
     (λ c. search rules))

@@ -5,7 +5,7 @@ use Prim.Native.Nat.{ℕ, ◌*◌}
 use mathlib.Core.Path.{◌∙◌, ap}
 use borrow.Author.Rules.{rules}
 use Rattle.standing.specs.Maps.{Map}
-use Rattle.kinds.specs.declared.Form.TheVariants.{Columns, None, Rows}
+use Rattle.kinds.specs.declared.Form.TheVariants.{Columns, Rows}
 use Rattle.trailer.proofs.Telling.{map-told}
 use Rattle.trailer.proofs.pace_of.Statement.{statement}
 use Rattle.trailer.proofs.pace_of.Tie as tie
@@ -22,12 +22,6 @@ returns-2 c =
     let told = map-told c.before.before.before.before.before.before.args.book.now form.before.kind.result form.form_of.result Columns form.before.kind.ensures form.form_of.ensures c.before.enum-told2.given.1 in
     (ap (λ (μ : Map). μ.stride) told, ap (λ (m : ℕ). 2 * m) c.number.ensures.0 ∙ ap (λ (μ : Map). μ.step) told)
 
-returns-3 : tie.Need-returns-3
-returns-3 c =
-    let form = c.before.before in
-    let told = map-told c.before.before.before.before.before.args.book.now form.before.kind.result form.form_of.result None form.before.kind.ensures form.form_of.ensures c.enum-told3.given.1 in
-    (ap (λ (μ : Map). μ.stride) told, ap (λ (μ : Map). μ.step) told)
-
 pub pace_of_spec : {M : Type 1} → statement M
 pace_of_spec =
     tie.close
@@ -38,7 +32,5 @@ pace_of_spec =
     (λ c. search rules)
     (λ c κs. search rules)
     (λ c. omega (arith, c.number.ensures.1))
-    (λ c. search rules)
     returns
-    returns-2
-    returns-3)
+    returns-2)

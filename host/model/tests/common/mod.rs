@@ -4,10 +4,8 @@
 // Each test file is a program of its own and uses only some of these.
 #![allow(dead_code)]
 
-pub mod direct;
-
 use model::questions::Look;
-use model::{book_batch, book_build, build_kind, write_list, Answer, BookKind, Counted, Head, Row};
+use model::{book_build, build_kind, write_list, Answer, BookKind, Counted, Head};
 
 /// The book of Mar, Marina, Market Square with k = 2. Not produced by any
 /// code: each byte is copied from document 01, "A book in full", but for each
@@ -67,9 +65,6 @@ pub const UNSET: Answer = Answer {
 
 /// The empty part of the first list.
 pub const EMPTY_PART: Head = head(1, 0, 0);
-
-/// The kinds of book that tell how far a question looked.
-pub const COUNTED: [BookKind; 3] = [BookKind::Plain, BookKind::Folded, BookKind::Columns];
 
 /// Names given as texts.
 pub fn names(texts: &[&str]) -> Vec<Vec<u8>> {
@@ -151,34 +146,6 @@ pub mod answers {
     pub fn book_width(book: &[u8], question: &[u8]) -> Answer {
         model::book_width(book, question).answer()
     }
-}
-
-/// Asks all kinds of all questions in batches of up to 60 rows.
-pub fn ask_all(book: &[u8], questions: &[Vec<u8>]) -> Vec<[Answer; 5]> {
-    let buffer = questions.concat();
-    let mut all = Vec::new();
-    let mut start = 0;
-    for some in questions.chunks(12) {
-        let mut rows = Vec::new();
-        for question in some {
-            let length = question.len();
-            rows.extend((1..=5).map(|kind| Row {
-                kind,
-                start,
-                length,
-            }));
-            start += length;
-        }
-        let mut answers = vec![UNSET; rows.len()];
-        let answer = book_batch(book, &buffer, &rows, &mut answers);
-        assert_eq!(answer, yes(rows.len(), 0));
-        all.extend(
-            answers
-                .chunks(5)
-                .map(|five| [five[0], five[1], five[2], five[3], five[4]]),
-        );
-    }
-    all
 }
 
 /// Any head.

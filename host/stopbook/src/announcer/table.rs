@@ -11,7 +11,7 @@ use crate::names::{self, Bad};
 use crate::outcome::{Failure, Streams};
 use crate::reading;
 use crate::text::{counted, named};
-use mistrogu::{BookKind, Refusal, RouteRefused};
+use mistrogu::{Refusal, RouteRefused};
 use std::ffi::OsStr;
 
 /// So much of a text of clips is read, and no more.
@@ -36,29 +36,18 @@ pub fn open(
         Ok(_) => Ok((book, clips)),
         Err(RouteRefused { refusal, .. }) => {
             let (names, has) = (counted(book.names(), "name"), counted(clips.len(), "clip"));
-            let (kind, book) = (book.kind(), book.source());
+            let (kind, book) = (book.kind().name(), book.source());
             Err(Failure::refused(match refusal {
                 Refusal::BadClipTable => format!(
                     "{source} has {has}, and {book} has {names}; give one clip for each name, \
                      in the order of `stopbook list`"
                 ),
                 Refusal::NoBook => format!(
-                    "{book} is a {} book, and the announcer takes plain and folded ones; {}",
-                    kind.name(),
-                    way_to_plain(kind)
+                    "{book} is a {kind} book, and the announcer takes plain and folded ones; \
+                     stopbook convert makes a plain book of a column book"
                 ),
                 other => format!("{book}: {other}"),
             }))
-        }
-    }
-}
-
-/// How to have a plain book in the place of one of this kind.
-fn way_to_plain(kind: BookKind) -> &'static str {
-    match kind {
-        BookKind::Columns => "stopbook convert makes a plain book of a column book",
-        BookKind::Plain | BookKind::Folded | BookKind::Thin => {
-            "stopbook build makes a plain one from its names"
         }
     }
 }

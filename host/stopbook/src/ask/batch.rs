@@ -147,7 +147,7 @@ fn tell(
         }
         (Style::Sentences(limit), Ok(reply)) => {
             let text = sentence::tell(book, question, reply, limit, streams.light)?;
-            let looked = sentence::tell_looked(book, looked);
+            let looked = sentence::tell_looked(looked);
             write!(streams.out, "line {}: {text}{looked}", grouped(number))?;
         }
         (Style::Sentences(_), Err(_)) => {}

@@ -111,7 +111,7 @@ fn ask_one(book: &mut Book, question: &Question, form: Form, streams: &mut Strea
     let reply = reply.map_err(|refusal| sentence::refusal(book, question, refusal))?;
     if let Style::Sentences(limit) = form.style {
         let mut text = sentence::tell(book, question, &reply, limit, streams.light)?;
-        text.push_str(&sentence::tell_looked(book, looked));
+        text.push_str(&sentence::tell_looked(looked));
         streams.out.write_all(text.as_bytes())?;
     }
     Ok(question::status(&reply))

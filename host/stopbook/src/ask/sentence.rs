@@ -30,15 +30,12 @@ pub fn tell(
     }
 }
 
-/// Tells how far a question to this book looked, in a line that goes behind its answer;
-/// nothing where that is not asked for. Of a thin book it is not known.
-pub fn tell_looked(book: &Book, looked: Option<Looked>) -> String {
+/// Tells how far a question looked, in a line that goes behind its answer; nothing
+/// where that is not told.
+pub fn tell_looked(looked: Option<Looked>) -> String {
     let Some(Looked { visits, entries }) = looked else {
         return String::new();
     };
-    if book.kind() == BookKind::Thin {
-        return "  how far it looked is not counted in a thin book\n".to_string();
-    }
     let nodes = counted(visits, "node");
     let entries = match entries {
         1 => "1 entry".to_string(),
@@ -64,7 +61,7 @@ pub fn refusal(book: &Book, question: &Question, refusal: Refusal) -> Failure {
 fn tell_stop(book: &mut Book, text: &[u8], position: usize) -> Result<String, Failure> {
     let spelt = match book.kind() {
         // No name is read for it: it is the question.
-        BookKind::Plain | BookKind::Columns | BookKind::Thin => String::new(),
+        BookKind::Plain | BookKind::Columns => String::new(),
         BookKind::Folded => match book.name(position)? {
             name if name == text => String::new(),
             name => format!(", spelt {}", shown(name)),

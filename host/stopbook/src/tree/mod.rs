@@ -13,7 +13,6 @@ use crate::outcome::{Failure, Outcome, Status, Streams};
 use crate::text::grouped;
 use crate::{help, Command};
 use branches::Tree;
-use mistrogu::BookKind;
 use std::ffi::OsStr;
 
 /// The command.
@@ -43,9 +42,7 @@ fn run(words: &Words, streams: &mut Streams) -> Outcome {
     if let Some(output) = output {
         files::spare_input(path, output)?;
     }
-    let mut book = Book::open(path)?;
-    refuse_thin(&book)?;
-    let tree = Tree::of(&mut book, limit)?;
+    let tree = Tree::of(&mut Book::open(path)?, limit)?;
     let drawing = draw(&tree);
     match output {
         None => streams.out.write_all(drawing.as_bytes())?,
@@ -53,18 +50,6 @@ fn run(words: &Words, streams: &mut Streams) -> Outcome {
     }
     tell_left_out(&tree, streams);
     Ok(Status::Done)
-}
-
-/// Refuses a thin book, which has no tree to draw.
-fn refuse_thin(book: &Book) -> Result<(), Failure> {
-    if book.kind() != BookKind::Thin {
-        return Ok(());
-    }
-    let source = book.source();
-    Err(Failure::refused(format!(
-        "{source} is a thin book, which has no node table to draw; stopbook build makes a \
-         plain one from its names"
-    )))
 }
 
 /// A way to draw a tree.

@@ -9,7 +9,7 @@ use model::BookKind;
 /// How many leading bytes two names share in a book of this kind.
 pub fn shared(kind: BookKind, one: &[u8], other: &[u8]) -> usize {
     let is_same = |(one, other): &(&u8, &u8)| match kind {
-        BookKind::Plain | BookKind::Columns | BookKind::Thin => one == other,
+        BookKind::Plain | BookKind::Columns => one == other,
         BookKind::Folded => one.eq_ignore_ascii_case(other),
     };
     one.iter().zip(other).take_while(is_same).count()
@@ -44,12 +44,8 @@ pub fn hold_nearest(
 }
 
 /// Visits and entries of a question to the names of a book of this kind, with blocks
-/// of so many: no tree is there, but a run of names that gets shorter. A thin book
-/// tells of none.
+/// of so many: no tree is there, but a run of names that gets shorter.
 pub fn look(kind: BookKind, block: usize, names: &[Vec<u8>], question: &[u8]) -> [usize; 2] {
-    if kind == BookKind::Thin {
-        return [0, 0];
-    }
     let mut run = 0..names.len();
     let mut visits = usize::from(!run.is_empty());
     while run.len() > 1 {

@@ -1,3 +1,0 @@
--- Laws of what is noted.
-pub mod Noting
-pub mod Running
