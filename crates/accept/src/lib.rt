@@ -1,5 +1,7 @@
 // Whether bytes are a book of the kind that their mark tells: the trailer's numbers, then a walk over the entries, then one over the table,
 // which goes by its form.
+#![tactic(auto)]
+
 ghost use Rattle.std.specs.Prelude.{◌≡◌, ◌-◌, length};
 ghost use Rattle.format.specs.Book.{opened, told, trailer_size};
 ghost use Rattle.format.specs.Outcomes.{check_of};
@@ -9,7 +11,7 @@ ghost use Rattle.accept.specs.Parts.{Framed, FramedSays, PartsSay, check_on, che
 use symbols::Rule;
 
 // A book, and what its trailer tells, which no one need read again; or that the bytes are no book.
-#[derive(Drop)]
+#[derive(Clone, Copy)]
 pub enum Checked {
     Sound(trailer::Trailer),
     Unsound,

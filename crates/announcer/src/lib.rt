@@ -1,6 +1,8 @@
 // The announcer: a text becomes the clip that is spoken, a route a row of clips. It stands above the book and knows it by its public calls
 // alone; only the mark, which no call tells, it reads by itself. Its two calls ask nothing of their caller, like those of `book`, and each has
 // one statement. They are exported for C and Rust; a slice is a pointer and how many numbers stand there.
+#![tactic(auto)]
+
 ghost use Rattle.std.specs.Prelude.{◌≡◌, map, ◌<◌, get_or, length};
 ghost use Rattle.format.specs.Full.{is_full};
 ghost use Rattle.format.specs.Kinds.{kind_of};
@@ -15,14 +17,14 @@ ghost use Rattle.announcer.specs.Asking.{Hears, Inside, Told};
 use book::{Answer, Row};
 
 // What a batch of three rows gave, and its answer rows.
-#[derive(Drop)]
+#[derive(Clone, Copy)]
 pub struct Asked {
     pub answer: Answer,
     pub answers: [Answer; 3],
 }
 
 // What a book says of a text: 0 or 2; how many names there are; exact's and range's answer.
-#[derive(Drop)]
+#[derive(Clone, Copy)]
 pub struct Heard {
     pub code: usize,
     pub names: usize,

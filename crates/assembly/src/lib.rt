@@ -1,6 +1,8 @@
 // The book of a judged list, put together: its sizes, by counting, and then three writers, each on its own part of the room. What a kind of
 // book has of its own is its rule, its table and its mark. A table has as many records as there are nodes, whatever its form; only rows are
 // written here.
+#![tactic(auto)]
+
 ghost use Rattle.std.specs.Prelude.{◌≡◌, ◌≤◌, length};
 ghost use Rattle.format.specs.Book.{book};
 ghost use Rattle.format.specs.Outcomes.{over};
@@ -14,7 +16,7 @@ ghost use Rattle.assembly.specs.Whole.{BuildAsk, RecordCount, Sized, TablePut};
 use kinds::{Form, Kind};
 
 // Where the tables of a book begin, its number of nodes, and its length.
-#[derive(Drop)]
+#[derive(Clone, Copy)]
 pub struct Sizes {
     pub blocks: usize,
     pub nodes: usize,

@@ -1,5 +1,7 @@
 // How a batch opens, and what one of its rows gets: what a question alone would get, in the crate `questions`. Whoever asks for a row has to
 // know that the opening refused nothing, so that the check accepts the book; `book_batch` above asks nothing.
+#![tactic(auto)]
+
 ghost use Rattle.std.specs.Prelude.{◌≡◌};
 ghost use Rattle.format.specs.Book.{opened};
 ghost use Rattle.answers.specs.Calls.{row_answer};

@@ -1,5 +1,7 @@
 // The entries, block by block, and the block table: where each block begins. What neighbours share, and how long a name is, was noted when
 // the list was judged, so nothing is compared.
+#![tactic(auto)]
+
 ghost use Rattle.std.specs.Prelude.{◌≡◌, ◌∷◌, ◌++◌, ◌+◌, ◌≤◌, ◌<◌, length, take, drop};
 ghost use Rattle.records.specs.Lists.{names};
 ghost use Rattle.format.specs.Book.{block_part, entry_part};
@@ -17,7 +19,7 @@ fn count_of(counts: &[u8], lo: usize, i: usize) -> usize
 }
 
 // A block: the size of its entries, and where the record after its names begins.
-#[derive(Drop)]
+#[derive(Clone, Copy)]
 pub struct Block {
     pub size: usize,
     pub next: usize,
@@ -29,7 +31,7 @@ fn put_entry(list: &[u8], from: usize, c: usize, rest: usize, part: &mut [u8])
     ensures { part.new ≡ c ∷ rest ∷ take rest (drop from list.now) }
 {
     let to = from + rest;
-    bytes::copy(&list[from..to], &mut part[2..]);
+    numbers::copy(&list[from..to], &mut part[2..]);
     part[0] = c as u8;
     part[1] = rest as u8;
 }
@@ -97,7 +99,7 @@ pub fn write_blocks(
 }
 
 // How many blocks there are, and the size of all entries.
-#[derive(Drop)]
+#[derive(Clone, Copy)]
 pub struct Survey {
     pub count: usize,
     pub size: usize,

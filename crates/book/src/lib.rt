@@ -2,6 +2,8 @@
 // one statement: its answer and all that was lent, as they are when it ends, equal a function of what came in. They are exported for C
 // and Rust; a slice is a pointer and a length. A call over a book goes by the book's own mark. Inner
 // functions, which may ask something, stand in the crates below.
+#![tactic(auto)]
+
 ghost use Rattle.std.specs.Prelude.{◌≡◌, map};
 ghost use Rattle.format.specs.Kinds.{ColumnBook, FoldedBook, PlainBook};
 ghost use Rattle.answers.specs.Calls.{batch, build, check, read_back};

@@ -1,5 +1,7 @@
 // How a program asks a batch: a local that holds a slice of rows is walked by hand, and this function is the only one that has it.
 // Whoever calls it passes and gets plain data.
+#![tactic(auto)]
+
 ghost use Rattle.std.specs.Prelude.{◌≡◌, map, ◌≤◌, drop, take};
 ghost use Rattle.answers.specs.Calls.{batch};
 ghost use Rattle.shapes.specs.Shapes.{answered, row_of, batched};
@@ -7,7 +9,7 @@ ghost use Rattle.shapes.specs.Shapes.{answered, row_of, batched};
 use book::{Answer, Row};
 
 // What a batch gave, and the answer rows afterwards.
-#[derive(Drop)]
+#[derive(Clone, Copy)]
 pub struct Ran {
     pub answer: Answer,
     pub answers: [Answer; 65],

@@ -1,5 +1,7 @@
 // Building a book from a list: it is judged; then come the sizes, so that nothing is written before it is known that all of it fits; and then
 // the book is put together (crate `assembly`).
+#![tactic(auto)]
+
 ghost use Rattle.std.specs.Prelude.{◌≡◌, true};
 ghost use Rattle.format.specs.Records.{most_names, read_list};
 ghost use Rattle.answers.specs.Calls.{build};
@@ -13,7 +15,7 @@ ghost use Rattle.build.specs.Ends.{built_of, shown_built};
 use kinds::Kind;
 
 // How the building of a judged list ends.
-#[derive(Drop)]
+#[derive(Clone, Copy)]
 pub enum Built {
     // A book of so many bytes.
     Written(usize),

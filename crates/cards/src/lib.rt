@@ -1,6 +1,8 @@
 // The map of a worn card, and the verdict on each of its blocks: document 02, 'Books from a worn card'. The trailer and the block table are
 // judged first, and no node record is looked at. Then each block is judged alone, by the function that the check of a book uses, from its
 // own bytes and the number of its names.
+#![tactic(auto)]
+
 ghost use Rattle.std.specs.Prelude.{◌≡◌, true, ◌≤◌, get_or, length};
 ghost use Rattle.format.specs.Book.{told};
 ghost use Rattle.format.specs.Salvage.{Broken, block_count, bounds, from_zero, mapped};
@@ -14,7 +16,7 @@ use shapes::Kept;
 use symbols::Rule;
 
 // A block's span, and how many names it should have.
-#[derive(Drop)]
+#[derive(Clone, Copy)]
 pub struct Span {
     pub start: usize,
     pub end: usize,

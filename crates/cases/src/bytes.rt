@@ -57,7 +57,7 @@ pub fn fill(room: &mut [u8]) {
 }
 
 // A checksum: two sums modulo 65,521.
-#[derive(Drop)]
+#[derive(Clone, Copy)]
 pub struct Sums {
     // of 1 and the numbers
     pub numbers: usize,

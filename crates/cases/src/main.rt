@@ -1,5 +1,7 @@
 // Runs the cases that the second program wrote and prints what the proved calls give: one line for a case. The gate holds the lines to
 // the file `stdout`, which the second program wrote too. Each set of cases has a file and a module here.
+#![tactic(auto)]
+
 mod asking;
 mod batching;
 mod building;

@@ -10,7 +10,7 @@ const HEAD: usize = 28;
 const LONGEST_ROOM: usize = 70000;
 
 // How many records of either list have been passed.
-#[derive(Drop)]
+#[derive(Clone, Copy)]
 struct Passed {
     first: usize,
     second: usize,

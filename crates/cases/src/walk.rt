@@ -6,7 +6,7 @@ use crate::places::Place;
 use crate::{asking, batching, building, bytes, checking, merging, places, reading};
 
 // What the cases of a file call.
-#[derive(Drop)]
+#[derive(Clone, Copy)]
 pub enum Call {
     Build,
     BuildFolded,

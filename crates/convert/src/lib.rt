@@ -1,5 +1,7 @@
 // A book turned into one of another kind: the same names in the same blocks, and the node table in its other form. All before the table is
 // copied, the table is turned, and the trailer is written with the other mark. One function serves both ways.
+#![tactic(auto)]
+
 ghost use Rattle.std.specs.Prelude.{◌≡◌, ◌≤◌, ◌<◌, length};
 ghost use Rattle.format.specs.Book.{book as book_of, names_of};
 ghost use Rattle.format.specs.Outcomes.{over};
@@ -12,7 +14,7 @@ use kinds::{Form, Kind};
 use shapes::Answer;
 
 // How a table is turned: so many rows of so many numbers, and how far apart the numbers of a row stand.
-#[derive(Drop)]
+#[derive(Clone, Copy)]
 pub struct Turn {
     pub rows: usize,
     pub inner: usize,
@@ -49,7 +51,7 @@ fn write_other(book: &[u8], t: trailer::Trailer, kind: Kind, room: &mut [u8])
     let total = book.len();
     let end = total - trailer::SIZE;
     let turn = turn_to(kind, m);
-    bytes::copy(&book[0..nodes], room);
+    numbers::copy(&book[0..nodes], room);
     turning::turn_table(
         book,
         nodes,

@@ -1,5 +1,7 @@
 // How many nodes a list has, before any is written: the writer's own walk over the names from the last, with the depths of the open nodes
 // and no record.
+#![tactic(auto)]
+
 ghost use Rattle.std.specs.Prelude.{◌≡◌, ◌<◌, length, get_or};
 ghost use Rattle.counting.specs.Counting.{CountAsk, NodeCount, StaysOpen};
 

@@ -1,17 +1,19 @@
 // The entries of a book, read. What an entry stores is counted in bytes, under every rule.
 // No list of the names is kept: a name is read from the one before it, into the same array.
+#![tactic(auto)]
+
 ghost use Rattle.std.specs.Prelude.{◌≡◌, ◌+◌, ◌≤◌, length, take};
 ghost use Rattle.streams.specs.Streams.{EntryAt};
 ghost use Rattle.entries.specs.Reading.{NameIs, NameRead, ReadAsk};
 
 // Where an entry stands.
-#[derive(Drop)]
+#[derive(Clone, Copy)]
 pub struct Cursor {
     pub at: usize,
 }
 
 // A name that was rebuilt, the place of the next entry, and how many entries were read for it.
-#[derive(Drop)]
+#[derive(Clone, Copy)]
 pub struct Entry {
     pub name: [u8; 200],
     pub len: usize,
@@ -20,7 +22,7 @@ pub struct Entry {
 }
 
 // How long the name is that was read into a lent array, and the place of the next entry.
-#[derive(Drop)]
+#[derive(Clone, Copy)]
 pub struct Ahead {
     pub len: usize,
     pub next: Cursor,
@@ -38,7 +40,7 @@ impl Cursor {
         let n = numbers::wide(book[at + 1]);
         let from = at + 2;
         let to = from + n;
-        bytes::copy(&book[from..to], &mut name[c..]);
+        numbers::copy(&book[from..to], &mut name[c..]);
         Ahead {
             len: c + n,
             next: Cursor { at: to },

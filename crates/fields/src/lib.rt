@@ -1,6 +1,8 @@
 // A node's record in a book: its numbers, read one by one, and all of them written. How many bytes it has, and where in it a number
 // stands, is known here and nowhere else. A record that is read is told by where its first number stands, and by how far it is from one of
 // its numbers to the next.
+#![tactic(auto)]
+
 ghost use Rattle.std.specs.Prelude.{◌≡◌, ◌<◌, suc, get_or, length};
 ghost use Rattle.format.specs.Book.{numbers};
 ghost use Rattle.format.specs.Nodes.{field_count, node_size, fields};
@@ -18,7 +20,7 @@ pub const STEP: usize = 2;
 pub const NODES: usize = 4;
 
 // A node's numbers, in the record's order.
-#[derive(Drop)]
+#[derive(Clone, Copy)]
 pub struct Node {
     pub symbol: usize,
     pub depth: usize,

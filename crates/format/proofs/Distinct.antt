@@ -25,6 +25,7 @@ use Rattle.format.proofs.Records.{encode-append, rising-rises}
 
 pub distinct-has : {z : Bytes} (xs : List Bytes) → Among z xs → Among z (distinct xs)
 unfolding distinct
+distinct-has {z = z} [] x' = elim x' [ ]
 distinct-has (x ∷ xs) (here e) = here e
 distinct-has {z} (x ∷ xs) (there m) = go (same x z) refl (distinct-has xs m)
   where

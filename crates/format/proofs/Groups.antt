@@ -296,15 +296,15 @@ deeper d w v (u ∷ vs) (rise p (cons h a) (rise q b r)) (cons l c) (cons e s) =
 abbrev pub Few : ℕ → Type 0
 Few f = (i s : ℕ) (w : List ℕ) (g : Words) → Rises (w ∷ g) → length (w ∷ g) ≤ f → suc (length (table_within f i s (w ∷ g))) ≤ 2 * length (w ∷ g)
 
-rows_few : (f : ℕ) → Few f → (i d : ℕ) (gs : List Words) → PartedGroups d gs → Rises (joined_groups gs) → Short f gs
+rows_few : (f : ℕ) → Few f → (d i : ℕ) (gs : List Words) → PartedGroups d gs → Rises (joined_groups gs) → Short f gs
     → length (row_within f i d gs) + length gs ≤ 2 * length (joined_groups gs)
 unfolding row_by
-rows_few f few i d gs whole r a = omega arith
-rows_few f few i d gs (part {w = w} {g = g} {gs = hs} s u p) r (cons l a) =
+rows_few f few d i gs whole r a = omega arith
+rows_few f few d i gs (part {w = w} {g = g} {gs = hs} s u p) r (cons l a) =
     omega (
       arith,
       few i (at w d) w g (rises-left (w ∷ g) (joined_groups hs) r) l,
-      rows_few f few (i + length (w ∷ g)) d hs p (rises-right (w ∷ g) (joined_groups hs) r) a,
+      rows_few f few d (i + length (w ∷ g)) hs p (rises-right (w ∷ g) (joined_groups hs) r) a,
       length-append (table_within f i (at w d) (w ∷ g)) (row_within f (i + length (w ∷ g)) d hs),
       length-append (w ∷ g) (joined_groups hs),
     )
@@ -324,7 +324,7 @@ within-few (suc f) i s w (v ∷ vs) r l =
     let c = children w v vs r in
     omega (
       arith,
-      rows_few f (within-few f) i d (groups d (w ∷ v ∷ vs)) c.parted c.rises (shorter _ (le_of_suc-le-suc l) c.small),
+      rows_few f (within-few f) d i (groups d (w ∷ v ∷ vs)) c.parted c.rises (shorter _ (le_of_suc-le-suc l) c.small),
       two-groups d w v vs (groups d (w ∷ v ∷ vs)) c.parted c.all c.small,
       ap length c.all,
     )
@@ -339,7 +339,7 @@ row-few i d ws r =
     let e : joined_groups (groups d ws) ≡ ws = joined-groups d ws in
     omega (
       arith,
-      rows_few (length ws) (within-few (length ws)) i d (groups d ws) (groups-parted d ws r.climbs) (subst Rises (sym e) r.rises)
+      rows_few (length ws) (within-few (length ws)) d i (groups d ws) (groups-parted d ws r.climbs) (subst Rises (sym e) r.rises)
           (short (length ws) (groups d ws) (omega (arith, ap length e))),
       ap length e,
     )

@@ -174,6 +174,7 @@ module _ (ρ : Rule) where
 
   pub among-left : {z : Bytes} (xs ys : List Bytes) → Among z xs → Among z (merged ρ xs ys)
   unfolding merged
+  among-left {z = z} [] ys x' = elim x' [ ]
   among-left (x ∷ xs) ys (here e) = Memᴰ.append_right (below ρ x ys) (here e)
   among-left (x ∷ xs) ys (there m) = Memᴰ.append_right (below ρ x ys) (there (among-left xs (above ρ x ys) m))
 

@@ -43,16 +43,16 @@ unfolding all_fields
 fields-append [] ss = refl
 fields-append (r ∷ rs) ss = ap (λ (l : List ℕ). fields r ++ l) (fields-append rs ss)
 
-row_small : (f : ℕ) → SmallTable f → (i d : ℕ) (gs : List Words) → PartedGroups d gs → Rises (joined_groups gs) → All Modest (joined_groups gs) → Short f gs
+row_small : (f : ℕ) → SmallTable f → (d i : ℕ) (gs : List Words) → PartedGroups d gs → Rises (joined_groups gs) → All Modest (joined_groups gs) → Short f gs
     → i + length (joined_groups gs) ≤ 2000 → Two (all_fields (row_within f i d gs))
 unfolding row_by all_fields
-row_small f small i d gs whole r a t n = nil
-row_small f small i d gs (part {w = w} {g = g} {gs = hs} e u p) r a (cons l t) n =
+row_small f small d i gs whole r a t n = nil
+row_small f small d i gs (part {w = w} {g = g} {gs = hs} e u p) r a (cons l t) n =
     subst Two (sym (fields-append (table_within f i (at w d) (w ∷ g)) (row_within f (i + length (w ∷ g)) d hs)))
     (all_append
     (small i (at w d) (w ∷ g) (rises-left (w ∷ g) (joined_groups hs) r) (all_left (w ∷ g) (joined_groups hs) a) l
     (omega (arith, length-append (w ∷ g) (joined_groups hs))) ((all_head a).symbols d))
-    (row_small f small (i + length (w ∷ g)) d hs p (rises-right (w ∷ g) (joined_groups hs) r) (all_right (w ∷ g) (joined_groups hs) a) t
+    (row_small f small d (i + length (w ∷ g)) hs p (rises-right (w ∷ g) (joined_groups hs) r) (all_right (w ∷ g) (joined_groups hs) a) t
     (omega (arith, length-append (w ∷ g) (joined_groups hs)))))
 
 within-small : (f : ℕ) → SmallTable f
@@ -73,7 +73,7 @@ within-small (suc f) i s (w ∷ v ∷ vs) r (cons m a) l n h =
     (cons {a = length (w ∷ v ∷ vs)} (omega arith)
     (cons {a = suc (length row)} (omega arith)
     (cons {a = widest (w ∷ v ∷ vs)} (omega (arith, widest-low longest (all_map (λ x k. k.short) (cons m a))))
-    (row_small f (within-small f) i d (groups d (w ∷ v ∷ vs)) c.parted c.rises (subst (All Modest) (sym c.all) (cons m a))
+    (row_small f (within-small f) d i (groups d (w ∷ v ∷ vs)) c.parted c.rises (subst (All Modest) (sym c.all) (cons m a))
     (shorter _ (le_of_suc-le-suc l) c.small) (omega (arith, ap length c.all))))))))
 
 pub table-small : (ws : Words) → Rises ws → All Modest ws → length ws ≤ 2000 → Two (all_fields (table ws))

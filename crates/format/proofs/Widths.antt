@@ -41,7 +41,7 @@ widest-found (w ∷ v ∷ vs) h = go (widest-found (v ∷ vs) (omega arith)) (ap
     go l (inl a) = record { index = suc l.index; within = omega (arith, l.within); is = omega (arith, l.is) }
     go l (inr a) = record { index = 0; within = omega arith; is = omega arith }
 
-pub widest-low : {ws : Words} (n : ℕ) → All (λ w. length w ≤ n) ws → widest ws ≤ n
+pub widest-low : (n : ℕ) {ws : Words} → All (λ w. length w ≤ n) ws → widest ws ≤ n
 unfolding widest
 widest-low n nil = omega arith
 widest-low n (cons l a) = omega (arith, widest-low n a)

@@ -1,5 +1,7 @@
 // The nodes that are open while the node table is written, as one row of bytes, six a frame: a frame's numbers are read, one frame more is
 // put on top, and a frame gets names more. Which nodes these are is for `nodes` to say.
+#![tactic(auto)]
+
 ghost use Rattle.std.specs.Prelude.{◌≡◌, ◌+◌, ◌*◌, ◌<◌, length};
 ghost use Rattle.frames.specs.Frames.{PushAsk, RaiseAsk, depth_in, end_in, frame_count, frame_size, mark_in, raised, width_in, with_frame};
 
@@ -12,7 +14,7 @@ pub const FRAMES: usize = 203;
 
 // What is left open when a name is written: the number of the top frame, how many records there are, and of the node that begins
 // with the name where its names end, how many records stand behind it and the greatest length of its names.
-#[derive(Drop)]
+#[derive(Clone, Copy)]
 pub struct LeftOpen {
     pub top: usize,
     pub count: usize,

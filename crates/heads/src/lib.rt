@@ -1,5 +1,7 @@
 // The heads of two lists of names that read well. A list is gone through by the offset of its next record; the lesser of two heads is found
 // by the comparison of names that all others use, and nothing is kept of a name but where it stands.
+#![tactic(auto)]
+
 ghost use Rattle.std.specs.Prelude.{◌≡◌, ◌+◌, ◌<◌, get_or, length};
 ghost use Rattle.format.specs.Alone.{BothRead};
 ghost use Rattle.answers.specs.Heads.{head_of};
@@ -12,7 +14,7 @@ use symbols::Rule;
 
 // The lesser of two heads: whether it stands in the second list, where its record begins and how many bytes that has; and where either
 // list goes on behind it.
-#[derive(Drop)]
+#[derive(Clone, Copy)]
 pub struct Next {
     pub second: bool,
     pub from: usize,
@@ -71,7 +73,7 @@ pub fn no_head() -> Head
 }
 
 // Which of two names is the lesser.
-#[derive(Drop)]
+#[derive(Clone, Copy)]
 pub enum Lesser {
     First,
     Second,

@@ -1,6 +1,8 @@
 // The check of a node table. It holds no name: the walk over the entries, which comes first, has judged them. What one record says is looked
 // at in `looks`; here is how nodes stand in rows, and the whole table. A node is told by the offset of its first number; the next node
 // stands `stride` bytes further on, and a node's next number `step` bytes.
+#![tactic(auto)]
+
 ghost use Rattle.std.specs.Prelude.{◌≡◌};
 ghost use Rattle.standing.specs.Maps.{record_at};
 ghost use Rattle.inspect.specs.Check.{NodeAsk, NodeSays, TableAsk, is_nodes};

@@ -1,4 +1,6 @@
 // Two lists of names are judged, the first before the second. Each is judged by the loop that judges a list for a book.
+#![tactic(auto)]
+
 ghost use Rattle.std.specs.Prelude.{◌≡◌};
 ghost use Rattle.format.specs.Alone.{read_alone};
 ghost use Rattle.answers.specs.Merging.{judge_lists};

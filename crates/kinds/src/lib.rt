@@ -1,6 +1,8 @@
 // The kinds of book as the code has them: the rule, the form of table and the mark of each. What varies from kind to kind is asked for
 // here, so a new kind is one arm more in each of these functions. A new form is one arm more in those that go by a form, where the trailer
 // tells how far apart a table's numbers stand, and where a table is written or turned. Check and search have no arms.
+#![tactic(auto)]
+
 ghost use Rattle.std.specs.Prelude.{◌≡◌, ◌≤◌};
 ghost use Rattle.format.specs.Full.{is_full};
 ghost use Rattle.format.specs.Kinds.{all_kinds, form_of, marked_as, record_size};
@@ -11,7 +13,7 @@ ghost use Rattle.kinds.specs.Known.{MarkSays, form_by, kind_by, kind_for, mark_b
 use symbols::Rule;
 
 // The kind of a book.
-#[derive(Drop)]
+#[derive(Clone, Copy)]
 pub enum Kind {
     // Document 01's own.
     Plain,
@@ -22,7 +24,7 @@ pub enum Kind {
 }
 
 // What stands between the block table and the trailer.
-#[derive(Drop)]
+#[derive(Clone, Copy)]
 pub enum Form {
     // Node records, one behind the other.
     Rows,

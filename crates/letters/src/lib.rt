@@ -1,4 +1,6 @@
 // What can be lit of a question: document 02, CR 3. A character may have several bytes, and the highlight does not end between them.
+#![tactic(auto)]
+
 ghost use Rattle.std.specs.Prelude.{◌≡◌};
 ghost use Rattle.answers.specs.Lit.{in_character, lit};
 

@@ -1,5 +1,7 @@
 // Runs the listing where `list_book` does not, and the gate holds what it prints to the file `stdout`: bytes that are no book, a book
 // without names, a book of names with bytes that are escaped, a folded book, whose counts are of bytes, and a book by columns.
+#![tactic(auto)]
+
 ghost use Rattle.std.specs.Prelude.{◌≡◌, ◌≤◌, length};
 
 // Builds a book of either kind.

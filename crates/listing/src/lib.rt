@@ -2,6 +2,8 @@
 // The book is checked once, by `accept::check_book`; then each name is read by `names::read_name`, which trusts what the check has
 // shown. What an entry stores is not told with its name, so the stored count is made of the name before: it is a count of bytes in every
 // book, and by the plain rule symbols are equal just where bytes are.
+#![tactic(auto)]
+
 ghost use Rattle.std.specs.Prelude.{ℕ, ◌<◌};
 ghost use Rattle.names.specs.Names.{PositionAsk};
 

@@ -1,6 +1,8 @@
 // What one look at a node's record says. It holds no name: the entries are judged, so an entry tells what its name shares with the one
 // before it, and a symbol that a record tells stands in the rest of the entry at hand. A node is told by the offset of its first number; the
 // next node stands `stride` bytes further on, and a node's next number `step` bytes.
+#![tactic(auto)]
+
 ghost use Rattle.std.specs.Prelude.{◌≡◌, ◌+◌, ◌-◌, ◌≤◌, eqb, length, get_or};
 ghost use Rattle.words.specs.Words.{at, word};
 ghost use Rattle.format.specs.Kinds.{rule_in};

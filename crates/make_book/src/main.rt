@@ -1,5 +1,7 @@
 // The building program: list records on standard input, at most 65,536 bytes, and their book with blocks of 16 names on standard output.
 // Whatever is wrong is one line on standard error, and standard output then stays empty. The work is done by `book::book_build`.
+#![tactic(auto)]
+
 use libc::{STDERR_FILENO, STDIN_FILENO, STDOUT_FILENO};
 
 // `refused`, the number and the record.

@@ -1,4 +1,6 @@
 // Two lists of names that read well become one. One loop goes over them from head to head, which `heads` finds; it counts, and it writes.
+#![tactic(auto)]
+
 ghost use Rattle.std.specs.Prelude.{◌≡◌};
 ghost use Rattle.format.specs.Alone.{BothRead};
 ghost use Rattle.answers.specs.Merging.{merge_lists};
@@ -8,7 +10,7 @@ ghost use Rattle.merge.specs.Joining.{MergeAsk, MergedInto};
 use shapes::Answer;
 
 // How many names a merged list has, and how many bytes its records take.
-#[derive(Drop)]
+#[derive(Clone, Copy)]
 pub struct Tally {
     pub names: usize,
     pub bytes: usize,

@@ -1,4 +1,6 @@
 // A name read back from a book, from the start of its block on.
+#![tactic(auto)]
+
 ghost use Rattle.std.specs.Prelude.{◌≡◌, [], ◌/◌, ◌%◌, get_or};
 ghost use Rattle.format.specs.Book.{names_of, told};
 ghost use Rattle.names.specs.Names.{Named, PlaceAsk, PositionAsk, Put, entries_to};
@@ -57,6 +59,6 @@ pub fn put_name(book: &[u8], t: trailer::Trailer, position: usize, room: &mut [u
     if room.len() < len {
         return 0;
     }
-    bytes::copy(&name[0..len], room);
+    numbers::copy(&name[0..len], room);
     len
 }

@@ -1,6 +1,8 @@
 // What a name of a book shares with the name before it, from the entries alone, once they are judged. The stored count says how many bytes
 // it is, but of a block's first name, which is stored whole; names that part in bytes can go on in the same symbols. Where the count does
 // not say it, a name is held to the names before it in their block, entry by entry, and no name is rebuilt.
+#![tactic(auto)]
+
 ghost use Rattle.std.specs.Prelude.{◌≡◌, ◌+◌, ◌-◌, ◌*◌, ◌<◌, ◌≤◌, get_or, length};
 ghost use Rattle.symbols.specs.Rules.{rule_by};
 ghost use Rattle.symbols.specs.declared.Rule.TheVariants.{Folded, Plain};

@@ -3,6 +3,8 @@
 // of open nodes (`frames`) does it, whatever the depth of the tree. In a room that is too short it only counts. Of a name the writer takes
 // the bytes from number `skip` on: those that the name shares with the one before it lead to no node that begins with it. Only
 // `write_nodes` knows that they stand in a list.
+#![tactic(auto)]
+
 ghost use Rattle.std.specs.Prelude.{◌≡◌, suc, pred, ◌+◌, ◌-◌, ◌<◌, ◌≤◌, length, get_or};
 ghost use Rattle.words.specs.Words.{word};
 ghost use Rattle.symbols.specs.Rules.{rule_by};

@@ -1,5 +1,7 @@
 // Yes or no for each of up to 2,000 numbers, in 250 bytes that a caller lends. Numbers are noted in rising order, so a number's bit is 0
 // until it is noted, and adding sets it.
+#![tactic(auto)]
+
 ghost use Rattle.std.specs.Prelude.{◌≡◌, ◌<◌, length};
 ghost use Rattle.notes.specs.Notes.{NoteMade, Noting, note_size, noted};
 

@@ -105,7 +105,7 @@ lent-front p out xs room ys a k r e h y l =
 
 -- ---- bytes that were copied
 
--- what the kit's `bytes::copy` says of the room dst afterwards
+-- what `numbers::copy` says of the room dst afterwards
 abbrev pub Copied : Bytes → Bytes → Bytes → Type 0
 Copied src dst out = out ≡ take (length src) src ++ drop (length src) dst
 

@@ -1,5 +1,7 @@
-// Numbers of one and two bytes, and the lesser and the greater of two numbers.
-ghost use Rattle.std.specs.Prelude.{◌≡◌, [], ◌∷◌, ◌*◌, ◌+◌, ◌<◌, ◌≤◌, min, max, length};
+// Numbers of one and two bytes, the lesser and the greater of two numbers, and a copy of bytes.
+#![tactic(auto)]
+
+ghost use Rattle.std.specs.Prelude.{◌≡◌, [], ◌∷◌, ◌*◌, ◌+◌, ◌++◌, ◌<◌, ◌≤◌, drop, min, max, length, take};
 ghost use Rattle.format.specs.Book.{number, numbers};
 
 // A byte as a wider number.
@@ -58,4 +60,12 @@ pub fn put_numbers(part: &mut [u8], ns: &[usize])
         put16(&mut part[a..b], ns[i]);
         i += 1;
     }
+}
+
+// Bytes at the front of a room, in which what lies behind them stays.
+pub fn copy(bytes: &[u8], room: &mut [u8])
+    requires { length bytes.now ≤ length room.old }
+    ensures { (length room.new ≡ length room.old) × (room.new ≡ take (length bytes.now) bytes.now ++ drop (length bytes.now) room.old) }
+{
+    room[..bytes.len()].copy_from_slice(bytes);
 }

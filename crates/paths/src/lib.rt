@@ -1,6 +1,8 @@
 // The way that a question takes down the node table of an accepted book: the nodes that it passes, kept by their offsets, and the highest of
 // them that is deep enough. A node is told by the offset of its first number; the next node stands `stride` bytes further on, and a node's
 // next number `step` bytes.
+#![tactic(auto)]
+
 ghost use Rattle.std.specs.Prelude.{◌≡◌};
 ghost use Rattle.format.specs.Book.{told};
 ghost use Rattle.format.specs.Kinds.{rule_in};
@@ -9,7 +11,7 @@ ghost use Rattle.fields.specs.Counts.{counts_in};
 ghost use Rattle.paths.specs.Paths.{AtNode, AtRow, DescentSays, HighestAt, OnPath, SoughtAt, WayOf, table_map};
 
 // The offsets of the nodes that a question passes from the root on, how many they are, and the last of them.
-#[derive(Drop)]
+#[derive(Clone, Copy)]
 pub struct Descent {
     pub path: [u16; 202],
     pub len: usize,
@@ -17,7 +19,7 @@ pub struct Descent {
 }
 
 // Where a question goes from a node: to a child, or no further.
-#[derive(Drop)]
+#[derive(Clone, Copy)]
 pub enum Way {
     Down(usize),
     Stay,

@@ -1,5 +1,7 @@
 // What the public calls stand on: a question to a book that the check has accepted.
 // Whoever asks here has to know what the check answered, but for `ask_alone`, which checks; the calls above ask nothing.
+#![tactic(auto)]
+
 ghost use Rattle.std.specs.Prelude.{◌≡◌};
 ghost use Rattle.format.specs.Spans.{words_in};
 ghost use Rattle.answers.specs.Counts.{counted_question};

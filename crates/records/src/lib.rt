@@ -3,6 +3,8 @@
 // symbols are compared, and the first that differs tells the order. What it learns on the way, each name's length and how many bytes and
 // how many symbols it shares with the name before, is noted for those who write the book, as far as there are places to note it.
 // And a record is put at its place in a room, where there is room for it.
+#![tactic(auto)]
+
 ghost use Rattle.std.specs.Prelude.{◌≡◌, ◌+◌, ◌≤◌, length};
 ghost use Rattle.symbols.specs.Rules.{rule_by};
 ghost use Rattle.records.specs.Lists.{Judged};
@@ -12,7 +14,7 @@ ghost use Rattle.records.specs.Putting.{RecordPut};
 use symbols::Rule;
 
 // What the reading of a list gives.
-#[derive(Drop)]
+#[derive(Clone, Copy)]
 pub enum Verdict {
     // So many names.
     Good(usize),
@@ -122,5 +124,5 @@ pub fn put_record(list: &[u8], from: usize, size: usize, room: &mut [u8], at: us
         return;
     }
     let to = from + size;
-    bytes::copy(&list[from..to], &mut room[at..]);
+    numbers::copy(&list[from..to], &mut room[at..]);
 }

@@ -1,5 +1,7 @@
 // The entries of one block, judged alone. What an entry stores is counted in bytes, under every rule; that names rise is asked of their
 // symbols.
+#![tactic(auto)]
+
 ghost use Rattle.std.specs.Prelude.{◌≡◌, ◌≤◌, length};
 ghost use Rattle.symbols.specs.Rules.{rule_by};
 ghost use Rattle.runs.specs.Judging.{BlockSays, EntrySays};
@@ -8,7 +10,7 @@ use entries::Cursor;
 use symbols::Rule;
 
 // Whether a block stands, and then how long its last name is.
-#[derive(Drop)]
+#[derive(Clone, Copy)]
 pub struct Last {
     pub ok: bool,
     pub len: usize,

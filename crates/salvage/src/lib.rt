@@ -1,5 +1,7 @@
 // What of damaged bytes can still be had: document 02, 'Books from a worn card'. Crate `cards` tells which blocks stand; their names go out
 // as list records.
+#![tactic(auto)]
+
 ghost use Rattle.std.specs.Prelude.{◌≡◌, true, ◌*◌, ◌+◌, ◌≤◌, get_or, length};
 ghost use Rattle.format.specs.Outcomes.{refused};
 ghost use Rattle.format.specs.Salvage.{Broken, mapped};
@@ -114,7 +116,7 @@ fn put_blocks(card: &[u8], notes: &[u8], room: &mut [u8]) -> usize
 }
 
 // How the saving of names ended: by 0, with so many bytes written and what was found of each block; or by the number of a refusal.
-#[derive(Drop)]
+#[derive(Clone, Copy)]
 pub struct Saved {
     pub code: usize,
     pub size: usize,

@@ -1,6 +1,8 @@
 // The five questions, asked of a book that the check has accepted: what was found in its node table (crate `spots`) gives the numbers of
 // each. A node is told by the offset of its first number; the next node stands `stride` bytes further on, and a node's next number `step`
 // bytes.
+#![tactic(auto)]
+
 ghost use Rattle.std.specs.Prelude.{◌≡◌};
 ghost use Rattle.format.specs.Spans.{words_in};
 ghost use Rattle.answers.specs.Questions.{ask, exact, nearest, place, range};
@@ -13,7 +15,7 @@ ghost use Rattle.search.specs.Asks.{KindAsk, pair_of};
 use spots::Spot;
 
 // An answer's two numbers, and how far the search looked.
-#[derive(Drop)]
+#[derive(Clone, Copy)]
 pub struct Reply {
     pub first: usize,
     pub second: usize,

@@ -1,6 +1,8 @@
 // What crosses the public calls: the answer that they give, the row of a batch that they take, the head of a list and the row of a
 // salvage's report. A part above the book that has one of them in its hands lists this crate beside `book`; so nothing here asks
 // anything of its caller.
+#![tactic(auto)]
+
 ghost use Rattle.std.specs.Prelude.{◌≡◌};
 ghost use Rattle.format.specs.Outcomes.{numbered};
 ghost use Rattle.answers.specs.Counts.{unlooked};
@@ -8,7 +10,7 @@ ghost use Rattle.shapes.specs.Shapes.{answered, counted};
 
 // 0 or the number of a refusal, and two numbers beside it.
 #[repr(C)]
-#[derive(Drop)]
+#[derive(Clone, Copy)]
 pub struct Answer {
     pub code: usize,
     pub first: usize,
@@ -29,7 +31,7 @@ pub fn refuse(code: usize, first: usize) -> Answer
 // What a single question gives: 0 or the number of a refusal, two numbers, and how far it looked: the nodes that it visited going down, and
 // the entries that were read to rebuild the one name compared.
 #[repr(C)]
-#[derive(Drop)]
+#[derive(Clone, Copy)]
 pub struct Counted {
     pub code: usize,
     pub first: usize,
@@ -53,7 +55,7 @@ pub fn look_at_nothing(code: usize) -> Counted
 
 // A question of a batch: its kind, and where it stands in the buffer.
 #[repr(C)]
-#[derive(Drop)]
+#[derive(Clone, Copy)]
 pub struct Row {
     pub kind: usize,
     pub start: usize,
@@ -62,7 +64,7 @@ pub struct Row {
 
 // The lesser of the heads of two lists: its list, 1 or 2, where its name begins there, behind the length byte, and the name's length.
 #[repr(C)]
-#[derive(Drop)]
+#[derive(Clone, Copy)]
 pub struct Head {
     pub list: usize,
     pub start: usize,
@@ -71,7 +73,7 @@ pub struct Head {
 
 // A row of a salvage's report: 1 and how many names were written where its block is kept; 0 and 0 where it is dropped.
 #[repr(C)]
-#[derive(Drop)]
+#[derive(Clone, Copy)]
 pub struct Kept {
     pub kept: usize,
     pub names: usize,

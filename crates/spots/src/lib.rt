@@ -3,6 +3,8 @@
 // looked: the nodes on the way, and the entries that were read for the name. A node is told by the offset of its first number; the next node
 // stands `stride` bytes further on, and a node's next number `step` bytes. What else the trailer tells is read there where it is wanted: what
 // would be kept for later takes registers from the way down.
+#![tactic(auto)]
+
 ghost use Rattle.std.specs.Prelude.{◌≡◌};
 ghost use Rattle.format.specs.Book.{told};
 ghost use Rattle.format.specs.Kinds.{rule_in};
@@ -14,7 +16,7 @@ ghost use Rattle.paths.specs.Paths.{table_map};
 ghost use Rattle.spots.specs.Spots.{Askable, Looked, MetSays, NameAsk, NearSays, SpotSays};
 
 // How a name stands to a question: how many symbols they share, and the name's next one; and the entries that were read for it.
-#[derive(Drop)]
+#[derive(Clone, Copy)]
 pub struct Met {
     pub shared: usize,
     pub symbol: usize,
@@ -23,7 +25,7 @@ pub struct Met {
 
 // The offset of the node whose names share most with a question, how many symbols, and the next one of the name that is reached; and how far
 // the search looked.
-#[derive(Drop)]
+#[derive(Clone, Copy)]
 pub struct Spot {
     pub node: usize,
     pub shared: usize,
@@ -33,14 +35,14 @@ pub struct Spot {
 }
 
 // The position that a question reaches, and the nodes that it visited.
-#[derive(Drop)]
+#[derive(Clone, Copy)]
 pub struct Goal {
     pub position: usize,
     pub visits: usize,
 }
 
 // The name that a question reaches: its position, how many symbols the two share, and its length; and how far the search looked.
-#[derive(Drop)]
+#[derive(Clone, Copy)]
 pub struct Near {
     pub position: usize,
     pub shared: usize,

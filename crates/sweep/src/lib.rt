@@ -1,6 +1,8 @@
 // Exact, place, range and width of a question by the plain rule, asked of a book whose entries are judged, by going through them in
 // order. No node table is looked at and no name is rebuilt: what the question shares with a name is counted on from what it shares with
 // the name before it. The names rise, so a walk stops at the place, or behind the names that begin with the question.
+#![tactic(auto)]
+
 ghost use Rattle.std.specs.Prelude.{◌≡◌, ◌≤◌, eqb, length};
 ghost use Rattle.words.specs.Words.{plain, word};
 ghost use Rattle.format.specs.Spans.{words_of};
@@ -12,14 +14,14 @@ ghost use Rattle.sweep.specs.Sweep.{RangeSays, SeatSays, StepAsk, SweepAsk, Wide
 use symbols::Rule;
 
 // How many symbols a name and the question share, and whether the name is less.
-#[derive(Drop)]
+#[derive(Clone, Copy)]
 pub struct Met {
     pub shared: usize,
     pub less: bool,
 }
 
 // The question's place. Where it is a name's: where that name's entry stands, what the name shares with the question, and its length.
-#[derive(Drop)]
+#[derive(Clone, Copy)]
 pub struct Seat {
     pub place: usize,
     pub at: usize,
@@ -28,7 +30,7 @@ pub struct Seat {
 }
 
 // The question's place, how many names begin with it, and the greatest length of these.
-#[derive(Drop)]
+#[derive(Clone, Copy)]
 pub struct Range {
     pub place: usize,
     pub names: usize,
@@ -36,7 +38,7 @@ pub struct Range {
 }
 
 // An answer's two numbers.
-#[derive(Drop)]
+#[derive(Clone, Copy)]
 pub struct Reply {
     pub first: usize,
     pub second: usize,

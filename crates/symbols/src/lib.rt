@@ -2,6 +2,8 @@
 // By which rule a byte has its symbol is taken along, and what it says is known here and nowhere below. Equal bytes have equal symbols
 // under every rule, so symbols are looked at only where bytes differ; under the plain rule bytes that differ have different symbols, in
 // the same order.
+#![tactic(auto)]
+
 ghost use Rattle.std.specs.Prelude.{◌≡◌, ◌-◌, ◌<◌, ◌≤◌, eqb, ltb};
 ghost use Rattle.words.specs.Words.{at, less, shared, word};
 ghost use Rattle.format.specs.Folded.{capital};
@@ -9,7 +11,7 @@ ghost use Rattle.symbols.specs.Rules.{rule_by};
 ghost use Rattle.symbols.specs.Parting.{Parted};
 
 // The rule that gives a byte its symbol.
-#[derive(Drop)]
+#[derive(Clone, Copy)]
 pub enum Rule {
     // One more than the byte.
     Plain,

@@ -193,7 +193,7 @@ example-associates =
 
 -- the first list is lent at block 1, the second at block 2
 abbrev lent : ℕ → ℕ → Bor Bytes
-lent block i = record { ref_ptr = (block, 0); ghost_name = block; now = list i }
+lent block i = record { ref_ptr = (block, 0); now = list i }
 
 -- both have Mar at their front: the bytes are the same, and they lie in the list that comes first
 pub example-swapped : part_of (lent 1 0) (lent 2 2) (head_of (list 0) (list 2) 0 0) ∷ part_of (lent 2 2) (lent 1 0) (head_of (list 2) (list 0) 0 0) ∷ [] ≡ ((1, 1), text "Mar") ∷ ((2, 1), text "Mar") ∷ []

@@ -1,6 +1,8 @@
 // Where a question ends in the tree of a book's names, which are gone through in order: of the tree only its right edge is kept, the forks that
 // are still open. Each has a depth, a first name, and the name where the question ends as far as the fork's finished children tell. No tree and
 // no second name is held.
+#![tactic(auto)]
+
 ghost use Rattle.std.specs.Prelude.{◌≤◌, length, ◌≡◌};
 ghost use Rattle.words.specs.Words.{plain, shared, word};
 ghost use Rattle.answers.specs.Questions.{reached};
@@ -10,7 +12,7 @@ ghost use Rattle.thin.specs.Frames.{CloseAsk, CloseSays, Ends, GrowAsk, GrowSays
 use symbols::Rule;
 
 // What is left when forks have ended: how many are still open; the first name of what ended last, and where the question ends in it.
-#[derive(Drop)]
+#[derive(Clone, Copy)]
 pub struct Closed {
     pub forks: usize,
     pub first: usize,

@@ -1,5 +1,7 @@
 // The trailer of a book: its numbers read, judged, and written. How many bytes it has, and where in it a number stands, is known here and
 // nowhere else. Who has checked a book hands its numbers on by value.
+#![tactic(auto)]
+
 ghost use Rattle.std.specs.Prelude.{◌≡◌, ◌<◌, ◌≤◌, length};
 ghost use Rattle.format.specs.Book.{told, trailer, trailer_size};
 ghost use Rattle.format.specs.Kinds.{kind_of, mark_of};
@@ -18,7 +20,7 @@ pub const SIZE: usize = 16;
 const FRONT: usize = 0x424E;
 
 // What the trailer tells of its book, but for its length. Numbers are u16, as stored, to save stack.
-#[derive(Drop)]
+#[derive(Clone, Copy)]
 pub struct Trailer {
     // How many names, in blocks of how many.
     pub names: u16,
@@ -33,7 +35,7 @@ pub struct Trailer {
 }
 
 // How many bytes it is from a node to the next, and from a number of a node to its next one.
-#[derive(Drop)]
+#[derive(Clone, Copy)]
 pub struct Pace {
     pub stride: usize,
     pub step: usize,

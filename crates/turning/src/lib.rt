@@ -1,5 +1,7 @@
 // A node table in its other form: rows become columns, and columns become rows. Both are one function with other numbers. It writes number
 // by number without gaps, and is told how far apart the numbers stand that it reads.
+#![tactic(auto)]
+
 ghost use Rattle.std.specs.Prelude.{◌≡◌};
 ghost use Rattle.turning.specs.Turning.{GatherAsk, TurnAsk, gather, turned};
 

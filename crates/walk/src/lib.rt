@@ -1,5 +1,7 @@
 // The walk over the entries of a book and its block table: block by block, each from its offset in the table to the next one's, and its
 // first name above the last one of the block before it.
+#![tactic(auto)]
+
 ghost use Rattle.std.specs.Prelude.{◌≡◌, ◌+◌, ◌<◌, ◌≤◌, length, take};
 ghost use Rattle.streams.specs.Runs.{Frame, end_of};
 ghost use Rattle.symbols.specs.Rules.{rule_by};

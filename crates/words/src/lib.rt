@@ -1,1 +1,2 @@
 // Theory without code: symbols, what two words share, their order, and rising lists of words.
+#![tactic(auto)]

@@ -7,17 +7,17 @@ use Rattle.entries.proofs.Reading.{ReadTo, reached-all, reached-done, reached-en
 use Rattle.entries.proofs.name_of.Statement.{statement}
 use Rattle.entries.proofs.name_of.Tie as tie
 
-abbrev invariant-loop : tie.invariant-loop
+abbrev invariant-loop : tie.invariant-loop-i
 invariant-loop book start count cur₀ name₀ len₀ i₀ cur name len i = ReadTo book start count cur.at name len i
 
-abbrev decreases-loop : tie.decreases-loop
+abbrev decreases-loop : tie.decreases-loop-i
 decreases-loop book start count cur₀ name₀ len₀ i₀ cur name len i = count - i
 
 -- the entries that were read, the name's own among them
 returns : tie.Need-returns invariant-loop decreases-loop
 returns c =
-    let ended = c.before.before.before.before in
-    (search reached-done, reached-all ended.before.loop.invariant ended.loop-test.false)
+    let ended = c in
+    (search reached-done, reached-all ended.loop-i.invariant ended.loop-i-test.false)
 
 pub name_of_spec : {M : Type 1} → statement M
 name_of_spec =
@@ -33,5 +33,5 @@ name_of_spec =
     (λ c. search reached-more)
     (λ c. search rules)
     (λ c κs. search reached-entry)
-    (λ c. omega (arith, c.before.before.before.before.before.loop.invariant.upto, c.before.before.before.before.before.loop.invariant.ask.few))
+    (λ c. omega (arith, c.loop-i.invariant.upto, c.loop-i.invariant.ask.few))
     returns)

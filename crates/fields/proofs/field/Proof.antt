@@ -7,13 +7,13 @@ use Rattle.fields.proofs.field.Statement.{statement}
 use Rattle.fields.proofs.field.Tie as tie
 
 returns : tie.Need-returns
-returns c = (c.number_at.ensures.0 ∙ fields-are _ _ _ _ c.before.before.requires.1, c.number_at.ensures.1)
+returns c = (c.number_at.ensures.0 ∙ fields-are _ _ _ _ c.requires.1, c.number_at.ensures.1)
 
 pub field_spec : {M : Type 1} → statement M
 field_spec =
     tie.close
     (tie.spec
-    (λ c. omega (arith, steps-within c.before.args.step c.before.args.j c.before.requires.1))
-    (λ c. omega (arith, steps-within c.before.args.step c.before.args.j c.before.requires.1))
-    (λ c κs. omega (arith, steps-within c.before.args.step c.before.args.j c.before.requires.1))
+    (λ c. omega (arith, steps-within c.args.step c.args.j c.requires.1))
+    (λ c. omega (arith, steps-within c.args.step c.args.j c.requires.1))
+    (λ c κs. omega (arith, steps-within c.args.step c.args.j c.requires.1))
     returns)

@@ -35,6 +35,6 @@ field_on_spec =
     (λ c. search rules)
     (λ c. search rules)
     (λ c. search rules)
-    (λ c. omega (arith, within c.before.before, c.before.before.requires.0))
-    (λ c κs. omega (arith, within c.before.before, c.before.before.requires.0))
+    (λ c. omega (arith, within c.before.before, c.requires.0))
+    (λ c κs. omega (arith, within c.before.before, c.requires.0))
     returns)

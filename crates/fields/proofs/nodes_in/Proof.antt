@@ -9,14 +9,14 @@ use Rattle.fields.proofs.Counts.{counts-at, counts-room}
 use Rattle.fields.proofs.nodes_in.Statement.{statement}
 use Rattle.fields.proofs.nodes_in.Tie as tie
 
-room : tie.Need-number-at-requires
+room : tie.Need-number_at-requires
 room c κs =
-    let a = c.before.before.args in
-    subst (λ (part : List ℕ). a.at + 2 ≤ length part) (sym c.before.before.requires.1) (counts-room a.step a.book.now a.at c.before.before.requires.0)
+    let a = c.args in
+    subst (λ (part : List ℕ). a.at + 2 ≤ length part) (sym c.requires.1) (counts-room a.step a.book.now a.at c.requires.0)
 
 returns : tie.Need-returns
 returns c =
-    let start = c.before.before.before in
+    let start = c in
     let a = start.args in
     (c.number_at.ensures.0 ∙ ap (λ (part : List ℕ). number part a.at) start.requires.1 ∙ counts-at a.step a.book.now a.at start.requires.0, c.number_at.ensures.1)
 

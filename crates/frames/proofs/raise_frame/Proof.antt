@@ -6,7 +6,7 @@ use Rattle.frames.proofs.raise_frame.Statement.{statement}
 use Rattle.frames.proofs.raise_frame.Tie as tie
 
 returns : tie.Need-returns
-returns c = raised-stored _ _ _ _ _ c.before.width-in.ensures.0 c.greater.ensures
+returns c = raised-stored _ _ _ _ _ c.width_in.ensures.0 c.greater-greatest.ensures
 
 pub raise_frame_spec : {M : Type 1} → statement M
 raise_frame_spec =

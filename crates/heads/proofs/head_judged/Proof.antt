@@ -9,54 +9,54 @@ use Rattle.heads.proofs.head_judged.Statement.{statement}
 use Rattle.heads.proofs.head_judged.Tie as tie
 
 add-if1 : tie.Need-overflow-add-if1
-add-if1 c = omega (arith, passed-within c.before.before.before.before.requires c.before.pass-records.ensures c.pass-records2.ensures)
+add-if1 c = omega (arith, passed-within c.requires c.pass_records-i.ensures c.pass_records-j.ensures)
 
 -- both lists' lengths
-short : (c : tie.After-pass-records2) → let a = c.before.before.before.before.args in length a.first.now + length a.second.now < 2 ^ 64
+short : (c : tie.After-pass_records-j) → let a = c.args in length a.first.now + length a.second.now < 2 ^ 64
 short c = omega arith
 
 -- both lists have ended
-returns : tie.Need-returns
+returns : tie.Need-returns-then-i-j
 returns c =
-    let behind = c.before.before in
-    showing-none behind.before.before.before.before.requires behind.before.pass-records.ensures behind.pass-records2.ensures c.before.if1.true c.no-head.ensures
+    let behind = c in
+    showing-none behind.requires behind.pass_records-i.ensures behind.pass_records-j.ensures c.if-i-j.true c.no_head.ensures
 
-next-head-requires : tie.Need-next-head-requires
+next-head-requires : tie.Need-next_head-next-requires
 next-head-requires c κs =
-    let behind = c.before in
-    behind-ask behind.before.before.before.before.requires behind.before.pass-records.ensures behind.pass-records2.ensures c.if1.false
+    let behind = c in
+    behind-ask behind.requires behind.pass_records-i.ensures behind.pass_records-j.ensures c.if-i-j.false
 
 add_start : tie.Need-overflow-add-start
 add_start c =
-    let got = c.before in
+    let got = c in
     let behind = got.before.before in
-    start_fits behind.before.before.before.before.requires behind.before.pass-records.ensures behind.pass-records2.ensures got.before.if1.false got.next-head.ensures
+    start_fits behind.requires behind.pass_records-i.ensures behind.pass_records-j.ensures got.if-i-j.false got.next_head-next.ensures
     _ (omega arith) (short behind)
 
 sub-length : tie.Need-overflow-sub-length
 sub-length c =
-    let got = c.before.before in
-    let behind = got.before.before in
-    head-some behind.before.before.before.before.requires behind.before.pass-records.ensures behind.pass-records2.ensures got.before.if1.false got.next-head.ensures _ (omega arith)
+    let got = c in
+    let behind = got in
+    head-some behind.requires behind.pass_records-i.ensures behind.pass_records-j.ensures got.if-i-j.false got.next_head-next.ensures _ (omega arith)
 
-returns-2 : tie.Need-returns-2
+returns-2 : tie.Need-returns-then-next
 returns-2 c =
-    let got = c.before.before.before in
-    let behind = got.before.before in
-    showing-second behind.before.before.before.before.requires behind.before.pass-records.ensures behind.pass-records2.ensures got.before.if1.false got.next-head.ensures c.if2.true
+    let got = c in
+    let behind = got in
+    showing-second behind.requires behind.pass_records-i.ensures behind.pass_records-j.ensures got.if-i-j.false got.next_head-next.ensures c.if-next.true
 
-returns-3 : tie.Need-returns-3
+returns-3 : tie.Need-returns
 returns-3 c =
-    let got = c.before.before.before in
-    let behind = got.before.before in
-    showing-first behind.before.before.before.before.requires behind.before.pass-records.ensures behind.pass-records2.ensures got.before.if1.false got.next-head.ensures c.if2.false
+    let got = c in
+    let behind = got in
+    showing-first behind.requires behind.pass_records-i.ensures behind.pass_records-j.ensures got.if-i-j.false got.next_head-next.ensures c.if-next.false
 
 pub head_judged_spec : {M : Type 1} → statement M
 head_judged_spec =
     tie.close
     (tie.spec
-    (λ c κs. first-ask c.before.before.requires)
-    (λ c κs. second-ask c.before.before.before.requires)
+    (λ c κs. first-ask c.requires)
+    (λ c κs. second-ask c.requires)
     add-if1
     (λ c. search rules)
     (λ c κs. search rules)

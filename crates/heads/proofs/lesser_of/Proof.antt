@@ -13,9 +13,9 @@ lesser_of_spec =
     (tie.spec
     (λ c κs. search rules)
     (λ c κs. search rules)
-    (λ c. sym c.before.is-above.ensures ∙ c.if1.true)
-    (λ c κs. c.before.before.shared-symbols.ensures ∙ shared-comm _ _)
-    (λ c. sym c.before.is-above2.ensures ∙ c.if2.true)
+    (λ c. sym c.is_above.ensures ∙ c.if-is_above.true)
+    (λ c κs. c.shared_symbols-shares.ensures ∙ shared-comm _ _)
+    (λ c. sym c.is_above-2.ensures ∙ c.if-is_above-2.true)
     (λ c.
-    let a = c.before.before.before.before.before.before.before.args in
-    both-same a.x.now a.y.now _ _ c.before.before.before.is-above.ensures c.before.before.if1.false c.before.is-above2.ensures c.if2.false))
+    let a = c.args in
+    both-same a.x.now a.y.now _ _ c.is_above.ensures c.if-is_above.false c.is_above-2.ensures c.if-is_above-2.false))

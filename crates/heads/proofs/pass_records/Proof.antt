@@ -5,10 +5,10 @@ use Rattle.heads.proofs.Passing.{PassesOn, passes-all, passes-ended, passes-fits
 use Rattle.heads.proofs.pass_records.Statement.{statement}
 use Rattle.heads.proofs.pass_records.Tie as tie
 
-abbrev invariant-loop : tie.invariant-loop
+abbrev invariant-loop : tie.invariant-loop-left
 invariant-loop list count at₀ left₀ at left = PassesOn list count at left
 
-abbrev decreases-loop : tie.decreases-loop
+abbrev decreases-loop : tie.decreases-loop-left
 decreases-loop list count at₀ left₀ at left = left
 
 pub pass_records_spec : {M : Type 1} → statement M
@@ -18,10 +18,10 @@ pass_records_spec =
     invariant-loop
     decreases-loop
     (λ c. passes-start _ _)
-    (λ c. passes-ended c.before.before.loop.invariant c.if1.true)
-    (λ c κs. omega (arith, c.before.before.loop.invariant.within, c.if1))
-    (λ c. omega (arith, passes-fits c.before.before.before.loop.invariant c.before.if1.false _ c.record-size.ensures c.before.before.before.before.before.requires))
+    (λ c. passes-ended c.loop-left.invariant c.if-at-list.true)
+    (λ c κs. omega (arith, c.loop-left.invariant.within, c.if-at-list))
+    (λ c. omega (arith, passes-fits c.loop-left.invariant c.if-at-list.false _ c.record_size-at.ensures c.requires))
     (λ c. omega arith)
     (λ c. omega arith)
-    (λ c. passes-more c.before.before.before.loop.invariant c.before.if1.false _ c.record-size.ensures c.before.before.before.before.before.requires (omega (arith, c.before.before.loop-test)))
-    (λ c. passes-all c.before.loop.invariant c.loop-test.false))
+    (λ c. passes-more c.loop-left.invariant c.if-at-list.false _ c.record_size-at.ensures c.requires (omega (arith, c.loop-left-test)))
+    (λ c. passes-all c.loop-left.invariant c.loop-left-test.false))

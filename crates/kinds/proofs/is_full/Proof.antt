@@ -13,5 +13,5 @@ is_full_spec =
     (λ c κs. search rules)
     (λ c. search rules)
     (λ c. search rules)
-    (λ c. full-told c.before.before.before.args.kind _ Rows c.before.before.form_of.ensures c.enum_told.given.1)
-    (λ c. full-told c.before.before.before.args.kind _ Columns c.before.before.form_of.ensures c.enum-told2.given.1))
+    (λ c. full-told c.args.kind _ Rows c.form_of-form.ensures c.in-Rows.is)
+    (λ c. full-told c.args.kind _ Columns c.form_of-form.ensures c.in-Columns.is))

@@ -5,4 +5,4 @@ use Rattle.kinds.proofs.marked.Statement.{statement}
 use Rattle.kinds.proofs.marked.Tie as tie
 
 pub marked_spec : {M : Type 1} → statement M
-marked_spec = tie.close (tie.spec (λ c. marked-folded _ c.if1.true) (λ c. marked-columns _ c.if2.true) (λ c. marked-plain _ c.before.if1.false c.if2.false))
+marked_spec = tie.close (tie.spec (λ c. marked-folded _ c.if-third-eq70.true) (λ c. marked-columns _ c.if-third-eq67.true) (λ c. marked-plain _ c.if-third-eq70.false c.if-third-eq67.false))

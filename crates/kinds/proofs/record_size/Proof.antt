@@ -12,5 +12,5 @@ record_size_spec =
     (tie.spec
     (λ c. search rules)
     (λ c. search rules)
-    (λ c. (nodes-size c.before.before.args.form, omega arith))
-    (λ c. (nodes-size c.before.before.args.form, omega arith)))
+    (λ c. (nodes-size c.args.form, omega arith))
+    (λ c. (nodes-size c.args.form, omega arith)))

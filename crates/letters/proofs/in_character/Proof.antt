@@ -5,4 +5,4 @@ use Rattle.letters.proofs.in_character.Statement.{statement}
 use Rattle.letters.proofs.in_character.Tie as tie
 
 pub in_character_spec : {M : Type 1} → statement M
-in_character_spec = tie.close (tie.spec (λ c. inside-low _ c.if1.true) (λ c. inside-high _ c.if1.false))
+in_character_spec = tie.close (tie.spec (λ c. inside-low _ c.if-x-lt128.true) (λ c. inside-high _ c.if-x-lt128.false))

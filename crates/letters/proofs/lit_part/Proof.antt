@@ -1,5 +1,6 @@
 -- `letters::lit_part` meets its contract. The loop keeps `Back`; the place is its measure.
 -- Assumes nothing.
+use Rattle.std.proofs.lemmas.Bool.{not_from_false, not_from_true}
 use native.Mathlib.Omega.{arith}
 use mathlib.Core.Path.{sym}
 use borrow.Author.Rules.{rules}
@@ -8,10 +9,10 @@ use Rattle.letters.proofs.Back.{Back, back-here, back_more, back_none, back_star
 use Rattle.letters.proofs.lit_part.Statement.{statement}
 use Rattle.letters.proofs.lit_part.Tie as tie
 
-abbrev invariant-loop : tie.invariant-loop
+abbrev invariant-loop : tie.invariant-loop-place
 invariant-loop question count place₀ place = Back question count place
 
-abbrev decreases-loop : tie.decreases-loop
+abbrev decreases-loop : tie.decreases-loop-place
 decreases-loop question count place₀ place = place
 
 pub lit_part_spec : {M : Type 1} → statement M
@@ -20,16 +21,16 @@ lit_part_spec =
     (tie.spec
     invariant-loop
     decreases-loop
-    (λ c. sym (lit-past _ _ c.if1.true))
-    (λ c. back_start _ _ (omega (arith, c.if1.false)))
-    (λ c. omega (arith, c.before.before.loop.invariant.short))
+    (λ c. sym (lit-past _ _ c.if-question-count.true))
+    (λ c. back_start _ _ (omega (arith, c.if-question-count.false)))
+    (λ c. omega (arith, c.loop-place.invariant.short))
     (λ c κs. search rules)
     (λ c.
     let turn = c.before.before.before in
-    back-here turn.before.loop.invariant turn.loop-test.true _ c.before.in-character.ensures c.if2.true)
-    (λ c. omega (arith, c.before.before.before.loop-test))
-    (λ c. omega (arith, c.before.before.before.loop-test))
+    back-here turn.loop-place.invariant turn.loop-place-test.true _ c.in_character.ensures (not_from_false _ c.if-not-in_character.true))
+    (λ c. omega (arith, c.loop-place-test))
+    (λ c. omega (arith, c.loop-place-test))
     (λ c.
-    let turn = c.before.before.before in
-    back_more turn.before.loop.invariant turn.loop-test.true _ c.before.in-character.ensures c.if2.false)
-    (λ c. back_none c.before.loop.invariant c.loop-test.false))
+    let turn = c in
+    back_more turn.loop-place.invariant turn.loop-place-test.true _ c.in_character.ensures (not_from_true _ c.if-not-in_character.false))
+    (λ c. back_none c.loop-place.invariant c.loop-place-test.false))

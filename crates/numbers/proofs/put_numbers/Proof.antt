@@ -8,10 +8,10 @@ use Rattle.numbers.proofs.Parts.{Numbered, numbered-none, numbered_more, numbere
 use Rattle.numbers.proofs.put_numbers.Statement.{statement}
 use Rattle.numbers.proofs.put_numbers.Tie as tie
 
-abbrev invariant-loop : tie.invariant-loop
+abbrev invariant-loop : tie.invariant-loop-i
 invariant-loop part₀ ns i₀ part i = Numbered ns part₀ part i
 
-abbrev decreases-loop : tie.decreases-loop
+abbrev decreases-loop : tie.decreases-loop-i
 decreases-loop part₀ ns i₀ part i = length ns - i
 
 pub put_numbers_spec : {M : Type 1} → statement M

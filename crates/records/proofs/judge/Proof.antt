@@ -26,27 +26,27 @@ abbrev decreases-records : tie.decreases-records
 decreases-records rule list limit lens₀ counts₀ shares₀ at₀ prev₀ before₀ n₀ lens counts shares at prev before n = length list - at
 
 -- the comparison was left by either `break 'bytes`
-parted : (c : tie.Left-bytes invariant-bytes decreases-bytes invariant-records decreases-records) → law.ComesApart c.before.bytes.invariant
+parted : (c : tie.Joined-i-most invariant-bytes decreases-bytes invariant-records decreases-records) → law.ComesApart c.bytes.invariant
 parted c = ⊎_elim
     (λ w. search law.one-ends)
     (λ w. search law.bytes-differ)
-    c.bytes-test.branch
+    c.if-i-most.branch
 
 -- the name is above the last
-above : (c : tie.Else6 invariant-bytes decreases-bytes invariant-records decreases-records)
-    → let s = c.before in law.NewAbove s.before.before.bytes.invariant s.shared-above.result
+above : (c : tie.Else-j-len invariant-bytes decreases-bytes invariant-records decreases-records)
+    → let s = c.before in law.NewAbove s.bytes.invariant s.shared_above-j.result
 above c =
-    let s = c.before in
-    law.new-above s.before.before.bytes.invariant s.shared-above.ensures (parted s.before) c.if6.false
+    let s = c in
+    law.new-above s.bytes.invariant s.shared_above-j.ensures (parted s.before) c.if-j-len.false
 
 -- the name is noted, or there is no place for it
 again : tie.Need-records-preserved invariant-bytes decreases-bytes invariant-records decreases-records
 again c =
-    let kept = c.before.before.before.before.before.before.before.before.before.before.before.before.before.records.invariant in
+    let kept = c.records.invariant in
     ⊎_elim
-    (λ w. law.reads-noted (above c.before.before) kept.lens-kept kept.counts-kept kept.shares-kept c.before.if7.false w.0.taken w.1 w.2 w.3)
-    (λ w. law.reads-passed (above c.before.before) kept.lens-kept kept.counts-kept kept.shares-kept c.before.if7.false w.0.left w.1 w.2 w.3)
-    c.if8.branch
+    (λ w. law.reads-noted (above c.before.before) kept.lens-kept kept.counts-kept kept.shares-kept c.if-limit-n.false w.0.taken w.1 w.2 w.3)
+    (λ w. law.reads-passed (above c.before.before) kept.lens-kept kept.counts-kept kept.shares-kept c.if-limit-n.false w.0.left w.1 w.2 w.3)
+    c.if-n-lens.branch
 
 pub judge_spec : {M : Type 1} → statement M
 judge_spec =
@@ -56,7 +56,7 @@ judge_spec =
     decreases-bytes
     invariant-records
     decreases-records
-    (λ c. search (law.reads-start, rule-sure c.before.before.before.before.args.rule))
+    (λ c. search (law.reads-start, rule-sure c.args.rule))
     (λ c. omega arith)
     (λ c κs. search rules)
     (λ c. omega arith)
@@ -100,8 +100,8 @@ judge_spec =
     (λ c. omega arith)
     (λ c. omega arith)
     (λ c. omega arith)
-    (λ c. law.not-above c.before.before.before.bytes.invariant c.before.shared-above.ensures c.if6.true)
+    (λ c. law.not-above c.bytes.invariant c.shared_above-j.ensures c.if-j-len.true)
     (λ c. omega arith)
     (λ c. omega arith)
     (λ c. omega arith)
-    (λ c. law.too_many (above c.before) c.if7.true))
+    (λ c. law.too_many (above c.before) c.if-limit-n.true))

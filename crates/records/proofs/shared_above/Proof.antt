@@ -8,11 +8,11 @@ use Rattle.records.proofs.shared_above.Statement.{statement}
 use Rattle.records.proofs.shared_above.Tie as tie
 
 -- behind the first i bytes so many symbols more are the same
-alike : (c : tie.After-shared-on)
-    → let a = c.before.before.before.before.before.args in law.AlikeSoFar a.rule a.list.now a.prev a.before a.start a.len (a.i + c.shared-on.result)
+alike : (c : tie.After-shared_on)
+    → let a = c.args in law.AlikeSoFar a.rule a.list.now a.prev a.before a.start a.len (a.i + c.shared_on.result)
 alike c =
-    let l = c.before.before.before in
-    law.symbols-alike l.before.before.requires l.lesser.ensures _ c.shared-on.ensures
+    let l = c in
+    law.symbols-alike l.requires l.lesser-most.ensures _ c.shared_on.ensures
 
 pub shared_above_spec : {M : Type 1} → statement M
 shared_above_spec =
@@ -29,9 +29,9 @@ shared_above_spec =
     (λ c. omega (arith, law.in_both))
     (λ c. omega (arith, law.in_both))
     (λ c. search rules)
-    (λ c κs. law.rests-part c.before.before.before.before.requires c.before.before.lesser.ensures)
+    (λ c κs. law.rests-part c.requires c.lesser-most.ensures)
     (λ c. omega (arith, alike c))
-    (λ c. law.one_ended (alike c.before) c.before.before.before.before.lesser.ensures c.if1.true)
+    (λ c. law.one_ended (alike c.before) c.lesser-most.ensures c.if-j-most.true)
     (λ c. omega (arith, alike c.before))
     (λ c. omega (arith, alike c.before.before))
     (λ c. omega (arith, alike c.before.before))
@@ -39,7 +39,7 @@ shared_above_spec =
     (λ c κs. search rules)
     (λ c.
     let s = c.before.before.before.before in
-    law.symbol-above (alike s.before) s.before.before.before.before.lesser.ensures s.if1.false _ c.before.is-higher.ensures c.if2.true)
+    law.symbol-above (alike s.before) s.lesser-most.ensures s.if-j-most.false _ c.is_higher.ensures c.if-is_higher.true)
     (λ c.
-    let s = c.before.before.before.before in
-    law.symbol-not-above (alike s.before) s.before.before.before.before.lesser.ensures s.if1.false _ c.before.is-higher.ensures c.if2.false))
+    let s = c in
+    law.symbol-not-above (alike s.before) s.lesser-most.ensures s.if-j-most.false _ c.is_higher.ensures c.if-is_higher.false))

@@ -14,5 +14,5 @@ has_symbol_spec =
     (λ c. search rules)
     (λ c. search rules)
     (λ c κs. search rules)
-    (λ c. has-plain _ _ _ _ c.before.enum_told.given.1 c.wide.ensures.0)
-    (λ c. has-folded _ _ _ _ c.before.enum-told2.given.1 c.symbol.ensures.0))
+    (λ c. has-plain _ _ _ _ c.in-Plain.is c.wide.ensures.0)
+    (λ c. has-folded _ _ _ _ c.in-Folded.is c.symbol.ensures.0))

@@ -15,7 +15,7 @@ is_above_spec =
     (λ c. search rules)
     (λ c κs. search rules)
     (λ c.
-    let long = c.before.before.before in
-    let start = long.before.before.before.before in
+    let long = c in
+    let start = long in
     let a = start.args in
-    below_by a.rule a.prev.now a.name.now a.shares start.requires long.before.if1.false long.if2.false _ c.is-higher.ensures))
+    below_by a.rule a.prev.now a.name.now a.shares start.requires long.if-name-shares.false long.if-prev-shares.false _ c.is_higher.ensures))

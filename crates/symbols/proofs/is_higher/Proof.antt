@@ -13,5 +13,5 @@ is_higher_spec =
     (λ c. search rules)
     (λ c κs. search rules)
     (λ c κs. search rules)
-    (λ c. higher-plain _ _ _ c.enum_told.given.1)
-    (λ c. higher-folded _ _ _ _ _ c.before.before.enum-told2.given.1 c.before.symbol.ensures.0 c.symbol2.ensures.0))
+    (λ c. higher-plain _ _ _ c.in-Plain.is)
+    (λ c. higher-folded _ _ _ _ _ c.in-Folded.is c.symbol.ensures.0 c.symbol-in-Folded.ensures.0))

@@ -1,5 +1,6 @@
 -- `symbols::is_pair` meets its contract.
 -- Assumes nothing.
+use Rattle.std.proofs.lemmas.Bool.{not_from_false, not_from_true}
 use borrow.Author.Rules.{rules}
 use Rattle.symbols.proofs.Symbols.{pair-capital, pair_fits, pair_small}
 use Rattle.symbols.proofs.is_pair.Statement.{statement}
@@ -10,6 +11,6 @@ is_pair_spec =
     tie.close
     (tie.spec
     (λ c κs. search rules)
-    (λ c. pair_small _ _ c.before.before.requires _ c.before.is-capital.ensures c.if1.true)
-    (λ c. record { fits = pair_fits _ _ c.before.before.requires _ c.before.is-capital.ensures c.if1.false })
-    (λ c. pair-capital _ _ c.before.before.requires _ c.before.is-capital.ensures c.if1.false))
+    (λ c. pair_small _ _ c.requires _ c.is_capital.ensures (not_from_false _ c.if-not-is_capital.true))
+    (λ c. record { fits = pair_fits _ _ c.requires _ c.is_capital.ensures (not_from_true _ c.if-not-is_capital.false) })
+    (λ c. pair-capital _ _ c.requires _ c.is_capital.ensures (not_from_true _ c.if-not-is_capital.false)))

@@ -12,5 +12,5 @@ shared_on_spec =
     (λ c. search rules)
     (λ c. search rules)
     (λ c κs. search rules)
-    (λ c. search (parted-none, c.enum_told.given.1))
-    (λ c. search (parted-folded, c.before.enum-told2.given.1)))
+    (λ c. search (parted-none, c.in-Plain.is))
+    (λ c. search (parted-folded, c.in-Folded.is)))

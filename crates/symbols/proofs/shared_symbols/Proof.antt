@@ -7,10 +7,10 @@ use Rattle.symbols.proofs.Symbols.{Sharing, sharing-left, sharing-more, sharing-
 use Rattle.symbols.proofs.shared_symbols.Statement.{statement}
 use Rattle.symbols.proofs.shared_symbols.Tie as tie
 
-abbrev invariant-loop : tie.invariant-loop
+abbrev invariant-loop : tie.invariant-loop-i
 invariant-loop rule a b i₀ i = Sharing rule a b i
 
-abbrev decreases-loop : tie.decreases-loop
+abbrev decreases-loop : tie.decreases-loop-i
 decreases-loop rule a b i₀ i = length a - i
 
 pub shared_symbols_spec : {M : Type 1} → statement M

@@ -18,5 +18,5 @@ symbol_at_spec =
     (λ c. search rules)
     (λ c. search rules)
     (λ c κs. search rules)
-    (λ c. search (symbol-in-plain, c.before.before.enum_told.given.1))
-    (λ c. search (symbol-in-folded, c.before.before.enum-told2.given.1)))
+    (λ c. search (symbol-in-plain, c.in-Plain.is))
+    (λ c. search (symbol-in-folded, c.in-Folded.is)))

@@ -15,18 +15,18 @@ use Rattle.trailer.proofs.is_trailer.Statement.{statement}
 use Rattle.trailer.proofs.is_trailer.Tie as tie
 
 -- the table's bytes, as they are counted
-few : (c : tie.After-number) → c.number.result * c.before.record-size.result ≤ 65536 * node_size
-few c = records-few _ _ c.number.ensures.1 c.before.record-size.ensures.1
+few : (c : tie.After-number) → c.number.result * c.record_size-size.result ≤ 65536 * node_size
+few c = records-few _ _ c.number.ensures.1 c.record_size-size.ensures.1
 
-counted : (c : tie.After-number) → let b = c.before.before.before.before.before.before.before.before.before.before.before.before.before.before.before.args.book.now in
-    c.number.result * c.before.record-size.result ≡ told b 4 * record_size (form_of (kind_of b))
+counted : (c : tie.After-number) → let b = c.args.book.now in
+    c.number.result * c.record_size-size.result ≡ told b 4 * record_size (form_of (kind_of b))
 counted c =
-    let sized = c.before in
-    let start = sized.before.before.before.before.before.before.before.before.before.before.before.before.before.before in
-    ap₂ ◌*◌ c.number.ensures.0 (size_is start.args.book.now _ sized.before.form_of.result _ sized.before.before.kind.ensures sized.before.form_of.ensures sized.record-size.ensures.0)
+    let sized = c in
+    let start = sized in
+    ap₂ ◌*◌ c.number.ensures.0 (size_is start.args.book.now _ sized.form_of.result _ sized.kind.ensures sized.form_of.ensures sized.record_size-size.ensures.0)
 
 -- what every test but that of the mark's back has shown
-fitting : (c : tie.Else9) → let b = c.before.before.before.before.before.before.before.before.before.before.before.before.before.before.before.before.before.before.before.before.args.book.now in told b 7 ≡ mark_back (kind_of b) → Trail b
+fitting : (c : tie.Else-number-ne-FRONT) → let b = c.args.book.now in told b 7 ≡ mark_back (kind_of b) → Trail b
 fitting c back = record {
   long = omega arith;
   short = omega arith;
@@ -61,11 +61,11 @@ is_trailer_spec =
     (λ c. omega (arith, few c))
     (λ c. omega (arith, few c))
     (λ c. omega (arith, few c))
-    (λ c t. c.if7.true (omega (arith, counted c.before, t.total)))
+    (λ c t. c.if-start-number.true (omega (arith, counted c.before, t.total)))
     (λ c κs. search rules)
     (λ c. search rules)
     (λ c κs. search rules)
     (λ c. search rules)
     (λ c κs. search rules)
     (λ c κs. search rules)
-    (λ c. trail-marked _ (omega arith) (search rules) _ c.is-mark.result c.before.number4.ensures.0 c.is-mark.ensures (fitting c.before.before)))
+    (λ c. trail-marked _ (omega arith) (search rules) _ c.is_mark.result c.number-4.ensures.0 c.is_mark.ensures (fitting c.before.before)))

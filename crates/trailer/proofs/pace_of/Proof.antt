@@ -10,16 +10,16 @@ use Rattle.trailer.proofs.Telling.{map-told}
 use Rattle.trailer.proofs.pace_of.Statement.{statement}
 use Rattle.trailer.proofs.pace_of.Tie as tie
 
-returns : tie.Need-returns
+returns : tie.Need-returns-in-Rows
 returns c =
-    let form = c.before.before in
-    let told = map-told c.before.before.before.before.before.args.book.now form.before.kind.result form.form_of.result Rows form.before.kind.ensures form.form_of.ensures c.enum_told.given.1 in
+    let form = c in
+    let told = map-told c.args.book.now form.kind.result form.form_of-form.result Rows form.kind.ensures form.form_of-form.ensures c.in-Rows.is in
     (ap (λ (μ : Map). μ.stride) told, ap (λ (μ : Map). μ.step) told)
 
-returns-2 : tie.Need-returns-2
+returns-2 : tie.Need-returns-in-Columns
 returns-2 c =
-    let form = c.before.before.before in
-    let told = map-told c.before.before.before.before.before.before.args.book.now form.before.kind.result form.form_of.result Columns form.before.kind.ensures form.form_of.ensures c.before.enum-told2.given.1 in
+    let form = c in
+    let told = map-told c.args.book.now form.kind.result form.form_of-form.result Columns form.kind.ensures form.form_of-form.ensures c.in-Columns.is in
     (ap (λ (μ : Map). μ.stride) told, ap (λ (m : ℕ). 2 * m) c.number.ensures.0 ∙ ap (λ (μ : Map). μ.step) told)
 
 pub pace_of_spec : {M : Type 1} → statement M

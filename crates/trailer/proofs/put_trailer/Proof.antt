@@ -15,7 +15,7 @@ put_trailer_spec =
     (λ c κs. search rules)
     (λ c. search rules)
     (λ c.
-    let put = c.before.before in
-    let marked = put.before.before.before in
-    let a = marked.before.before.args in
-    trailer-is (kind_by a.kind) _ a.names a.block a.blocks a.nodes a.count a.total _ marked.mark-back.ensures put.put-numbers.ensures))
+    let put = c in
+    let marked = put in
+    let a = marked.args in
+    trailer-is (kind_by a.kind) _ a.names a.block a.blocks a.nodes a.count a.total _ marked.mark_back-back.ensures put.put_numbers.ensures))

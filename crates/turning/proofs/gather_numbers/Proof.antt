@@ -8,18 +8,18 @@ use Rattle.turning.proofs.Turning.{Gathering, gathering-done, gathering-long, ga
 use Rattle.turning.proofs.gather_numbers.Statement.{statement}
 use Rattle.turning.proofs.gather_numbers.Tie as tie
 
-abbrev invariant-loop : tie.invariant-loop
+abbrev invariant-loop : tie.invariant-loop-left
 invariant-loop book from step count part₀ place₀ at₀ left₀ part place at left = Gathering book from step count part place at left
 
-abbrev decreases-loop : tie.decreases-loop
+abbrev decreases-loop : tie.decreases-loop-left
 decreases-loop book from step count part₀ place₀ at₀ left₀ part place at left = left
 
 -- both bytes of the next number stand in the book, and the part is as long as at first
-here : (c : tie.In-loop invariant-loop decreases-loop) → let a = c.before.before.args in (c.before.loop.place + 2 ≤ length a.book.now) × (length c.before.loop.part ≡ 2 * a.count)
-here c = (gathering-place c.before.loop.invariant c.loop-test.true, gathering-long c.before.loop.invariant)
+here : (c : tie.In-loop-left invariant-loop decreases-loop) → let a = c.args in (c.loop-left.place + 2 ≤ length a.book.now) × (length c.loop-left.part ≡ 2 * a.count)
+here c = (gathering-place c.loop-left.invariant c.loop-left-test.true, gathering-long c.loop-left.invariant)
 
-loop-again : tie.Need-loop-preserved invariant-loop decreases-loop
-loop-again c = let turn = c.before.before in gathering-more turn.before.loop.invariant turn.loop-test.true _ _ (omega arith) (omega arith)
+loop-again : tie.Need-loop-left-preserved invariant-loop decreases-loop
+loop-again c = let turn = c in gathering-more turn.loop-left.invariant turn.loop-left-test.true _ _ (omega arith) (omega arith)
 
 pub gather_numbers_spec : {M : Type 1} → statement M
 gather_numbers_spec =
@@ -39,5 +39,5 @@ gather_numbers_spec =
     (λ c. omega arith)
     (λ c. omega arith)
     loop-again
-    (λ c. omega (arith, gathering-long c.before.loop.invariant))
-    (λ c. gathering-done c.before.loop.invariant c.loop-test.false))
+    (λ c. omega (arith, gathering-long c.loop-left.invariant))
+    (λ c. gathering-done c.loop-left.invariant c.loop-left-test.false))
