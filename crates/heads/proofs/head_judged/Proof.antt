@@ -8,7 +8,7 @@ use Rattle.heads.proofs.Showing.{behind-ask, first-ask, head-some, passed-within
 use Rattle.heads.proofs.head_judged.Statement.{statement}
 use Rattle.heads.proofs.head_judged.Tie as tie
 
-add-if1 : tie.Need-overflow-add-if1
+add-if1 : tie.Need-overflow_add-i
 add-if1 c = omega (arith, passed-within c.requires c.pass_records-i.ensures c.pass_records-j.ensures)
 
 -- both lists' lengths
@@ -26,14 +26,14 @@ next-head-requires c κs =
     let behind = c in
     behind-ask behind.requires behind.pass_records-i.ensures behind.pass_records-j.ensures c.if-i-j.false
 
-add_start : tie.Need-overflow-add-start
+add_start : tie.Need-overflow_add-start
 add_start c =
     let got = c in
     let behind = got.before.before in
     start_fits behind.requires behind.pass_records-i.ensures behind.pass_records-j.ensures got.if-i-j.false got.next_head-next.ensures
     _ (omega arith) (short behind)
 
-sub-length : tie.Need-overflow-sub-length
+sub-length : tie.Need-overflow_sub-length
 sub-length c =
     let got = c in
     let behind = got in
@@ -45,7 +45,7 @@ returns-2 c =
     let behind = got in
     showing-second behind.requires behind.pass_records-i.ensures behind.pass_records-j.ensures got.if-i-j.false got.next_head-next.ensures c.if-next.true
 
-returns-3 : tie.Need-returns
+returns-3 : tie.Need-returns-then-i-j
 returns-3 c =
     let got = c in
     let behind = got in

@@ -1,5 +1,6 @@
 -- `looks::is_led_to` meets its contract.
 -- Assumes nothing.
+use Rattle.std.proofs.lemmas.Bool.{not_from_false, not_from_true}
 use borrow.Author.Rules.{rules}
 use Rattle.looks.proofs.Fields.{led-first, led-symbol}
 use Rattle.looks.proofs.is_led_to.Statement.{statement}
@@ -11,6 +12,6 @@ is_led_to_spec =
     (tie.spec
     (λ c κs. search rules)
     (λ c κs. search rules)
-    (λ c. led-symbol _ _ _ _ _ _ _ _ c.before.before.symbol.ensures.0 c.before.leads.ensures c.if1.true)
+    (λ c. led-symbol _ _ _ _ _ _ _ _ c.symbol.ensures.0 c.leads.ensures (not_from_false _ c.if-not-leads.true))
     (λ c κs. search rules)
-    (λ c. led-first _ _ _ _ _ _ _ _ c.before.before.before.symbol.ensures.0 c.before.before.leads.ensures c.before.if1.false _ c.first.ensures.0))
+    (λ c. led-first _ _ _ _ _ _ _ _ c.symbol.ensures.0 c.leads.ensures (not_from_true _ c.if-not-leads.false) _ c.first.ensures.0))

@@ -21,7 +21,7 @@ leads_spec =
     (λ c. search rules)
     (λ c κs. search rules)
     (λ c.
-    let rule = c.before.before.rule in
-    let a = c.before.before.before.before.before.before.before.before.before.args in
-    lead-in a.book.now a.a a.d a.s _ _ c.before.before.before.before.before.before.before.before.before.requires c.before.before.before.before.before.before.wide.ensures.0 c.before.before.before.before.wide2.ensures.0 c.before.before.before.if1.true rule.result rule.ensures c.has-symbol.result c.has-symbol.ensures)
+    let rule = c.rule in
+    let a = c.args in
+    lead-in a.book.now a.a a.d a.s _ _ c.requires c.wide.ensures.0 c.wide-2.ensures.0 c.if-skip-wide.true rule.result rule.ensures c.has_symbol.result c.has_symbol.ensures)
     (λ c. search lead-past))

@@ -19,9 +19,9 @@ may_be_fork_spec =
     (λ c. search rules)
     (λ c. search rules)
     (λ c κs. search rules)
-    (λ c. let pre = c.before.before.before.before.before.before.before.before.requires in omega (arith, c.nodes.ensures, strides-most _ node_size c.nodes.result pre.2))
-    (λ c. let pre = c.before.before.before.before.before.before.before.before.requires in omega (arith, c.nodes.ensures, pre.1, strides-most _ node_size c.nodes.result pre.2))
+    (λ c. let pre = c.requires in omega (arith, c.nodes.ensures, strides-most _ node_size c.nodes.result pre.2))
+    (λ c. let pre = c.requires in omega (arith, c.nodes.ensures, pre.1, strides-most _ node_size c.nodes.result pre.2))
     (λ c.
-    let a = c.before.before.before.before.before.before.before.before.args in
-    fork_ends a.book.now a.stride a.step a.up a.o a.end a.d _ _ _ c.nodes.result c.before.before.before.before.before.before.names.ensures.0
-    c.before.before.before.before.before.names2.ensures.0 c.before.before.before.depth.ensures.0 c.nodes.ensures.0 (omega arith) (omega arith) (omega arith)))
+    let a = c.args in
+    fork_ends a.book.now a.stride a.step a.up a.o a.end a.d _ _ _ c.nodes.result c.names.ensures.0
+    c.names-2.ensures.0 c.depth-depth.ensures.0 c.nodes.ensures.0 (omega arith) (omega arith) (omega arith)))

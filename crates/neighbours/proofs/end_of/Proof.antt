@@ -16,5 +16,5 @@ end_of_spec =
     (λ c. search rules)
     (λ c. search rules)
     (λ c κs. search rules)
-    (λ c. search (end-plain, c.enum_told.given.1))
-    (λ c. end-folded _ _ _ _ _ _ _ c.before.before.before.before.next-entry.ensures c.before.before.enum-told2.given.1 _ _ c.before.next-entry2.ensures c.lesser.ensures))
+    (λ c. search (end-plain, c.in-Plain.is))
+    (λ c. end-folded _ _ _ _ _ _ _ c.next_entry-end.ensures c.in-Folded.is _ _ c.next_entry.ensures c.lesser.ensures))

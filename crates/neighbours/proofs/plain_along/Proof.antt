@@ -7,10 +7,10 @@ use Rattle.neighbours.proofs.Along.{Along, along-asks, along-done, along-fits, a
 use Rattle.neighbours.proofs.plain_along.Statement.{statement}
 use Rattle.neighbours.proofs.plain_along.Tie as tie
 
-abbrev invariant-loop : tie.invariant-loop
+abbrev invariant-loop : tie.invariant-loop-at
 invariant-loop book start a at₀ x₀ at x = Along Plain book a 0 at x
 
-abbrev decreases-loop : tie.decreases-loop
+abbrev decreases-loop : tie.decreases-loop-at
 decreases-loop book start a at₀ x₀ at x = a - at
 
 pub plain_along_spec : {M : Type 1} → statement M

@@ -11,7 +11,7 @@ shared_next_spec =
     (tie.spec
     (λ c. search rules)
     (λ c κs. search rules)
-    (λ c. next_more _ _ _ _ _ _ _ c.before.before.before.before.requires c.before.wide.ensures.0 c.if1.true)
+    (λ c. next_more _ _ _ _ _ _ _ c.requires c.wide-e.ensures.0 c.if-x-e.true)
     (λ c κs. search rules)
     (λ c. search rules)
     (λ c. search rules)
@@ -23,7 +23,7 @@ shared_next_spec =
     (λ c κs. search next-ask)
     (λ c.
     let w = c.before.before.before.before in
-    next_small _ _ _ _ _ _ _ w.before.before.before.requires w.wide.ensures.0 c.before.before.before.if1.false _ c.before.before.greater.ensures _ c.before.end_of_lem.ensures _ c.shared-rest.ensures.1)
+    next_small _ _ _ _ _ _ _ w.requires w.wide-e.ensures.0 c.if-x-e.false _ c.greater-from.ensures _ c.end_of.ensures _ c.shared_rest.ensures.1)
     (λ c.
-    let w = c.before.before.before.before in
-    next-rest _ _ _ _ _ _ _ w.before.before.before.requires w.wide.ensures.0 c.before.before.before.if1.false _ c.before.before.greater.ensures _ c.before.end_of_lem.ensures _ c.shared-rest.ensures.0))
+    let w = c in
+    next-rest _ _ _ _ _ _ _ w.requires w.wide-e.ensures.0 c.if-x-e.false _ c.greater-from.ensures _ c.end_of.ensures _ c.shared_rest.ensures.0))

@@ -7,10 +7,10 @@ use Rattle.neighbours.proofs.Rest.{Equal, equal-ends, equal-fits, equal-goes, eq
 use Rattle.neighbours.proofs.shared_rest.Statement.{statement}
 use Rattle.neighbours.proofs.shared_rest.Tie as tie
 
-abbrev invariant-loop : tie.invariant-loop
+abbrev invariant-loop : tie.invariant-loop-x
 invariant-loop rule book own end other x₀ x = Equal (rule_by rule) book own end other x
 
-abbrev decreases-loop : tie.decreases-loop
+abbrev decreases-loop : tie.decreases-loop-x
 decreases-loop rule book own end other x₀ x = end - (own + x)
 
 pub shared_rest_spec : {M : Type 1} → statement M

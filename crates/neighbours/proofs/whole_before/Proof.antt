@@ -10,6 +10,6 @@ whole_before_spec =
     tie.close
     (tie.spec
     (λ c. search rules)
-    (λ c. let a = c.before.before.before.args in whole-own a.book.now a.p a.i c.if1.true)
+    (λ c. let a = c.args in whole-own a.book.now a.p a.i c.if-book-p-eq0.true)
     (λ c κs. search rules)
-    (λ c. whole-first _ _ _ c.before.if1.false _ c.start_of_lem.ensures))
+    (λ c. whole-first _ _ _ c.if-book-p-eq0.false _ c.start_of.ensures))

@@ -12,10 +12,10 @@ use Rattle.paths.proofs.Ways.{Going, go-at, go-halt, go_on, go-room, go-small, g
 use Rattle.paths.proofs.descend.Statement.{statement}
 use Rattle.paths.proofs.descend.Tie as tie
 
-abbrev invariant-loop : tie.invariant-loop
+abbrev invariant-loop : tie.invariant-loop-c
 invariant-loop book stride step start question counts path₀ n₀ o₀ path n o = Going book (table_map book stride step) question path n o
 
-abbrev decreases-loop : tie.decreases-loop
+abbrev decreases-loop : tie.decreases-loop-c
 decreases-loop book stride step start question counts path₀ n₀ o₀ path n o = 202 - n
 
 -- the root's record stands in the book
@@ -23,11 +23,11 @@ root : (c : tie.Start invariant-loop decreases-loop) → Roomy c.args.step c.arg
 root c = here-room (root-here c.requires.0 c.requires.1)
 
 -- the path begins with the root
-loop-holds : tie.Need-loop-init invariant-loop decreases-loop
-loop-holds c = let start = c.before.before.before in go-start start.requires.0 start.requires.1 refl (omega arith)
+loop-holds : tie.Need-loop-c-init invariant-loop decreases-loop
+loop-holds c = let start = c in go-start start.requires.0 start.requires.1 refl (omega arith)
 
 -- where the question went down, the path has room
-room : (c : tie.After-known-told invariant-loop decreases-loop) → c.before.before.before.before.loop.n < 202
+room : (c : tie.In-Down invariant-loop decreases-loop) → c.loop-c.n < 202
 room c = search go-room
 
 pub descend_spec : {M : Type 1} → statement M
@@ -36,14 +36,14 @@ descend_spec =
     (tie.spec
     invariant-loop
     decreases-loop
-    (λ c. omega (arith, root c.before.before, c.before.before.requires.0.held))
+    (λ c. omega (arith, root c.before.before, c.requires.0.held))
     (λ c. omega (arith, root c.before.before))
     (λ c. omega (arith, root c.before.before))
     (λ c. search rules)
-    (λ c. let start = c.before.before.before in here-small (root-here start.requires.0 start.requires.1))
+    (λ c. let start = c in here-small (root-here start.requires.0 start.requires.1))
     (λ c. omega arith)
     loop-holds
-    (λ c κs. let a = c.before.before.before.before.args in (go-at c.loop.invariant, counts-cut a.step a.book.now))
+    (λ c κs. let a = c.args in (go-at c.loop-c.invariant, counts-cut a.step a.book.now))
     (λ c. search rules)
     (λ c. search go-small)
     (λ c. omega (arith, room c))

@@ -7,17 +7,17 @@ use Rattle.paths.proofs.Climbing.{Upwards, climb-end, climb-found, climb-more, c
 use Rattle.paths.proofs.highest.Statement.{statement}
 use Rattle.paths.proofs.highest.Tie as tie
 
-abbrev invariant-loop : tie.invariant-loop
+abbrev invariant-loop : tie.invariant-loop-j
 invariant-loop book step shared path len j₀ j = Upwards book step path len shared j
 
-abbrev decreases-loop : tie.decreases-loop
+abbrev decreases-loop : tie.decreases-loop-j
 decreases-loop book step shared path len j₀ j = j
 
 -- the node above is less deep than that
-returns : tie.Need-returns invariant-loop decreases-loop
+returns : tie.Need-returns-then-depth-shared invariant-loop decreases-loop
 returns c =
-    let test = c.before.before.before.before in
-    climb-found test.before.loop.invariant test.loop-test.true c.before.before.before.wide16.ensures.0 c.before.before.depth.ensures.0 c.before.if1.true c.wide162.ensures.0
+    let test = c in
+    climb-found test.loop-j.invariant test.loop-j-test.true c.wide16-o.ensures.0 c.depth.ensures.0 c.if-depth-shared.true c.wide16.ensures.0
 
 pub highest_spec : {M : Type 1} → statement M
 highest_spec =
@@ -37,7 +37,7 @@ highest_spec =
     (λ c κs. search rules)
     returns
     (λ c. omega arith)
-    (λ c. climb-more c.before.before.before.before.loop.invariant c.before.before.before.loop-test.true c.before.before.wide16.ensures.0 c.before.depth.ensures.0 (omega arith))
+    (λ c. climb-more c.loop-j.invariant c.loop-j-test.true c.wide16-o.ensures.0 c.depth.ensures.0 (omega arith))
     (λ c. omega arith)
     (λ c κs. search rules)
     (λ c. search climb-end))
