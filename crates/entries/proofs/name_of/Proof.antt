@@ -16,8 +16,7 @@ decreases-loop book start count cur₀ name₀ len₀ i₀ cur name len i = coun
 -- the entries that were read, the name's own among them
 returns : tie.Need-returns invariant-loop decreases-loop
 returns c =
-    let ended = c in
-    (search reached-done, reached-all ended.loop-i.invariant ended.loop-i-test.false)
+    (search reached-done, reached-all c.loop-i.invariant c.loop-i-test.false)
 
 pub name_of_spec : {M : Type 1} → statement M
 name_of_spec =

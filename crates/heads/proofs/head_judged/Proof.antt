@@ -18,38 +18,29 @@ short c = omega arith
 -- both lists have ended
 returns : tie.Need-returns-then-i-j
 returns c =
-    let behind = c in
-    showing-none behind.requires behind.pass_records-i.ensures behind.pass_records-j.ensures c.if-i-j.true c.no_head.ensures
+    showing-none c.requires c.pass_records-i.ensures c.pass_records-j.ensures c.if-i-j.true c.no_head.ensures
 
 next-head-requires : tie.Need-next_head-next-requires
 next-head-requires c κs =
-    let behind = c in
-    behind-ask behind.requires behind.pass_records-i.ensures behind.pass_records-j.ensures c.if-i-j.false
+    behind-ask c.requires c.pass_records-i.ensures c.pass_records-j.ensures c.if-i-j.false
 
 add_start : tie.Need-overflow_add-start
 add_start c =
-    let got = c in
-    let behind = got.before.before in
-    start_fits behind.requires behind.pass_records-i.ensures behind.pass_records-j.ensures got.if-i-j.false got.next_head-next.ensures
-    _ (omega arith) (short behind)
+    let behind = c in
+    start_fits behind.requires behind.pass_records-i.ensures behind.pass_records-j.ensures c.if-i-j.false c.next_head-next.ensures
+    _ (omega arith) (short behind.before.before.before)
 
 sub-length : tie.Need-overflow_sub-length
 sub-length c =
-    let got = c in
-    let behind = got in
-    head-some behind.requires behind.pass_records-i.ensures behind.pass_records-j.ensures got.if-i-j.false got.next_head-next.ensures _ (omega arith)
+    head-some c.requires c.pass_records-i.ensures c.pass_records-j.ensures c.if-i-j.false c.next_head-next.ensures _ (omega arith)
 
 returns-2 : tie.Need-returns-then-next
 returns-2 c =
-    let got = c in
-    let behind = got in
-    showing-second behind.requires behind.pass_records-i.ensures behind.pass_records-j.ensures got.if-i-j.false got.next_head-next.ensures c.if-next.true
+    showing-second c.requires c.pass_records-i.ensures c.pass_records-j.ensures c.if-i-j.false c.next_head-next.ensures c.if-next.true
 
-returns-3 : tie.Need-returns-then-i-j
+returns-3 : tie.Need-returns
 returns-3 c =
-    let got = c in
-    let behind = got in
-    showing-first behind.requires behind.pass_records-i.ensures behind.pass_records-j.ensures got.if-i-j.false got.next_head-next.ensures c.if-next.false
+    showing-first c.requires c.pass_records-i.ensures c.pass_records-j.ensures c.if-i-j.false c.next_head-next.ensures c.if-next.false
 
 pub head_judged_spec : {M : Type 1} → statement M
 head_judged_spec =

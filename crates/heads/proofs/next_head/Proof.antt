@@ -36,17 +36,11 @@ next_head_spec =
     (λ c. search rules)
     (λ c κs. search rules)
     (λ c xs ys a b some.
-    let got = c.before.before.before in
-    let other = got.before.before.before in
-    rw c.head_in-in-First.ensures (lesser-first a b other.if-i-first.false _ other.record_size-size-2.ensures other.if-j-second.false _ other.record_size-other.ensures
-    got.lesser_of.ensures c.in-First.is))
+    rw c.head_in-in-First.ensures (lesser-first a b c.if-i-first.false _ c.record_size-size-2.ensures c.if-j-second.false _ c.record_size-other.ensures
+    c.lesser_of.ensures c.in-First.is))
     (λ c xs ys a b some.
-    let got = c.before.before.before in
-    let other = got.before.before.before in
-    rw c.head_in-in-Second.ensures (lesser-second a b other.if-i-first.false _ other.record_size-size-2.ensures other.if-j-second.false _ other.record_size-other.ensures
-    got.lesser_of.ensures c.in-Second.is))
+    rw c.head_in-in-Second.ensures (lesser-second a b c.if-i-first.false _ c.record_size-size-2.ensures c.if-j-second.false _ c.record_size-other.ensures
+    c.lesser_of.ensures c.in-Second.is))
     (λ c xs ys a b some.
-    let got = c in
-    let other = got in
-    rw c.head_in-in-Both.ensures (lesser-both a b other.if-i-first.false _ other.record_size-size-2.ensures other.if-j-second.false _ other.record_size-other.ensures
-    got.lesser_of.ensures c.in-Both.is)))
+    rw c.head_in-in-Both.ensures (lesser-both a b c.if-i-first.false _ c.record_size-size-2.ensures c.if-j-second.false _ c.record_size-other.ensures
+    c.lesser_of.ensures c.in-Both.is)))

@@ -17,38 +17,25 @@ shared_along_spec =
     (λ c κs. search rules)
     (λ c. search rules)
     (λ c κs.
-    let r = c.before.before in
-    let s = r in
-    meet-asks _ _ _ _ s.requires.meet _ _ r.rule.ensures c.in-Plain.is _ (sym (s.requires.whole (sym r.rule.ensures ∙ c.in-Plain.is))) (λ e. refl) _ r.Whole-before.ensures)
+    meet-asks _ _ _ _ c.requires.meet _ _ c.rule.ensures c.in-Plain.is _ (sym (c.requires.whole (sym c.rule.ensures ∙ c.in-Plain.is))) (λ e. refl) _ c.whole_before-start.ensures)
     (λ c.
-    let r = c.before.before.before in
-    let m = r.requires.meet in
-    omega (arith, meet-counted _ _ _ _ m _ _ r.rule.ensures c.in-Plain.is _ c.plain_along.ensures, meet-most _ _ _ _ m))
+    let m = c.requires.meet in
+    omega (arith, meet-counted _ _ _ _ m _ _ c.rule.ensures c.in-Plain.is _ c.plain_along.ensures, meet-most _ _ _ _ m))
     (λ c.
-    let r = c.before.before.before in
-    let m = r.requires.meet in
-    omega (arith, meet-counted _ _ _ _ m _ _ r.rule.ensures c.in-Plain.is _ c.plain_along.ensures, meet-most _ _ _ _ m, meet-reads _ _ _ _ m, m.known.short))
+    let m = c.requires.meet in
+    omega (arith, meet-counted _ _ _ _ m _ _ c.rule.ensures c.in-Plain.is _ c.plain_along.ensures, meet-most _ _ _ _ m, meet-reads _ _ _ _ m, m.known.short))
     (λ c. search rules)
     (λ c. search meet-reads)
     (λ c κs. search rules)
     (λ c κs.
-    let told = c.before.before in
-    let r = told.before.before in
-    meet-asks _ _ _ _ r.requires.meet _ _ r.rule.ensures told.in-Folded.is _ c.wide.ensures.0 (λ e. absurd (rules-differ e)) _ r.Whole-before.ensures)
+    meet-asks _ _ _ _ c.requires.meet _ _ c.rule.ensures c.in-Folded.is _ c.wide.ensures.0 (λ e. absurd (rules-differ e)) _ c.whole_before-start.ensures)
     (λ c.
-    let told = c.before.before.before in
-    let r = told.before.before in
-    let m = r.requires.meet in
-    omega (arith, meet-counted _ _ _ _ m _ _ r.rule.ensures told.in-Folded.is _ c.folded_along.ensures, meet-most _ _ _ _ m))
+    let m = c.requires.meet in
+    omega (arith, meet-counted _ _ _ _ m _ _ c.rule.ensures c.in-Folded.is _ c.folded_along.ensures, meet-most _ _ _ _ m))
     (λ c.
-    let told = c.before.before.before in
-    let r = told.before.before in
-    let m = r.requires.meet in
-    omega (arith, meet-counted _ _ _ _ m _ _ r.rule.ensures told.in-Folded.is _ c.folded_along.ensures, meet-most _ _ _ _ m, meet-reads _ _ _ _ m, m.known.short))
+    let m = c.requires.meet in
+    omega (arith, meet-counted _ _ _ _ m _ _ c.rule.ensures c.in-Folded.is _ c.folded_along.ensures, meet-most _ _ _ _ m, meet-reads _ _ _ _ m, m.known.short))
     (λ c.
-    let r = c.before.before.before in
-    meet-packed _ _ _ _ r.requires.meet _ _ r.rule.ensures c.in-Plain.is _ c.plain_along.ensures)
+    meet-packed _ _ _ _ c.requires.meet _ _ c.rule.ensures c.in-Plain.is _ c.plain_along.ensures)
     (λ c.
-    let told = c in
-    let r = told in
-    meet-packed _ _ _ _ r.requires.meet _ _ r.rule.ensures told.in-Folded.is _ c.folded_along.ensures))
+    meet-packed _ _ _ _ c.requires.meet _ _ c.rule.ensures c.in-Folded.is _ c.folded_along.ensures))

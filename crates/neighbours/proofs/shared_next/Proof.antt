@@ -22,8 +22,6 @@ shared_next_spec =
     (λ c κs. search rules)
     (λ c κs. search next-ask)
     (λ c.
-    let w = c.before.before.before.before in
-    next_small _ _ _ _ _ _ _ w.requires w.wide-e.ensures.0 c.if-x-e.false _ c.greater-from.ensures _ c.end_of.ensures _ c.shared_rest.ensures.1)
+    next_small _ _ _ _ _ _ _ c.requires c.wide-e.ensures.0 c.if-x-e.false _ c.greater-from.ensures _ c.end_of.ensures _ c.shared_rest.ensures.1)
     (λ c.
-    let w = c in
-    next-rest _ _ _ _ _ _ _ w.requires w.wide-e.ensures.0 c.if-x-e.false _ c.greater-from.ensures _ c.end_of.ensures _ c.shared_rest.ensures.0))
+    next-rest _ _ _ _ _ _ _ c.requires c.wide-e.ensures.0 c.if-x-e.false _ c.greater-from.ensures _ c.end_of.ensures _ c.shared_rest.ensures.0))

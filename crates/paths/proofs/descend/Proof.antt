@@ -24,7 +24,7 @@ root c = here-room (root-here c.requires.0 c.requires.1)
 
 -- the path begins with the root
 loop-holds : tie.Need-loop-c-init invariant-loop decreases-loop
-loop-holds c = let start = c in go-start start.requires.0 start.requires.1 refl (omega arith)
+loop-holds c = go-start c.requires.0 c.requires.1 refl (omega arith)
 
 -- where the question went down, the path has room
 room : (c : tie.In-Down invariant-loop decreases-loop) → c.loop-c.n < 202
@@ -40,7 +40,7 @@ descend_spec =
     (λ c. omega (arith, root c.before.before))
     (λ c. omega (arith, root c.before.before))
     (λ c. search rules)
-    (λ c. let start = c in here-small (root-here start.requires.0 start.requires.1))
+    (λ c. here-small (root-here c.requires.0 c.requires.1))
     (λ c. omega arith)
     loop-holds
     (λ c κs. let a = c.args in (go-at c.loop-c.invariant, counts-cut a.step a.book.now))

@@ -16,8 +16,7 @@ decreases-loop book step shared path len j₀ j = j
 -- the node above is less deep than that
 returns : tie.Need-returns-then-depth-shared invariant-loop decreases-loop
 returns c =
-    let test = c in
-    climb-found test.loop-j.invariant test.loop-j-test.true c.wide16-o.ensures.0 c.depth.ensures.0 c.if-depth-shared.true c.wide16.ensures.0
+    climb-found c.loop-j.invariant c.loop-j-test.true c.wide16-o.ensures.0 c.depth.ensures.0 c.if-depth-shared.true c.wide16.ensures.0
 
 pub highest_spec : {M : Type 1} → statement M
 highest_spec =

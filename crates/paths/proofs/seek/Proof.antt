@@ -39,8 +39,7 @@ loop-again c =
 loop-less : tie.Need-loop-c-smaller invariant-loop decreases-loop
 loop-less c =
     let turn = c.before.before.before in
-    let start = turn in
-    omega (arith, start.requires.ends, seek-less start.requires.fork.at-node refl turn.loop-c.invariant (before-end turn) c.nodes_in.ensures.0)
+    omega (arith, turn.requires.ends, seek-less turn.requires.fork.at-node refl turn.loop-c.invariant (before-end turn) c.nodes_in.ensures.0)
 
 pub seek_spec : {M : Type 1} → statement M
 seek_spec =

@@ -2,13 +2,13 @@
 -- that the code goes is a law of proofs/Reading.antt. The measures are what is left of the list and of the shorter name. Assumes nothing.
 use Prim.Native.Nat.{◌-◌}
 use native.Mathlib.Omega.{arith}
-use mathlib.Core.Logic.{⊎_elim}
 use borrow.Author.Count.{falls}
 use borrow.Author.Rules.{rules}
 use lib.ListN.{length}
 use Rattle.symbols.specs.Rules.{rule_by}
 use Rattle.symbols.proofs.Symbols.{rule-sure}
 use Rattle.records.proofs.Reading as law
+use Rattle.records.proofs.judge.Lts.{else-i-most+then-list-prev, else-n-lens, then-i-most, then-n-lens}
 use Rattle.records.proofs.judge.Statement.{statement}
 use Rattle.records.proofs.judge.Tie as tie
 
@@ -27,26 +27,26 @@ decreases-records rule list limit lens₀ counts₀ shares₀ at₀ prev₀ befo
 
 -- the comparison was left by either `break 'bytes`
 parted : (c : tie.Joined-i-most invariant-bytes decreases-bytes invariant-records decreases-records) → law.ComesApart c.bytes.invariant
-parted c = ⊎_elim
-    (λ w. search law.one-ends)
-    (λ w. search law.bytes-differ)
-    c.if-i-most.branch
+parted c = elim c.if-i-most.branch [
+  | then-i-most w ↦ search law.one-ends
+  | else-i-most+then-list-prev w ↦ search law.bytes-differ
+]
 
 -- the name is above the last
 above : (c : tie.Else-j-len invariant-bytes decreases-bytes invariant-records decreases-records)
     → let s = c.before in law.NewAbove s.bytes.invariant s.shared_above-j.result
 above c =
-    let s = c in
+    let s = c.before in
     law.new-above s.bytes.invariant s.shared_above-j.ensures (parted s.before) c.if-j-len.false
 
 -- the name is noted, or there is no place for it
 again : tie.Need-records-preserved invariant-bytes decreases-bytes invariant-records decreases-records
 again c =
     let kept = c.records.invariant in
-    ⊎_elim
-    (λ w. law.reads-noted (above c.before.before) kept.lens-kept kept.counts-kept kept.shares-kept c.if-limit-n.false w.0.taken w.1 w.2 w.3)
-    (λ w. law.reads-passed (above c.before.before) kept.lens-kept kept.counts-kept kept.shares-kept c.if-limit-n.false w.0.left w.1 w.2 w.3)
-    c.if-n-lens.branch
+    elim c.if-n-lens.branch [
+      | then-n-lens w ↦ law.reads-noted (above c.before.before) kept.lens-kept kept.counts-kept kept.shares-kept c.if-limit-n.false w.if-n-lens.true w.lens-is w.counts-is w.shares-is
+      | else-n-lens w ↦ law.reads-passed (above c.before.before) kept.lens-kept kept.counts-kept kept.shares-kept c.if-limit-n.false w.if-n-lens.false w.lens-is w.counts-is w.shares-is
+    ]
 
 pub judge_spec : {M : Type 1} → statement M
 judge_spec =

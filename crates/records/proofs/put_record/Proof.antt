@@ -8,8 +8,7 @@ use Rattle.records.proofs.put_record.Tie as tie
 
 returns-3 : tie.Need-returns
 returns-3 c =
-    let room = c in
-    record-put _ _ _ _ _ room.requires room.if-room-at.false c.if-room-at-2.false _ c.copy.ensures.1
+    record-put _ _ _ _ _ c.requires c.if-room-at.false c.if-room-at-2.false _ c.copy.ensures.1
 
 pub put_record_spec : {M : Type 1} → statement M
 put_record_spec =

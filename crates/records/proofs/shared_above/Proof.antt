@@ -11,8 +11,7 @@ use Rattle.records.proofs.shared_above.Tie as tie
 alike : (c : tie.After-shared_on)
     → let a = c.args in law.AlikeSoFar a.rule a.list.now a.prev a.before a.start a.len (a.i + c.shared_on.result)
 alike c =
-    let l = c in
-    law.symbols-alike l.requires l.lesser-most.ensures _ c.shared_on.ensures
+    law.symbols-alike c.requires c.lesser-most.ensures _ c.shared_on.ensures
 
 pub shared_above_spec : {M : Type 1} → statement M
 shared_above_spec =
@@ -41,5 +40,5 @@ shared_above_spec =
     let s = c.before.before.before.before in
     law.symbol-above (alike s.before) s.lesser-most.ensures s.if-j-most.false _ c.is_higher.ensures c.if-is_higher.true)
     (λ c.
-    let s = c in
+    let s = c.before.before.before.before in
     law.symbol-not-above (alike s.before) s.lesser-most.ensures s.if-j-most.false _ c.is_higher.ensures c.if-is_higher.false))

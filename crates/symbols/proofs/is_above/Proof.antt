@@ -16,6 +16,5 @@ is_above_spec =
     (λ c κs. search rules)
     (λ c.
     let long = c in
-    let start = long in
-    let a = start.args in
-    below_by a.rule a.prev.now a.name.now a.shares start.requires long.if-name-shares.false long.if-prev-shares.false _ c.is_higher.ensures))
+    let a = long.args in
+    below_by a.rule a.prev.now a.name.now a.shares long.requires long.if-name-shares.false long.if-prev-shares.false _ c.is_higher.ensures))

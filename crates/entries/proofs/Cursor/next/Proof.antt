@@ -11,17 +11,16 @@ use Rattle.entries.proofs.Cursor.next.Tie as tie
 -- what the entry keeps of the name before it and its own bytes are the name
 returns : tie.Need-returns
 returns c =
-    let start = c in
-    let a = start.args in
-    let pre = start.requires in
+    let a = c.args in
+    let pre = c.requires in
     let shares = c.wide-c.ensures.0 in
     let rest = c.wide-n.ensures.0 in
     let put = c.copy.ensures.1 in
     record {
-      name-is = name-read a.book.now a.name-1.now _ _ _ _ pre.0 pre.1 pre.2 shares rest _ put;
+      name-is = name-read a.book.now a.name.now _ _ _ _ pre.0 pre.1 pre.2 shares rest _ put;
       next-is = ap (λ (i : ℕ). a.self.at + 2 + i) rest;
       room = omega arith;
-      size = name-size a.book.now a.name-1.now _ _ _ _ pre.0 pre.1 pre.2 shares rest _ put;
+      size = name-size a.book.now a.name.now _ _ _ _ pre.0 pre.1 pre.2 shares rest _ put;
     }
 
 pub next_spec : {M : Type 1} → statement M
