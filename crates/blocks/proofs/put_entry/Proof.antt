@@ -9,9 +9,8 @@ use Rattle.blocks.proofs.put_entry.Tie as tie
 
 returns : tie.Need-returns
 returns c =
-    let start = c.before.before.before.before.before.before.before in
-    let a = start.args in
-    entry-put a.list.now a.from a.c a.rest a.part.now start.requires.2 start.requires.3 _ c.before.before.copy.ensures.1
+    let a = c.args in
+    entry-put a.list.now a.from a.c a.rest a.part.now c.requires.2 c.requires.3 _ c.copy.ensures.1
 
 pub put_entry_spec : {M : Type 1} → statement M
 put_entry_spec =

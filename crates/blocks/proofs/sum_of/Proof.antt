@@ -7,10 +7,10 @@ use Rattle.blocks.proofs.Writing.{Adding, adding-start, adding-more, adding-all}
 use Rattle.blocks.proofs.sum_of.Statement.{statement}
 use Rattle.blocks.proofs.sum_of.Tie as tie
 
-abbrev invariant-loop : tie.invariant-loop
+abbrev invariant-loop : tie.invariant-loop-i
 invariant-loop counts n sum₀ i₀ sum i = Adding counts n i sum
 
-abbrev decreases-loop : tie.decreases-loop
+abbrev decreases-loop : tie.decreases-loop-i
 decreases-loop counts n sum₀ i₀ sum i = n - i
 
 pub sum_of_spec : {M : Type 1} → statement M

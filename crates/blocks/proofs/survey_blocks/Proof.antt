@@ -7,16 +7,15 @@ use Rattle.blocks.proofs.Walk.{Surveying, surveying-start, surveying-enough, sur
 use Rattle.blocks.proofs.survey_blocks.Statement.{statement}
 use Rattle.blocks.proofs.survey_blocks.Tie as tie
 
-abbrev invariant-loop : tie.invariant-loop
+abbrev invariant-loop : tie.invariant-loop-lo
 invariant-loop list n counts k shared₀ count₀ lo₀ shared count lo = Surveying list n counts k shared count lo
 
-abbrev decreases-loop : tie.decreases-loop
+abbrev decreases-loop : tie.decreases-loop-lo
 decreases-loop list n counts k shared₀ count₀ lo₀ shared count lo = n - lo
 
-loop-again : tie.Need-loop-preserved invariant-loop decreases-loop
+loop-again : tie.Need-loop-lo-preserved invariant-loop decreases-loop
 loop-again c =
-    let turn = c.before.before in
-    surveying-more turn.before.before.before.before.before.requires turn.before.loop.invariant turn.loop-test.true _ c.wide.ensures.0
+    surveying-more c.requires c.loop-lo.invariant c.loop-lo-test.true _ c.wide-shared.ensures.0
 
 pub survey_blocks_spec : {M : Type 1} → statement M
 survey_blocks_spec =
@@ -29,8 +28,7 @@ survey_blocks_spec =
     (λ c. omega arith)
     (λ c κs. search rules)
     (λ c.
-    let turn = c.before.before in
-    surveying-enough turn.before.before.before.before.before.requires turn.before.loop.invariant turn.loop-test.true _ c.wide.ensures.0)
+    surveying-enough c.requires c.loop-lo.invariant c.loop-lo-test.true _ c.wide-shared.ensures.0)
     (λ c. omega arith)
     (λ c. omega arith)
     (λ c. omega arith)

@@ -7,18 +7,16 @@ use Rattle.blocks.proofs.Writing.{Filling, filling-start, filling-place, filling
 use Rattle.blocks.proofs.write_block.Statement.{statement}
 use Rattle.blocks.proofs.write_block.Tie as tie
 
-abbrev invariant-loop : tie.invariant-loop
+abbrev invariant-loop : tie.invariant-loop-i
 invariant-loop list lens counts lo at hi room₀ size₀ next₀ i₀ room size next i = Filling list lo hi room₀ room i next size
 
-abbrev decreases-loop : tie.decreases-loop
+abbrev decreases-loop : tie.decreases-loop-i
 decreases-loop list lens counts lo at hi room₀ size₀ next₀ i₀ room size next i = hi - i
 
 -- the length is that of the same name as the count
-sub-rest : tie.Need-overflow-sub-rest invariant-loop decreases-loop
+sub-rest : tie.Need-overflow_sub-rest invariant-loop decreases-loop
 sub-rest c =
-    let turn = c.before.before.before in
-    let start = turn.before.before.before.before.before.before in
-    filling-less start.requires.0 start.requires.1.0 _ start.requires.1.1 turn.before.loop.invariant turn.loop-test.true _ c.before.wide.ensures.0 _ c.count_of.ensures
+    filling-less c.requires.0 c.requires.1.0 _ c.requires.1.1 c.loop-i.invariant c.loop-i-test.true _ c.wide-len.ensures.0 _ c.count_of-c.ensures
 
 pub write_block_spec : {M : Type 1} → statement M
 write_block_spec =

@@ -7,20 +7,17 @@ use Rattle.blocks.proofs.Walk.{blocked-ask, BlocksPut, put-start, put-size, put-
 use Rattle.blocks.proofs.write_blocks.Statement.{statement}
 use Rattle.blocks.proofs.write_blocks.Tie as tie
 
-abbrev invariant-loop : tie.invariant-loop
+abbrev invariant-loop : tie.invariant-loop-lo
 invariant-loop list n lens counts k table room₀ lo₀ at₀ size₀ row₀ room lo at size row = BlocksPut list n k table room₀ room lo at size row
 
-abbrev decreases-loop : tie.decreases-loop
+abbrev decreases-loop : tie.decreases-loop-lo
 decreases-loop list n lens counts k table room₀ lo₀ at₀ size₀ row₀ room lo at size row = n - lo
 
 -- a block's number is where its entries begin, and the next one goes two bytes behind it
-loop-again : tie.Need-loop-preserved invariant-loop decreases-loop
+loop-again : tie.Need-loop-lo-preserved invariant-loop decreases-loop
 loop-again c =
-    let noted = c.before.before.before.before.before.before.before in
-    let turn = noted.before.before.before in
-    let start = turn.before.before.before.before.before.before in
-    put-more start.requires.0 _ start.requires.1.1.0 start.requires.1.1.1 turn.before.loop.invariant turn.loop-test.true _ noted.before.before.lesser.ensures
-    _ noted.put16.ensures _ _ _ c.before.before.before.write-block.ensures
+    put-more c.requires.0 _ c.requires.1.1.0 c.requires.1.1.1 c.loop-lo.invariant c.loop-lo-test.true _ c.lesser-hi.ensures
+    _ c.put16.ensures _ _ _ c.write_block-b.ensures
 
 pub write_blocks_spec : {M : Type 1} → statement M
 write_blocks_spec =

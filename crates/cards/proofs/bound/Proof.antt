@@ -5,13 +5,12 @@ use Rattle.cards.proofs.Cards.{bound-inner, bound-last}
 use Rattle.cards.proofs.bound.Statement.{statement}
 use Rattle.cards.proofs.bound.Tie as tie
 
-returns : tie.Need-returns
-returns c = bound-last c.before.before.before.before.requires c.before.before.blocks_at.ensures.0 c.before.nodes-at.ensures.0 c.if1.true
+returns : tie.Need-returns-then-slot-nodes_at
+returns c = bound-last c.requires c.blocks_at-table.ensures.0 c.nodes_at.ensures.0 c.if-slot-nodes_at.true
 
-returns-2 : tie.Need-returns-2
+returns-2 : tie.Need-returns
 returns-2 c =
-    let test = c.before in
-    bound-inner test.before.before.before.before.requires test.before.before.blocks_at.ensures.0 test.before.nodes-at.ensures.0 test.if1.false c.number_at.ensures.0
+    bound-inner c.requires c.blocks_at-table.ensures.0 c.nodes_at.ensures.0 c.if-slot-nodes_at.false c.number_at.ensures.0
 
 pub bound_spec : {M : Type 1} → statement M
 bound_spec =

@@ -13,5 +13,5 @@ is_plain_spec =
     (λ c. search rules)
     (λ c κs. search rules)
     (λ c. search rules)
-    (λ c. plain-full _ _ _ c.before.before.before.rule-of.ensures c.before.enum_told.given.1 c.is-full.ensures)
-    (λ c. not-by-plain _ _ c.before.before.rule-of.ensures c.enum-told2.given.1))
+    (λ c. plain-full _ _ _ c.rule_of-rule.ensures c.in-Plain.is c.is_full.ensures)
+    (λ c. not-by-plain _ _ c.rule_of-rule.ensures c.in-Folded.is))

@@ -7,9 +7,8 @@ use Rattle.cards.proofs.is_whole.Tie as tie
 
 returns : tie.Need-returns
 returns c =
-    let asked = c.before.before.before.before.before.before in
-    let said = c.before.before.plain-block in
-    (whole_says _ _ _ _ asked.requires.0.order asked.requires.0.inside said.result.ok _ _ said.ensures.2, said.ensures.1)
+    let said = c.plain_block-last in
+    (whole_says _ _ _ _ c.requires.0.order c.requires.0.inside said.result.ok _ _ said.ensures.2, said.ensures.1)
 
 pub is_whole_spec : {M : Type 1} → statement M
 is_whole_spec = tie.close (tie.spec (λ c κs. search rules) (λ c. search rules) returns)

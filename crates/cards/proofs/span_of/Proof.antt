@@ -10,8 +10,8 @@ pub span_of_spec : {M : Type 1} → statement M
 span_of_spec =
     tie.close
     (tie.spec
-    (λ c κs. span-first c.before.requires)
-    (λ c. omega (arith, span-few c.before.before.requires))
-    (λ c κs. span-behind c.before.before.requires)
+    (λ c κs. span-first c.requires)
+    (λ c. omega (arith, span-few c.requires))
+    (λ c κs. span-behind c.requires)
     (λ c κs. search rules)
-    (λ c. span-is c.before.before.before.before.requires c.before.before.bound.ensures c.before.bound2.ensures c.names_in.ensures))
+    (λ c. span-is c.requires c.bound-start.ensures c.bound-end.ensures c.names_in.ensures))

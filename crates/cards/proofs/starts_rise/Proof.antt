@@ -7,33 +7,31 @@ use Rattle.cards.proofs.Cards.{StartsClimb, climbing-done, climbing-falls, climb
 use Rattle.cards.proofs.starts_rise.Statement.{statement}
 use Rattle.cards.proofs.starts_rise.Tie as tie
 
-abbrev invariant-loop : tie.invariant-loop
+abbrev invariant-loop : tie.invariant-loop-i
 invariant-loop card count at₀ i₀ at i = StartsClimb card count i at
 
-abbrev decreases-loop : tie.decreases-loop
+abbrev decreases-loop : tie.decreases-loop-i
 decreases-loop card count at₀ i₀ at i = count - i
 
-returns : tie.Need-returns invariant-loop decreases-loop
-returns c = climbing-not _ c.before.before.before.requires.1 c.before.bound.ensures c.if1.true
+returns : tie.Need-returns-then-at-ne0 invariant-loop decreases-loop
+returns c = climbing-not _ c.requires.1 c.bound-at.ensures c.if-at-ne0.true
 
-loop-holds : tie.Need-loop-init invariant-loop decreases-loop
-loop-holds c = climbing-start _ c.before.before.before.requires.1 c.before.bound.ensures c.if1.false
+loop-holds : tie.Need-loop-i-init invariant-loop decreases-loop
+loop-holds c = climbing-start _ c.requires.1 c.bound-at.ensures c.if-at-ne0.false
 
-bound-requires-2 : tie.Need-bound-requires-2 invariant-loop decreases-loop
-bound-requires-2 c κs = let start = c.before.before.before.before.before in record { within = start.requires.0.within; size = start.requires.0.size; upto = omega (arith, start.requires.1, c.loop-test.true) }
+bound-requires-2 : tie.Need-bound-next-requires invariant-loop decreases-loop
+bound-requires-2 c κs = record { within = c.requires.0.within; size = c.requires.0.size; upto = omega (arith, c.requires.1, c.loop-i-test.true) }
 
-returns-2 : tie.Need-returns-2 invariant-loop decreases-loop
+returns-2 : tie.Need-returns-then-next-at invariant-loop decreases-loop
 returns-2 c =
-    let turn = c.before.before in
-    climbing-falls turn.before.loop.invariant turn.loop-test.true c.before.bound2.ensures (omega (arith, c.if2))
+    climbing-falls c.loop-i.invariant c.loop-i-test.true c.bound-next.ensures (omega (arith, c.if-next-at))
 
-loop-again : tie.Need-loop-preserved invariant-loop decreases-loop
+loop-again : tie.Need-loop-i-preserved invariant-loop decreases-loop
 loop-again c =
-    let turn = c.before.before in
-    climbing-more turn.before.loop.invariant turn.loop-test.true c.before.bound2.ensures (omega (arith, c.if2))
+    climbing-more c.loop-i.invariant c.loop-i-test.true c.bound-next.ensures (omega (arith, c.if-next-at))
 
-returns-3 : tie.Need-returns-3 invariant-loop decreases-loop
-returns-3 c = climbing-done c.before.loop.invariant c.loop-test.false
+returns-3 : tie.Need-returns invariant-loop decreases-loop
+returns-3 c = climbing-done c.loop-i.invariant c.loop-i-test.false
 
 pub starts_rise_spec : {M : Type 1} → statement M
 starts_rise_spec =

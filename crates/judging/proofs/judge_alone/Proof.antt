@@ -6,7 +6,7 @@ use Rattle.judging.proofs.judge_alone.Statement.{statement}
 use Rattle.judging.proofs.judge_alone.Tie as tie
 
 returns : tie.Need-returns
-returns c = verdict-is _ _ _ _ _ _ _ c.before.before.before.judge.ensures
+returns c = verdict-is _ _ _ _ _ _ _ c.judge.ensures
 
 pub judge_alone_spec : {M : Type 1} → statement M
 judge_alone_spec =

@@ -5,22 +5,20 @@ use Rattle.judging.proofs.Judging.{judging-first, judging-second, judging-sound}
 use Rattle.judging.proofs.judge_both.Statement.{statement}
 use Rattle.judging.proofs.judge_both.Tie as tie
 
-returns : tie.Need-returns
+returns : tie.Need-returns-in-Bad
 returns c =
-    let a = c.before.before.before.before.before.before.args in
-    judging-first a.first.now a.second.now c.before.before.before.judge-alone.ensures c.before.one.given.1
+    let a = c.args in
+    judging-first a.first.now a.second.now c.judge_alone-one.ensures c.in-Bad.is
 
-returns-2 : tie.Need-returns-2
+returns-2 : tie.Need-returns-in-Bad-other
 returns-2 c =
-    let one = c.before.before.before.before in
-    let a = one.before.before.before.before.before.args in
-    judging-second a.first.now a.second.now one.before.before.judge-alone.ensures one.enum_told.given.1 c.before.before.before.judge-alone2.ensures c.before.other.given.1
+    let a = c.args in
+    judging-second a.first.now a.second.now c.judge_alone-one.ensures c.in-Good.is c.judge_alone-other.ensures c.in-Bad-other.is
 
-returns-3 : tie.Need-returns-3
+returns-3 : tie.Need-returns-in-Good-other
 returns-3 c =
-    let one = c.before.before.before in
-    let a = one.before.before.before.before.before.args in
-    judging-sound a.first.now a.second.now one.before.before.judge-alone.ensures one.enum_told.given.1 c.before.before.judge-alone2.ensures c.enum-told2.given.1
+    let a = c.args in
+    judging-sound a.first.now a.second.now c.judge_alone-one.ensures c.in-Good.is c.judge_alone-other.ensures c.in-Good-other.is
 
 pub judge_both_spec : {M : Type 1} → statement M
 judge_both_spec =

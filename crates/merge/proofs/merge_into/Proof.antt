@@ -2,29 +2,26 @@
 -- Assumes nothing.
 use Prim.Native.Nat.{◌+◌, ◌-◌}
 use native.Mathlib.Omega.{arith}
-use mathlib.Core.Logic.{⊎_elim}
 use lib.ListN.{length}
 use borrow.Author.Rules.{rules}
 use Rattle.merge.proofs.Joining.{Joins, head-inside, in-first, in-second, joins-all, joins-ask, joins-bytes, joins-less, joins-more, joins-start, joins-within}
+use Rattle.merge.proofs.merge_into.Lts.{else-next, then-next}
 use Rattle.merge.proofs.merge_into.Statement.{statement}
 use Rattle.merge.proofs.merge_into.Tie as tie
 
-abbrev invariant-loop : tie.invariant-loop
+abbrev invariant-loop : tie.invariant-loop-i
 invariant-loop first second room₀ i₀ j₀ names₀ bytes₀ room i j names bytes = Joins first second room₀ room i j names bytes
 
-abbrev decreases-loop : tie.decreases-loop
+abbrev decreases-loop : tie.decreases-loop-i
 decreases-loop first second room₀ i₀ j₀ names₀ bytes₀ room i j names bytes = length first + length second - (i + j)
 
 -- one name more, whichever list it stands in
-again : tie.Need-loop-preserved invariant-loop decreases-loop
+again : tie.Need-loop-i-preserved invariant-loop decreases-loop
 again c =
-    let got = c.before in
-    let turn = got.before in
-    let start = turn.before.before.before.before.before in
-    ⊎_elim
-    (λ w. rw w.5 (joins-more turn.before.loop.invariant start.requires turn.loop-test.true got.next-head.ensures _ (in-second _ _ w.0.taken) w.2.ensures))
-    (λ w. rw w.5 (joins-more turn.before.loop.invariant start.requires turn.loop-test.true got.next-head.ensures _ (in-first _ _ w.0.left) w.2.ensures))
-    c.if1.branch
+    elim c.if-next.branch [
+      | then-next w ↦ rw w.room-is (joins-more c.loop-i.invariant c.requires c.loop-i-test.true c.next_head-next.ensures _ (in-second _ _ w.if-next.true) w.put_record.ensures)
+      | else-next w ↦ rw w.room-is (joins-more c.loop-i.invariant c.requires c.loop-i-test.true c.next_head-next.ensures _ (in-first _ _ w.if-next.false) w.put_record-QQ.ensures)
+    ]
 
 pub merge_into_spec : {M : Type 1} → statement M
 merge_into_spec =
@@ -33,37 +30,27 @@ merge_into_spec =
     invariant-loop
     decreases-loop
     (λ c. joins-start _ _ _)
-    (λ c. omega (arith, c.loop.invariant.left, c.loop.invariant.right))
+    (λ c. omega (arith, c.loop-i.invariant.left, c.loop-i.invariant.right))
     (λ c. search rules)
-    (λ c κs. joins-ask c.before.loop.invariant c.before.before.before.before.before.requires c.loop-test.true)
+    (λ c κs. joins-ask c.loop-i.invariant c.requires c.loop-i-test.true)
     (λ c κs.
-    let got = c.before.before in
-    let turn = got.before in
-    head-inside turn.before.loop.invariant turn.before.before.before.before.before.requires turn.loop-test.true got.next-head.ensures _ (in-second _ _ c.before.if1.true))
+    head-inside c.loop-i.invariant c.requires c.loop-i-test.true c.next_head-next.ensures _ (in-second _ _ c.if-next.true))
     (λ c κs.
-    let got = c.before.before in
-    let turn = got.before in
-    head-inside turn.before.loop.invariant turn.before.before.before.before.before.requires turn.loop-test.true got.next-head.ensures _ (in-first _ _ c.before.if1.false))
+    head-inside c.loop-i.invariant c.requires c.loop-i-test.true c.next_head-next.ensures _ (in-first _ _ c.if-next.false))
     (λ c.
-    let got = c.before in
-    let turn = got.before in
-    omega (arith, turn.before.loop.invariant.few, turn.before.loop.invariant.short, turn.before.loop.invariant.left, turn.before.loop.invariant.right))
+    omega (arith, c.loop-i.invariant.few, c.loop-i.invariant.short, c.loop-i.invariant.left, c.loop-i.invariant.right))
     (λ c.
-    let got = c.before in
-    let turn = got.before in
     omega (
       arith,
-      joins-bytes turn.before.loop.invariant turn.before.before.before.before.before.requires turn.loop-test.true got.next-head.ensures,
-      joins-within turn.before.loop.invariant turn.before.before.before.before.before.requires turn.loop-test.true got.next-head.ensures,
+      joins-bytes c.loop-i.invariant c.requires c.loop-i-test.true c.next_head-next.ensures,
+      joins-within c.loop-i.invariant c.requires c.loop-i-test.true c.next_head-next.ensures,
     ))
     (λ c.
-    let got = c.before in
-    let turn = got.before in
     omega (
       arith,
-      joins-less turn.before.loop.invariant turn.before.before.before.before.before.requires turn.loop-test.true got.next-head.ensures,
-      joins-within turn.before.loop.invariant turn.before.before.before.before.before.requires turn.loop-test.true got.next-head.ensures,
+      joins-less c.loop-i.invariant c.requires c.loop-i-test.true c.next_head-next.ensures,
+      joins-within c.loop-i.invariant c.requires c.loop-i-test.true c.next_head-next.ensures,
     ))
     again
-    (λ c. omega (arith, c.before.loop.invariant.kept))
-    (λ c. joins-all c.before.loop.invariant c.loop-test.false))
+    (λ c. omega (arith, c.loop-i.invariant.kept))
+    (λ c. joins-all c.loop-i.invariant c.loop-i-test.false))

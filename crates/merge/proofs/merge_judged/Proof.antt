@@ -5,25 +5,17 @@ use Rattle.merge.proofs.Merging.{merging-many, merging-put, merging-short, read-
 use Rattle.merge.proofs.merge_judged.Statement.{statement}
 use Rattle.merge.proofs.merge_judged.Tie as tie
 
-returns : tie.Need-returns
+returns : tie.Need-returns-then-tally-gt2000
 returns c =
-    let count = c.before.before.before.before.before in
-    let start = count.before.before.before.before.before in
-    merging-many start.requires start.args.room.now count.merge_into.ensures c.before.if1.true _ c.refuse.ensures
+    merging-many c.requires c.args.room.now c.merge_into-tally.ensures c.if-tally-gt2000.true _ c.refuse.ensures
 
-returns-2 : tie.Need-returns-2
+returns-2 : tie.Need-returns-then-room-tally
 returns-2 c =
-    let count = c.before.before.before.before.before.before.before in
-    let start = count.before.before.before.before.before in
-    merging-short start.requires start.args.room.now count.merge_into.ensures c.before.before.before.if1.false c.before.if2.true _ c.refuse2.ensures
+    merging-short c.requires c.args.room.now c.merge_into-tally.ensures c.if-tally-gt2000.false c.if-room-tally.true _ c.refuse-then-room-tally.ensures
 
-returns-3 : tie.Need-returns-3
+returns-3 : tie.Need-returns
 returns-3 c =
-    let put = c.before.before in
-    let room = put.before.before in
-    let count = room.before.before.before.before.before.before in
-    let start = count.before.before.before.before.before in
-    merging-put start.requires start.args.room.now count.merge_into.ensures room.before.before.if1.false room.if2.false put.merge-into2.ensures
+    merging-put c.requires c.args.room.now c.merge_into-tally.ensures c.if-tally-gt2000.false c.if-room-tally.false c.merge_into-put.ensures
 
 pub merge_judged_spec : {M : Type 1} → statement M
 merge_judged_spec =
@@ -32,13 +24,13 @@ merge_judged_spec =
     (λ c. search rules)
     (λ c. search rules)
     (λ c. search rules)
-    (λ c κs. read-ask c.before.before.before.before.requires)
+    (λ c κs. read-ask c.requires)
     (λ c κs. search rules)
     (λ c. search rules)
     returns
     (λ c κs. search rules)
     (λ c. search rules)
     returns-2
-    (λ c κs. read-ask c.before.before.before.before.before.before.before.before.before.before.before.before.requires)
+    (λ c κs. read-ask c.requires)
     (λ c. search rules)
     returns-3)

@@ -8,12 +8,8 @@ use Rattle.nodes.proofs.close_node.Tie as tie
 
 returns : tie.Need-returns
 returns c =
-    let depth = c.before.before.before.before in
-    let greater = depth.before.before in
-    let wide = greater.before.before in
-    let mark = wide.before.before in
-    node-put mark.before.before.before.before.before.requires c.before.before.put_back.ensures refl _ _ _ depth.depth-in2.ensures mark.before.end-in.ensures
-    mark.mark-in.ensures wide.before.width-in.ensures.0 wide.greater.ensures greater.before.depth-in.ensures greater.greater2.ensures depth.before.symbol-of.ensures
+    node-put c.requires c.put_back.ensures refl _ _ _ c.depth_in-2.ensures c.end_in-end.ensures
+    c.mark_in-mark.ensures c.width_in.ensures.0 c.greater-width.ensures c.depth_in.ensures c.greater-q.ensures c.symbol_of.ensures
 
 pub close_node_spec : {M : Type 1} → statement M
 close_node_spec =

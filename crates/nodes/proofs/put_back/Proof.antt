@@ -7,12 +7,12 @@ use borrow.Author.Rules.{rules}
 use Rattle.nodes.proofs.put_back.Statement.{statement}
 use Rattle.nodes.proofs.put_back.Tie as tie
 
-returns : tie.Need-returns
-returns c = back_full _ _ _ c.if1.true
+returns : tie.Need-returns-then-room-size
+returns c = back_full _ _ _ c.if-room-size.true
 
-returns-2 : tie.Need-returns-2
+returns-2 : tie.Need-returns
 returns-2 c =
-    back_more _ _ _ c.before.before.put-node.new.0 _ _ _ (omega arith) refl refl c.before.before.put-node.ensures refl
+    back_more _ _ _ c.put_node.new.part _ _ _ (omega arith) refl refl c.put_node.ensures refl
 
 pub put_back_spec : {M : Type 1} → statement M
 put_back_spec =

@@ -7,9 +7,7 @@ use Rattle.nodes.proofs.put_leaf.Tie as tie
 
 returns : tie.Need-returns
 returns c =
-    let symbol = c.before.before.before.before in
-    let greater = symbol.before in
-    leaf-put c.before.before.put_back.ensures greater.before.before.before.before.before.requires _ _ greater.before.depth-in.ensures greater.greater.ensures symbol.symbol-of.ensures
+    leaf-put c.put_back.ensures c.requires _ _ c.depth_in.ensures c.greater-p.ensures c.symbol_of.ensures
 
 pub put_leaf_spec : {M : Type 1} → statement M
 put_leaf_spec =

@@ -8,24 +8,20 @@ use Rattle.nodes.proofs.Writing.{Shutting, shutting-start, shutting-more, passin
 use Rattle.nodes.proofs.write_name.Statement.{statement}
 use Rattle.nodes.proofs.write_name.Tie as tie
 
-abbrev invariant-loop : tie.invariant-loop
+abbrev invariant-loop : tie.invariant-loop-frame
 invariant-loop rule rest skip j left frames top count room₀ p₀ frame₀ room p frame = Shutting (rule_by rule) rest skip j left frames p₀ room₀ p room frame
 
-abbrev decreases-loop : tie.decreases-loop
+abbrev decreases-loop : tie.decreases-loop-frame
 decreases-loop rule rest skip j left frames top count room₀ p₀ frame₀ room p frame = frame
 
-close-node-requires : tie.Need-close-node-requires invariant-loop decreases-loop
+close-node-requires : tie.Need-close_node-p-requires invariant-loop decreases-loop
 close-node-requires c κs =
-    let depth = c.before.before in
-    let loop = depth.before in
-    let leaf = loop.before.before.before in
-    passing-deeper (passing-on leaf.put-leaf.ensures.passing loop.loop.invariant.onward) loop.loop.invariant.same _ depth.depth-in.ensures
-    leaf.before.before.before.before.before.requires (omega arith)
+    passing-deeper (passing-on c.put_leaf-p.ensures.passing c.loop-frame.invariant.onward) c.loop-frame.invariant.same _ c.depth_in.ensures
+    c.requires (omega arith)
 
 returns : tie.Need-returns invariant-loop decreases-loop
 returns c =
-    let loop = c.before.before in
-    passing-done (passing-on loop.before.before.before.put-leaf.ensures.passing loop.loop.invariant.onward) loop.loop.invariant.same _ c.before.depth-in.ensures (omega arith)
+    passing-done (passing-on c.put_leaf-p.ensures.passing c.loop-frame.invariant.onward) c.loop-frame.invariant.same _ c.depth_in.ensures (omega arith)
 
 pub write_name_spec : {M : Type 1} → statement M
 write_name_spec =

@@ -8,51 +8,31 @@ use Rattle.nodes.proofs.Writing.{rowing_start, rowing-name-fits, rowing-back, ro
 use Rattle.nodes.proofs.write_nodes.Statement.{statement}
 use Rattle.nodes.proofs.write_nodes.Tie as tie
 
-abbrev invariant-loop : tie.invariant-loop
+abbrev invariant-loop : tie.invariant-loop-j
 invariant-loop rule list n lens shares room₀ frames₀ top₀ count₀ end₀ j₀ room frames top count end j = Rowing (rule_by rule) list n room₀ room frames top count end j
 
-abbrev decreases-loop : tie.decreases-loop
+abbrev decreases-loop : tie.decreases-loop-j
 decreases-loop rule list n lens shares room₀ frames₀ top₀ count₀ end₀ j₀ room frames top count end j = j
 
-push-frame-requires : tie.Need-push-frame-requires invariant-loop decreases-loop
+push-frame-requires : tie.Need-push_frame-requires invariant-loop decreases-loop
 push-frame-requires c κs =
-    let depth = c.before.before in
-    let name = depth.before.before.before.before in
-    let len = name.before.before.before.before in
-    let left = len.before.before in
-    let turn = left.before in
-    rowing-room turn.before.before.before.before.before.before.requires.ready turn.before.loop.invariant turn.loop-test.true _ len.wide.ensures.0
-    _ left.left-of.ensures.0 left.left-of.ensures.1 name.write-name.ensures _ depth.depth-in.ensures c.before.if1.true
+    rowing-room c.requires.ready c.loop-j.invariant c.loop-j-test.true _ c.wide.ensures.0
+    _ c.left_of-left.ensures.0 c.left_of-left.ensures.1 c.write_name-p.ensures _ c.depth_in.ensures c.if-depth_in-left.true
 
-raise-frame-requires : tie.Need-raise-frame-requires invariant-loop decreases-loop
+raise-frame-requires : tie.Need-raise_frame-requires invariant-loop decreases-loop
 raise-frame-requires c κs =
-    let depth = c.before.before in
-    let name = depth.before.before.before.before in
-    let len = name.before.before.before.before in
-    let left = len.before.before in
-    let turn = left.before in
-    rowing-wide turn.before.before.before.before.before.before.requires.ready turn.before.loop.invariant turn.loop-test.true _ len.wide.ensures.0
-    _ left.left-of.ensures.0 left.left-of.ensures.1 name.write-name.ensures
+    rowing-wide c.requires.ready c.loop-j.invariant c.loop-j-test.true _ c.wide.ensures.0
+    _ c.left_of-left.ensures.0 c.left_of-left.ensures.1 c.write_name-p.ensures
 
-loop-again : tie.Need-loop-preserved invariant-loop decreases-loop
+loop-again : tie.Need-loop-j-preserved-then-depth_in-left invariant-loop decreases-loop
 loop-again c =
-    let depth = c.before.before.before.before in
-    let name = depth.before.before.before.before in
-    let len = name.before.before.before.before in
-    let left = len.before.before in
-    let turn = left.before in
-    rowing_push turn.before.before.before.before.before.before.requires.ready turn.before.loop.invariant turn.loop-test.true _ len.wide.ensures.0
-    _ left.left-of.ensures.0 left.left-of.ensures.1 name.write-name.ensures _ depth.depth-in.ensures c.before.before.before.if1.true _ c.before.push-frame.ensures
+    rowing_push c.requires.ready c.loop-j.invariant c.loop-j-test.true _ c.wide.ensures.0
+    _ c.left_of-left.ensures.0 c.left_of-left.ensures.1 c.write_name-p.ensures _ c.depth_in.ensures c.if-depth_in-left.true _ c.push_frame.ensures
 
-loop-again-2 : tie.Need-loop-preserved-2 invariant-loop decreases-loop
+loop-again-2 : tie.Need-loop-j-preserved invariant-loop decreases-loop
 loop-again-2 c =
-    let depth = c.before.before.before.before in
-    let name = depth.before.before.before.before in
-    let len = name.before.before.before.before in
-    let left = len.before.before in
-    let turn = left.before in
-    rowing-keep turn.before.before.before.before.before.before.requires.ready turn.before.loop.invariant turn.loop-test.true _ len.wide.ensures.0
-    _ left.left-of.ensures.0 left.left-of.ensures.1 name.write-name.ensures _ depth.depth-in.ensures c.before.before.before.if1.false _ c.before.raise-frame.ensures
+    rowing-keep c.requires.ready c.loop-j.invariant c.loop-j-test.true _ c.wide.ensures.0
+    _ c.left_of-left.ensures.0 c.left_of-left.ensures.1 c.write_name-p.ensures _ c.depth_in.ensures c.if-depth_in-left.false _ c.raise_frame.ensures
 
 pub write_nodes_spec : {M : Type 1} → statement M
 write_nodes_spec =

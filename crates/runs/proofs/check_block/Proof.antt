@@ -5,18 +5,18 @@ use borrow.Author.Rules.{rules}
 use Rattle.runs.proofs.check_block.Statement.{statement}
 use Rattle.runs.proofs.check_block.Tie as tie
 
-returns : tie.Need-returns
+returns : tie.Need-returns-in-Plain
 returns c = (
   omega arith,
   omega arith,
-  rw c.before.before.before.before.enum_told.given.1 c.before.before.plain-block.ensures.2,
+  rw c.in-Plain.is c.plain_block.ensures.2,
 )
 
-returns-2 : tie.Need-returns-2
+returns-2 : tie.Need-returns-in-Folded
 returns-2 c = (
   omega arith,
   omega arith,
-  rw c.before.before.before.before.enum-told2.given.1 c.before.before.folded-block.ensures.2,
+  rw c.in-Folded.is c.folded_block.ensures.2,
 )
 
 pub check_block_spec : {M : Type 1} → statement M

@@ -1,5 +1,6 @@
 -- `runs::plain_block` meets its contract: `BlockRead` carries the loop.
 -- Assumes nothing.
+use Rattle.std.proofs.lemmas.Bool.{not_from_false}
 use native.Mathlib.Omega.{arith}
 use borrow.Author.Rules.{rules}
 use Rattle.words.specs.Words.{plain}
@@ -7,22 +8,21 @@ use Rattle.runs.proofs.Judging.{BlockRead, held_start, held-bad, held-entry, hel
 use Rattle.runs.proofs.plain_block.Statement.{statement}
 use Rattle.runs.proofs.plain_block.Tie as tie
 
-abbrev invariant-loop : tie.invariant-loop
+abbrev invariant-loop : tie.invariant-loop-left
 invariant-loop book start end m name₀ cur₀ len₀ left₀ name cur len left = BlockRead plain book end start m cur.at name len left
 
-abbrev decreases-loop : tie.decreases-loop
+abbrev decreases-loop : tie.decreases-loop-left
 decreases-loop book start end m name₀ cur₀ len₀ left₀ name cur len left = left
 
 -- an entry doesn't stand after the name before it in its block
-returns : tie.Need-returns invariant-loop decreases-loop
+returns : tie.Need-returns-then-not-is_entry invariant-loop decreases-loop
 returns c =
-    let test = c.before.before.before.before in
-    let judged = c.before.is-entry in
-    (omega arith, omega arith, held-bad test.before.loop.invariant judged.result judged.ensures c.if1.true test.loop-test.true)
+    let judged = c.is_entry in
+    (omega arith, omega arith, held-bad c.loop-left.invariant judged.result judged.ensures (not_from_false _ c.if-not-is_entry.true) c.loop-left-test.true)
 
 -- all entries stand, and the last one ends where the block does
-returns-3 : tie.Need-returns-3 invariant-loop decreases-loop
-returns-3 c = (omega arith, omega arith, held-done c.before.before.before.loop.invariant c.before.before.loop-test.false c.if2.false)
+returns-3 : tie.Need-returns invariant-loop decreases-loop
+returns-3 c = (omega arith, omega arith, held-done c.loop-left.invariant c.loop-left-test.false c.if-cur-end.false)
 
 pub plain_block_spec : {M : Type 1} → statement M
 plain_block_spec =
@@ -42,6 +42,6 @@ plain_block_spec =
     (λ c. search rules)
     (λ c. search held_more)
     (λ c. search rules)
-    (λ c. (omega arith, omega arith, held-apart c.before.before.before.loop.invariant c.before.before.loop-test.false (λ same. omega arith)))
+    (λ c. (omega arith, omega arith, held-apart c.loop-left.invariant c.loop-left-test.false (λ same. omega arith)))
     (λ c. search rules)
     returns-3)

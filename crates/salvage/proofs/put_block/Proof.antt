@@ -1,5 +1,6 @@
 -- `salvage::put_block` meets its contract: a broken block has no records, and of a whole one all are put.
 -- Assumes nothing.
+use Rattle.std.proofs.lemmas.Bool.{not_from_false, not_from_true}
 use native.Mathlib.Omega.{arith}
 use borrow.Author.Rules.{rules}
 use Rattle.cards.proofs.Cards.{is-dropped, is-kept, noted-says, span-few}
@@ -7,33 +8,24 @@ use Rattle.salvage.proofs.Saving.{block-left, block-put, names-ask}
 use Rattle.salvage.proofs.put_block.Statement.{statement}
 use Rattle.salvage.proofs.put_block.Tie as tie
 
-returns : tie.Need-returns
+returns : tie.Need-returns-then-not-whole
 returns c =
-    let judged = c.before in
-    let start = c.before.before.before.before.before.before in
-    (block-left _ _ (is-dropped start.requires.0 judged.is-noted.result (noted-says start.requires.0 start.requires.1 judged.is-noted.result judged.is-noted.ensures) c.if1.true) _ _, omega (arith, start.requires.2), start.requires.3)
+    (block-left _ _ (is-dropped c.requires.0 c.is_noted-whole.result (noted-says c.requires.0 c.requires.1 c.is_noted-whole.result c.is_noted-whole.ensures) (not_from_false _ c.if-not-whole.true)) _ _, omega (arith, c.requires.2), c.requires.3)
 
-put-names-requires : tie.Need-put-names-requires
+put-names-requires : tie.Need-put_names-requires
 put-names-requires c κs =
-    let span = c.before.before in
-    let judged = span.before.before in
-    let start = c.before.before.before.before.before.before.before.before.before in
-    let whole = is-kept start.requires.0 judged.is-noted.result (noted-says start.requires.0 start.requires.1 judged.is-noted.result judged.is-noted.ensures) span.before.if1.false in
-    (names-ask start.requires.0 span.Span-of.ensures whole, span.Span-of.ensures.few, omega (arith, start.requires.2, span-few start.requires.0), start.requires.3)
+    let whole = is-kept c.requires.0 c.is_noted-whole.result (noted-says c.requires.0 c.requires.1 c.is_noted-whole.result c.is_noted-whole.ensures) (not_from_true _ c.if-not-whole.false) in
+    (names-ask c.requires.0 c.span_of-span.ensures whole, c.span_of-span.ensures.few, omega (arith, c.requires.2, span-few c.requires.0), c.requires.3)
 
-returns-2 : tie.Need-returns-2
+returns-2 : tie.Need-returns
 returns-2 c =
-    let put = c.before.before.before.before in
-    let span = put.before.before.before in
-    let judged = span.before.before in
-    let start = c.before.before.before.before.before.before.before.before.before.before.before.before.before.before in
-    let whole = is-kept start.requires.0 judged.is-noted.result (noted-says start.requires.0 start.requires.1 judged.is-noted.result judged.is-noted.ensures) span.before.if1.false in (
-      block-put start.requires.0 span.Span-of.ensures whole put.put-names.ensures.0,
-      omega (arith, start.requires.2, put.put-names.ensures.0.bounded, span.Span-of.ensures.few),
-      put.put-names.ensures.1,
+    let whole = is-kept c.requires.0 c.is_noted-whole.result (noted-says c.requires.0 c.requires.1 c.is_noted-whole.result c.is_noted-whole.ensures) (not_from_true _ c.if-not-whole.false) in (
+      block-put c.requires.0 c.span_of-span.ensures whole c.put_names.ensures.0,
+      omega (arith, c.requires.2, c.put_names.ensures.0.bounded, c.span_of-span.ensures.few),
+      c.put_names.ensures.1,
     )
 
 pub put_block_spec : {M : Type 1} → statement M
 put_block_spec =
     tie.close
-    (tie.spec (λ c κs. (c.before.before.before.before.requires.1.long, span-few c.before.before.before.before.requires.0)) returns (λ c κs. search rules) put-names-requires (λ c. search rules) (λ c. search rules) returns-2)
+    (tie.spec (λ c κs. (c.requires.1.long, span-few c.requires.0)) returns (λ c κs. search rules) put-names-requires (λ c. search rules) (λ c. search rules) returns-2)

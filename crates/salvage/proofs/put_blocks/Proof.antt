@@ -9,24 +9,20 @@ use Rattle.salvage.proofs.Saving.{Blocks, blocks-ask, blocks-done, blocks_more, 
 use Rattle.salvage.proofs.put_blocks.Statement.{statement}
 use Rattle.salvage.proofs.put_blocks.Tie as tie
 
-abbrev invariant-loop : tie.invariant-loop
+abbrev invariant-loop : tie.invariant-loop-i
 invariant-loop card notes room₀ count line₀ end₀ i₀ room line end i = Blocks card room₀ room count i end × (length line ≡ 201)
 
-abbrev decreases-loop : tie.decreases-loop
+abbrev decreases-loop : tie.decreases-loop-i
 decreases-loop card notes room₀ count line₀ end₀ i₀ room line end i = count - i
 
-put-block-requires : tie.Need-put-block-requires invariant-loop decreases-loop
+put-block-requires : tie.Need-put_block-end-requires invariant-loop decreases-loop
 put-block-requires c κs =
-    let turn = c.before.before in
-    let loop = turn.before.loop.invariant in
-    let start = c.before.before.before.before.before.before.before.before in
-    (blocks-ask loop.0 start.requires.0 turn.loop-test.true, start.requires.1, loop.0.bounded, loop.1)
+    let loop = c.loop-i.invariant in
+    (blocks-ask loop.0 c.requires.0 c.loop-i-test.true, c.requires.1, loop.0.bounded, loop.1)
 
-again : tie.Need-loop-preserved invariant-loop decreases-loop
+again : tie.Need-loop-i-preserved invariant-loop decreases-loop
 again c =
-    let put = c.before.before.before in
-    let turn = c.before.before.before.before.before.before in
-    (blocks_more turn.before.loop.invariant.0 turn.loop-test.true put.put-block.ensures.0 put.put-block.ensures.1, put.put-block.ensures.2)
+    (blocks_more c.loop-i.invariant.0 c.loop-i-test.true c.put_block-end.ensures.0 c.put_block-end.ensures.1, c.put_block-end.ensures.2)
 
 pub put_blocks_spec : {M : Type 1} → statement M
 put_blocks_spec =
@@ -35,11 +31,11 @@ put_blocks_spec =
     invariant-loop
     decreases-loop
     (λ c κs. search rules)
-    (λ c. (blocks_start _ c.block-count.ensures.0 c.block-count.ensures.1, refl))
-    (λ c. sym c.before.before.loop.invariant.1)
+    (λ c. (blocks_start _ c.block_count-count.ensures.0 c.block_count-count.ensures.1, refl))
+    (λ c. sym c.loop-i.invariant.1)
     put-block-requires
-    (λ c. omega (arith, c.before.before.before.before.before.before.before.loop.invariant.0.few))
+    (λ c. omega (arith, c.loop-i.invariant.0.few))
     (λ c. search rules)
     again
-    (λ c. omega (arith, c.before.loop.invariant.0.put.kept))
-    (λ c. blocks-done c.before.loop.invariant.0 c.loop-test.false))
+    (λ c. omega (arith, c.loop-i.invariant.0.put.kept))
+    (λ c. blocks-done c.loop-i.invariant.0 c.loop-i-test.false))

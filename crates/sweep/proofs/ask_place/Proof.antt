@@ -6,4 +6,4 @@ use Rattle.sweep.proofs.ask_place.Statement.{statement}
 use Rattle.sweep.proofs.ask_place.Tie as tie
 
 pub ask_place_spec : {M : Type 1} → statement M
-ask_place_spec = tie.close (tie.spec (λ c κs. search rules) (λ c. place_is _ _ _ _ _ _ c.place_of.ensures))
+ask_place_spec = tie.close (tie.spec (λ c κs. search rules) (λ c. place_is _ _ _ _ _ _ c.place_of-seat.ensures))

@@ -11,7 +11,7 @@ is_begun_spec =
     (tie.spec
     (λ c. search rules)
     (λ c κs. search rules)
-    (λ c. let w = c.before in begun_kept _ _ _ w.before.before.before.before.requires _ w.wide.ensures.0 c.if1.true)
+    (λ c. begun_kept _ _ _ c.requires _ c.wide-c.ensures.0 c.if-question-c.true)
     (λ c. search rules)
     (λ c κs. search rules)
     (λ c. search rules)
@@ -22,10 +22,6 @@ is_begun_spec =
     (λ c. search rules)
     (λ c κs. search rules)
     (λ c.
-    let e = c.before.before.before in
-    let w = e.before.before in
-    goes_small _ _ _ _ w.before.before.before.before.requires _ w.wide.ensures.0 e.before.if1.false _ e.next-entry.ensures _ c.shared-symbols.ensures w.wide.ensures.1)
+    goes_small _ _ _ _ c.requires _ c.wide-c.ensures.0 c.if-question-c.false _ c.next_entry-end.ensures _ c.shared_symbols.ensures c.wide-c.ensures.1)
     (λ c.
-    let e = c.before.before.before in
-    let w = e.before.before in
-    begun-goes _ _ _ w.before.before.before.before.requires _ w.wide.ensures.0 e.before.if1.false _ e.next-entry.ensures _ c.shared-symbols.ensures))
+    begun-goes _ _ _ c.requires _ c.wide-c.ensures.0 c.if-question-c.false _ c.next_entry-end.ensures _ c.shared_symbols.ensures))

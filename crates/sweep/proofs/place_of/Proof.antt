@@ -6,23 +6,19 @@ use Rattle.sweep.proofs.Placing.{Placing, placing-asks, placing-done, placing-fe
 use Rattle.sweep.proofs.place_of.Statement.{statement}
 use Rattle.sweep.proofs.place_of.Tie as tie
 
-abbrev invariant-loop : tie.invariant-loop
+abbrev invariant-loop : tie.invariant-loop-i
 invariant-loop book n question at₀ m₀ i₀ at m i = Placing book n question at m i
 
-abbrev decreases-loop : tie.decreases-loop
+abbrev decreases-loop : tie.decreases-loop-i
 decreases-loop book n question at₀ m₀ i₀ at m i = n - i
 
-returns : tie.Need-returns invariant-loop decreases-loop
+returns : tie.Need-returns-then-not-met invariant-loop decreases-loop
 returns c =
-    let met = c.before.before.before in
-    let turn = met.before in
-    placing-found _ _ _ _ _ _ turn.before.loop.invariant turn.loop-test.true _ _ met.step.ensures.0 met.step.ensures.1 c.before.if1.true _ c.length_at.ensures
+    placing-found _ _ _ _ _ _ c.loop-i.invariant c.loop-i-test.true _ _ c.step-met.ensures.0 c.step-met.ensures.1 c.if-not-met.true _ c.length_at.ensures
 
-again : tie.Need-loop-preserved invariant-loop decreases-loop
+again : tie.Need-loop-i-preserved invariant-loop decreases-loop
 again c =
-    let met = c.before.before.before in
-    let turn = met.before in
-    placing-more _ _ _ _ _ _ turn.before.loop.invariant turn.loop-test.true _ _ met.step.ensures.0 met.step.ensures.1 c.before.if1.false _ c.next-entry.ensures
+    placing-more _ _ _ _ _ _ c.loop-i.invariant c.loop-i-test.true _ _ c.step-met.ensures.0 c.step-met.ensures.1 c.if-not-met.false _ c.next_entry-at.ensures
 
 pub place_of_spec : {M : Type 1} → statement M
 place_of_spec =
@@ -30,7 +26,7 @@ place_of_spec =
     (tie.spec
     invariant-loop
     decreases-loop
-    (λ c. placing-start _ _ _ c.before.before.requires)
+    (λ c. placing-start _ _ _ c.requires)
     (λ c κs. search placing-asks)
     (λ c κs. search placing-fits)
     returns
@@ -38,4 +34,4 @@ place_of_spec =
     (λ c. search placing-few)
     (λ c. omega arith)
     again
-    (λ c. placing-done _ _ _ _ _ _ c.before.loop.invariant c.loop-test.false _ _))
+    (λ c. placing-done _ _ _ _ _ _ c.loop-i.invariant c.loop-i-test.false _ _))

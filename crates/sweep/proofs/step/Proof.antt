@@ -5,19 +5,16 @@ use Rattle.sweep.proofs.Steps.{goes-less, goes-shared, goes_small, keeps-less, k
 use Rattle.sweep.proofs.step.Statement.{statement}
 use Rattle.sweep.proofs.step.Tie as tie
 
-returns : tie.Need-returns
+returns : tie.Need-returns-then-m-c
 returns c =
-    let w = c.before in
-    let k = w.before.before.before.before.requires in
-    (keeps-shared _ _ _ _ k _ w.wide.ensures.0 c.if1.true, keeps-less _ _ _ _ k _ w.wide.ensures.0 c.if1.true)
+    let k = c.requires in
+    (keeps-shared _ _ _ _ k _ c.wide-c.ensures.0 c.if-m-c.true, keeps-less _ _ _ _ k _ c.wide-c.ensures.0 c.if-m-c.true)
 
-returns-2 : tie.Need-returns-2
+returns-2 : tie.Need-returns
 returns-2 c =
-    let e = c.before.before.before.before in
-    let w = e.before.before in
-    let k = w.before.before.before.before.requires in
-    let shares = goes-shared _ _ _ _ k _ w.wide.ensures.0 e.before.if1.false _ e.next-entry.ensures _ c.before.shared-symbols.ensures in
-    (shares, goes-less _ _ _ _ k _ w.wide.ensures.0 e.before.if1.false _ e.next-entry.ensures _ c.is-above.ensures)
+    let k = c.requires in
+    let shares = goes-shared _ _ _ _ k _ c.wide-c.ensures.0 c.if-m-c.false _ c.next_entry-end.ensures _ c.shared_symbols-shared.ensures in
+    (shares, goes-less _ _ _ _ k _ c.wide-c.ensures.0 c.if-m-c.false _ c.next_entry-end.ensures _ c.is_above-less.ensures)
 
 pub step_spec : {M : Type 1} → statement M
 step_spec =
@@ -37,8 +34,6 @@ step_spec =
     (λ c κs. search rules)
     (λ c κs. search rules)
     (λ c.
-    let e = c.before.before.before.before in
-    let w = e.before.before in
-    goes_small _ _ _ _ w.before.before.before.before.requires _ w.wide.ensures.0 e.before.if1.false _ e.next-entry.ensures _ c.before.shared-symbols.ensures
-    w.wide.ensures.1)
+    goes_small _ _ _ _ c.requires _ c.wide-c.ensures.0 c.if-m-c.false _ c.next_entry-end.ensures _ c.shared_symbols-shared.ensures
+    c.wide-c.ensures.1)
     returns-2)

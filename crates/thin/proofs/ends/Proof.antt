@@ -9,12 +9,12 @@ pub ends_spec : {M : Type 1} → statement M
 ends_spec =
     tie.close
     (tie.spec
-    (λ c. let a = c.before.before.before.args in ends-short a.question.now a.name.now a.d a.child a.before c.if1.true)
+    (λ c. let a = c.args in ends-short a.question.now a.name.now a.d a.child a.before c.if-question-d.true)
     (λ c κs. search rules)
     (λ c κs. search rules)
     (λ c.
-    let a = c.before.before.before.before.before.before.args in
-    ends-other a.question.now a.name.now a.d a.child a.before c.before.before.before.if1.false _ _ c.before.before.symbol-at.ensures c.before.symbol-at2.ensures c.if2.true)
+    let a = c.args in
+    ends-other a.question.now a.name.now a.d a.child a.before c.if-question-d.false _ _ c.symbol_at-s.ensures c.symbol_at.ensures c.if-s-symbol_at.true)
     (λ c.
-    let a = c.before.before.before.before.before.before.args in
-    ends-child a.question.now a.name.now a.d a.child a.before c.before.before.before.if1.false _ _ c.before.before.symbol-at.ensures c.before.symbol-at2.ensures c.if2.false))
+    let a = c.args in
+    ends-child a.question.now a.name.now a.d a.child a.before c.if-question-d.false _ _ c.symbol_at-s.ensures c.symbol_at.ensures c.if-s-symbol_at.false))

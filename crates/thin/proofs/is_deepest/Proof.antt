@@ -9,8 +9,8 @@ pub is_deepest_spec : {M : Type 1} → statement M
 is_deepest_spec =
     tie.close
     (tie.spec
-    (λ c. let a = c.before.before.args in top-none a.depths.now a.t a.h c.if1.true)
+    (λ c. let a = c.args in top-none a.depths.now a.t a.h c.if-t-eq0.true)
     (λ c. search rules)
     (λ c. search rules)
     (λ c κs. search rules)
-    (λ c. let a = c.before.before.before.before.args in top-says a.depths.now a.t a.h c.before.before.if1.false _ c.wide.ensures.0))
+    (λ c. let a = c.args in top-says a.depths.now a.t a.h c.if-t-eq0.false _ c.wide.ensures.0))

@@ -9,10 +9,10 @@ use Rattle.thin.proofs.Reaching.{Reaching, reaching-ahead, reaching-close, reach
 use Rattle.thin.proofs.reach.Statement.{statement}
 use Rattle.thin.proofs.reach.Tie as tie
 
-abbrev invariant-loop : tie.invariant-loop
+abbrev invariant-loop : tie.invariant-loop-i
 invariant-loop book n question depths₀ firsts₀ reaches₀ name₀ forks₀ len₀ cur₀ i₀ depths firsts reaches name forks len cur i = Reaching book question depths firsts reaches name n forks len cur.at i
 
-abbrev decreases-loop : tie.decreases-loop
+abbrev decreases-loop : tie.decreases-loop-i
 decreases-loop book n question depths₀ firsts₀ reaches₀ name₀ forks₀ len₀ cur₀ i₀ depths firsts reaches name forks len cur i = n - i
 
 pub reach_spec : {M : Type 1} → statement M
@@ -22,31 +22,31 @@ reach_spec =
     invariant-loop
     decreases-loop
     (λ c. search rules)
-    (λ c κs. (reaching-front c.before.before.before.requires, omega arith, refl))
-    (λ c. reaching-first c.before.before.before.before.before.before.requires (record { depths = refl; firsts = refl; reaches = refl }) c.before.before.next.ensures)
+    (λ c κs. (reaching-front c.requires, omega arith, refl))
+    (λ c. reaching-first c.requires (record { depths = refl; firsts = refl; reaches = refl }) c.next-whole.ensures)
     (λ c. search rules)
     (λ c. search rules)
-    (λ c. let k = c.before.before.loop.invariant in omega (arith, k.room, k.size))
-    (λ c κs. reaching-ahead c.before.before.before.loop.invariant c.before.before.loop-test.true)
+    (λ c. let k = c.loop-i.invariant in omega (arith, k.room, k.size))
+    (λ c κs. reaching-ahead c.loop-i.invariant c.loop-i-test.true)
     (λ c. search rules)
     (λ c. search rules)
-    (λ c. let k = c.before.before.before.before.before.loop.invariant in omega (arith, k.room, k.size))
-    (λ c. search rules)
-    (λ c. search rules)
-    (λ c. search rules)
-    (λ c. c.before.before.before.before.before.before.before.before.before.loop.invariant.some)
-    (λ c κs. reaching-grow c.before.before.before.before.before.before.before.before.before.loop.invariant c.before.before.before.before.before.before.before.before.loop-test.true c.before.before.before.before.before.shared-ahead.ensures)
-    (λ c. search rules)
-    (λ c κs. let k = c.before.before.before.before.before.before.before.before.before.before.before.before.before.before.loop.invariant in (reaching-entry k c.before.before.before.before.before.before.before.before.before.before.before.before.before.loop-test.true, k.room, k.size))
-    (λ c. search rules)
-    (λ c. search rules)
-    (λ c. reaching-more c.before.before.before.before.before.before.before.before.before.before.before.before.before.before.before.before.before.loop.invariant c.before.before.before.before.before.before.before.before.before.before.before.before.before.before.before.before.loop-test.true c.before.before.before.before.before.before.before.grow.ensures c.before.before.next2.ensures)
-    (λ c. search rules)
-    (λ c. search rules)
-    (λ c. let k = c.before.before.loop.invariant in omega (arith, k.room, k.size))
+    (λ c. let k = c.loop-i.invariant in omega (arith, k.room, k.size))
     (λ c. search rules)
     (λ c. search rules)
     (λ c. search rules)
-    (λ c. c.before.before.before.before.before.before.loop.invariant.some)
-    (λ c κs. reaching-close c.before.before.before.before.before.before.loop.invariant)
-    (λ c. reaching-done c.before.before.before.before.before.before.before.loop.invariant c.before.before.before.before.before.before.loop-test.false c.close.ensures))
+    (λ c. c.loop-i.invariant.some)
+    (λ c κs. reaching-grow c.loop-i.invariant c.loop-i-test.true c.shared_ahead-h.ensures)
+    (λ c. search rules)
+    (λ c κs. let k = c.loop-i.invariant in (reaching-entry k c.loop-i-test.true, k.room, k.size))
+    (λ c. search rules)
+    (λ c. search rules)
+    (λ c. reaching-more c.loop-i.invariant c.loop-i-test.true c.grow-forks.ensures c.next-ahead.ensures)
+    (λ c. search rules)
+    (λ c. search rules)
+    (λ c. let k = c.loop-i.invariant in omega (arith, k.room, k.size))
+    (λ c. search rules)
+    (λ c. search rules)
+    (λ c. search rules)
+    (λ c. c.loop-i.invariant.some)
+    (λ c κs. reaching-close c.loop-i.invariant)
+    (λ c. reaching-done c.loop-i.invariant c.loop-i-test.false c.close-ended.ensures))

@@ -12,14 +12,14 @@ use Rattle.thin.proofs.Reaching.{ahead-is}
 use Rattle.thin.proofs.shared_ahead.Statement.{statement}
 use Rattle.thin.proofs.shared_ahead.Tie as tie
 
-abbrev start : tie.After-shared-symbols → tie.Start
+abbrev start : tie.After-shared_symbols → tie.Start
 start c = c.before.before.before.before.before.before.before.before.before
 
 -- both counts together
-sum : (c : tie.After-shared-symbols) → let a = (start c).args in c.before.before.before.before.before.wide.result + c.shared-symbols.result ≡ shared (word plain a.name.now) (word plain (name_at a.book.now a.at a.name.now))
+sum : (c : tie.After-shared_symbols) → let a = (start c).args in c.wide-c.result + c.shared_symbols.result ≡ shared (word plain a.name.now) (word plain (name_at a.book.now a.at a.name.now))
 sum c =
     let a = (start c).args in
-    ahead-is a.book.now a.name.now a.at (start c).requires c.before.before.before.before.before.wide.result c.before.before.before.wide2.result c.shared-symbols.result c.before.before.before.before.before.wide.ensures.0 c.before.before.before.wide2.ensures.0 c.shared-symbols.ensures
+    ahead-is a.book.now a.name.now a.at (start c).requires c.wide-c.result c.wide.result c.shared_symbols.result c.wide-c.ensures.0 c.wide.ensures.0 c.shared_symbols.ensures
 
 pub shared_ahead_spec : {M : Type 1} → statement M
 shared_ahead_spec =

@@ -8,23 +8,18 @@ use Rattle.walk.proofs.Walking.{Walking, walking-apart, walking-bad, walking-end
 use Rattle.walk.proofs.check_entries.Statement.{statement}
 use Rattle.walk.proofs.check_entries.Tie as tie
 
-abbrev invariant-loop : tie.invariant-loop
+abbrev invariant-loop : tie.invariant-loop-i
 invariant-loop rule book n k blocks nodes at₀ slot₀ i₀ name₀ len₀ at slot i name len = Walking (rule_by rule) book k blocks nodes n slot at name len i
 
-abbrev decreases-loop : tie.decreases-loop
+abbrev decreases-loop : tie.decreases-loop-i
 decreases-loop rule book n k blocks nodes at₀ slot₀ i₀ name₀ len₀ at slot i name len = n - i
 
-loop-again : tie.Need-loop-preserved invariant-loop decreases-loop
+loop-again : tie.Need-loop-i-preserved invariant-loop decreases-loop
 loop-again c =
-    let block = c.before.before.before in
-    let size = block.before.before in
-    let end = size.before.before in
-    let offset = end.before.before in
-    let test = offset.before.before in
-    let last = block.next-block in
-    walking-more test.before.loop.invariant end.block-end.ensures size.lesser.ensures test.loop-test.true _ _ last.result.ok c.if4.false
+    let last = c.next_block-last in
+    walking-more c.loop-i.invariant c.block_end-end.ensures c.lesser-m.ensures c.loop-i-test.true _ _ last.result.ok c.if-not-last.false
     last.ensures.0 last.ensures.1 last.ensures.2
-    offset.before.if1.false _ offset.number_at.ensures.0 end.before.if2.false size.before.if3.false
+    c.if-nodes-slot-lt2.false _ c.number_at.ensures.0 c.if-number_at-at.false c.if-blocks-end.false
 
 pub check_entries_spec : {M : Type 1} → statement M
 check_entries_spec =
@@ -36,7 +31,7 @@ check_entries_spec =
     (λ c. omega arith)
     (λ c. search walking-room)
     (λ c κs. omega arith)
-    (λ c. walking-place c.before.before.before.before.loop.invariant c.before.before.before.loop-test.true _ c.before.number_at.ensures.0 (λ same. omega arith))
+    (λ c. walking-place c.loop-i.invariant c.loop-i-test.true _ c.number_at.ensures.0 (λ same. omega arith))
     (λ c. search rules)
     (λ c κs. omega arith)
     (λ c. search walking-past)
@@ -50,4 +45,4 @@ check_entries_spec =
     (λ c. omega arith)
     loop-again
     (λ c. search walking-apart)
-    (λ c. walking-end c.before.before.loop.invariant c.before.loop-test.false c.if5.false))
+    (λ c. walking-end c.loop-i.invariant c.loop-i-test.false c.if-at-blocks.false))

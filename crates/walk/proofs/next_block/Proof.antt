@@ -1,5 +1,6 @@
 -- `walk::next_block` meets its contract.
 -- Assumes nothing.
+use Rattle.std.proofs.lemmas.Bool.{not_from_false, not_from_true}
 use native.Mathlib.Omega.{arith}
 use lib.ListN.{take}
 use Rattle.walk.proofs.Walking.{next-judged, next_low, next_past}
@@ -8,38 +9,33 @@ use Rattle.walk.proofs.next_block.Statement.{statement}
 use Rattle.walk.proofs.next_block.Tie as tie
 
 -- the first entry goes on behind the block
-returns : tie.Need-returns
+returns : tie.Need-returns-then-end-to
 returns c =
-    let rest = c.before in
-    let s = rest.before.before.before.before in
-    let a = s.args in (
+    let a = c.args in (
       omega arith,
       omega arith,
-      next_past _ a.book.now a.start a.end a.m (take a.before a.name.now) a.name.now _ rest.wide.ensures.0 c.if1.true s.requires.2,
+      next_past _ a.book.now a.start a.end a.m (take a.before a.name.now) a.name.now _ c.wide.ensures.0 c.if-end-to.true c.requires.2,
     )
 
 -- the first name is not above the name before
-returns-2 : tie.Need-returns-2
+returns-2 : tie.Need-returns-then-not-is_less
 returns-2 c =
-    let rest = c.before.before.before.before.before.before in
-    let a = rest.before.before.before.before.args in (
+    let a = c.args in (
       omega arith,
       omega arith,
-      next_low _ a.book.now a.start a.end a.m a.name.now a.before _ _ rest.wide.ensures.0 c.before.is-less.ensures a.name.now
-          c.if2.true,
+      next_low _ a.book.now a.start a.end a.m a.name.now a.before _ _ c.wide.ensures.0 c.is_less.ensures a.name.now
+          (not_from_false _ c.if-not-is_less.true),
     )
 
 -- the first name is above the name before, and the block's own check answers
-returns-3 : tie.Need-returns-3
+returns-3 : tie.Need-returns
 returns-3 c =
-    let above = c.before.before.before.before.before in
-    let rest = above.before.before.before.before.before in
-    let a = rest.before.before.before.before.args in
-    let block = c.before.before.check-block in (
+    let a = c.args in
+    let block = c.check_block in (
       omega arith,
       omega arith,
-      next-judged _ a.book.now a.start a.end a.m a.name.now a.before _ _ rest.wide.ensures.0 above.is-less.ensures _ _
-          block.result.ok c.before.before.before.before.if2.false block.ensures.2,
+      next-judged _ a.book.now a.start a.end a.m a.name.now a.before _ _ c.wide.ensures.0 c.is_less.ensures _ _
+          block.result.ok (not_from_true _ c.if-not-is_less.false) block.ensures.2,
     )
 
 pub next_block_spec : {M : Type 1} → statement M
