@@ -10,11 +10,10 @@ check_book_spec =
     tie.close
     (tie.spec
     (λ c κs. search rules)
-    (λ c κs. parts-long _ _ c.if1.true c.before.is-book.ensures)
+    (λ c κs. parts-long _ _ c.if-is_book.true c.is_book.ensures)
     (λ c.
-    let asked = c.before.before in
-    let held = asked.before.shared-slice-known.given in (
-      sound-numbers _ held _ c.before.if1.true asked.is-book.ensures _ c.read.ensures,
-      parts-sound _ held _ c.before.if1.true asked.is-book.ensures _ c.read.ensures,
+    let held = c.shared_slice_known-1.given in (
+      sound-numbers _ held _ c.if-is_book.true c.is_book.ensures _ c.read.ensures,
+      parts-sound _ held _ c.if-is_book.true c.is_book.ensures _ c.read.ensures,
     ))
-    (λ c. (unsound-numbers _ _ c.if1.false c.before.is-book.ensures, parts-unsound _ _ c.if1.false c.before.is-book.ensures)))
+    (λ c. (unsound-numbers _ _ c.if-is_book.false c.is_book.ensures, parts-unsound _ _ c.if-is_book.false c.is_book.ensures)))

@@ -10,6 +10,6 @@ is_book_spec =
     tie.close
     (tie.spec
     (λ c κs. search rules)
-    (λ c κs. frame-stands _ _ c.if1.true c.before.is_framed.ensures)
-    (λ c. let there = c.before in table-says _ (frame-stands _ _ there.if1.true there.before.is_framed.ensures) _ c.is-table.ensures)
-    (λ c. frame-fails _ _ c.if1.false c.before.is_framed.ensures))
+    (λ c κs. frame-stands _ _ c.if-is_framed.true c.is_framed.ensures)
+    (λ c. table-says _ (frame-stands _ _ c.if-is_framed.true c.is_framed.ensures) _ c.is_table.ensures)
+    (λ c. frame-fails _ _ c.if-is_framed.false c.is_framed.ensures))

@@ -12,7 +12,6 @@ is_table_spec =
     (λ c κs. search rules)
     (λ c. search rules)
     (λ c κs. search rules)
-    (λ c κs. table-ask _ c.before.before.before.requires _ _ c.before.nodes-at.ensures.0 c.names.ensures.0)
+    (λ c κs. table-ask _ c.requires _ _ c.nodes_at.ensures.0 c.names.ensures.0)
     (λ c.
-    let asked = c.before in
-    table_is _ asked.before.before.before.requires _ _ asked.before.nodes-at.ensures.0 asked.names.ensures.0 _ c.check-table.ensures))
+    table_is _ c.requires _ _ c.nodes_at.ensures.0 c.names.ensures.0 _ c.check_table.ensures))

@@ -7,4 +7,4 @@ use Rattle.assembly.proofs.count_records.Statement.{statement}
 use Rattle.assembly.proofs.count_records.Tie as tie
 
 pub count_records_spec : {M : Type 1} → statement M
-count_records_spec = tie.close (tie.spec (λ c κs. search rules) (λ c. nodes-counted (kind_by c.before.before.args.kind) _ _ _ c.count-nodes.ensures))
+count_records_spec = tie.close (tie.spec (λ c κs. search rules) (λ c. nodes-counted (kind_by c.args.kind) _ _ _ c.count_nodes.ensures))

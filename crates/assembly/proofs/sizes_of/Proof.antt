@@ -9,8 +9,8 @@ use Rattle.assembly.proofs.sizes_of.Statement.{statement}
 use Rattle.assembly.proofs.sizes_of.Tie as tie
 
 -- the size of a record is that of the kind's form
-size : (c : tie.After-record-size) → c.record-size.result ≡ record_size (form_of (kind_by c.before.before.before.before.before.before.before.before.args.kind))
-size c = c.record-size.ensures.0 ∙ ap record_size c.before.form_of.ensures
+size : (c : tie.After-record_size-size) → c.record_size-size.result ≡ record_size (form_of (kind_by c.args.kind))
+size c = c.record_size-size.ensures.0 ∙ ap record_size c.form_of.ensures
 
 pub sizes_of_spec : {M : Type 1} → statement M
 sizes_of_spec =
@@ -24,17 +24,13 @@ sizes_of_spec =
     (λ c. search rules)
     (λ c.
     let sized = c.before.before in
-    let counted = sized.before.before in
-    table_fits counted.before.before.before.before.before.before.requires _ counted.count-records.ensures (size sized) sized.record-size.ensures.1)
+    table_fits sized.requires _ sized.count_records-count.ensures (size sized) sized.record_size-size.ensures.1)
     (λ c.
     let sized = c.before.before in
-    let counted = sized.before.before in
-    tables-fit counted.before.before.before.before.before.before.requires _ counted.count-records.ensures (size sized) sized.record-size.ensures.1 counted.before.survey-blocks.ensures)
+    tables-fit sized.requires _ sized.count_records-count.ensures (size sized) sized.record_size-size.ensures.1 sized.survey_blocks-survey.ensures)
     (λ c.
     let sized = c.before.before in
-    let counted = sized.before.before in
-    book-fits counted.before.before.before.before.before.before.requires _ counted.count-records.ensures (size sized) sized.record-size.ensures.1 counted.before.survey-blocks.ensures)
+    book-fits sized.requires _ sized.count_records-count.ensures (size sized) sized.record_size-size.ensures.1 sized.survey_blocks-survey.ensures)
     (λ c.
     let sized = c.before.before in
-    let counted = sized.before.before in
-    sizes-are counted.before.before.before.before.before.before.requires _ counted.count-records.ensures (size sized) sized.record-size.ensures.1 counted.before.survey-blocks.ensures))
+    sizes-are sized.requires _ sized.count_records-count.ensures (size sized) sized.record_size-size.ensures.1 sized.survey_blocks-survey.ensures))

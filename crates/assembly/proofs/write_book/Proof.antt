@@ -10,8 +10,8 @@ returns : tie.Need-returns
 returns c =
     let start : tie.Start = c.before.before.before.before.before.before.before.before.before.before.before.before.before.before.before.before.before in
     book-lent start.requires.0 start.requires.1.0 _ _ start.requires.1.1
-    c.before.before.before.before.before.before.before.before.before.before.write-blocks.ensures _ _
-    c.before.before.before.before.before.before.write-records.ensures c.before.before.put-trailer.ensures
+    c.write_blocks.ensures _ _
+    c.write_records.ensures c.put_trailer.ensures
 
 pub write_book_spec : {M : Type 1} → statement M
 write_book_spec =
@@ -29,6 +29,6 @@ write_book_spec =
     (λ c. search rules)
     (λ c. search rules)
     (λ c. search rules)
-    (λ c κs. search (rules, c.before.before.before.before.before.before.before.before.before.before.before.before.before.before.requires.1.0.whole))
+    (λ c κs. search (rules, c.requires.1.0.whole))
     (λ c. omega arith)
     returns)

@@ -15,16 +15,10 @@ write_records_spec =
     (λ c κs. search rules)
     (λ c. search rules)
     (λ c κs.
-    let ruled = c.before.before.before.before in
-    let start = ruled.before.before.before.before.before in
-    rows-ask (kind_by start.args.kind) ruled.rule-of.result (rule_told start.args.kind _ ruled.rule-of.ensures) start.requires)
+    rows-ask (kind_by c.args.kind) c.rule_of-rule.result (rule_told c.args.kind _ c.rule_of-rule.ensures) c.requires)
     (λ c. search rules)
     (λ c. search rules)
     (λ c.
-    let put = c.before.before in
-    let ruled = put.before.before.before.before.before in
-    let start = ruled.before.before.before.before.before in
-    rows-put (kind_by start.args.kind) ruled.rule-of.result (rule_told start.args.kind _ ruled.rule-of.ensures) put.write-nodes.ensures)
+    rows-put (kind_by c.args.kind) c.rule_of-rule.result (rule_told c.args.kind _ c.rule_of-rule.ensures) c.write_nodes.ensures)
     (λ c.
-    let formed = c.before.before in
-    columns-put (kind_by formed.before.before.before.before.before.before.args.kind) formed.form_of.result formed.form_of.ensures c.enum-told2.given.1))
+    columns-put (kind_by c.args.kind) c.form_of-form.result c.form_of-form.ensures c.in-Columns.is))

@@ -6,16 +6,15 @@ use borrow.Author.Rules.{rules}
 use Rattle.build.proofs.build_judged.Statement.{statement}
 use Rattle.build.proofs.build_judged.Tie as tie
 
-returns : tie.Need-returns
-returns c = ends-nine c.before.before.before.before.before.before.before.requires c.before.sizes-of.ensures _ (omega arith)
+returns : tie.Need-returns-then-total-gt65535
+returns c = ends-nine c.requires c.sizes_of-s.ensures _ (omega arith)
 
-returns-2 : tie.Need-returns-2
-returns-2 c = ends-four c.before.before.before.before.before.before.before.before.requires c.before.before.sizes-of.ensures _ (omega arith) (omega arith)
+returns-2 : tie.Need-returns-then-room-total
+returns-2 c = ends-four c.requires c.sizes_of-s.ensures _ (omega arith) (omega arith)
 
-returns-3 : tie.Need-returns-3
+returns-3 : tie.Need-returns
 returns-3 c =
-    let sizes = c.before.before.before.before.before.before in
-    ends-done sizes.before.before.before.before.before.before.requires sizes.sizes-of.ensures _ _ (omega arith) (omega arith) c.before.before.write-book.ensures
+    ends-done c.requires c.sizes_of-s.ensures _ _ (omega arith) (omega arith) c.write_book.ensures
 
 pub build_judged_spec : {M : Type 1} → statement M
 build_judged_spec =

@@ -12,18 +12,17 @@ use Rattle.build.proofs.build_list.Statement.{statement}
 use Rattle.build.proofs.build_list.Tie as tie
 
 -- the list is judged by the kind's rule
-own : (c : tie.After-rule-of) → rule_by c.rule-of.result ≡ rule_of (kind_by c.before.before.before.before.before.args.kind)
-own c = rule_told c.before.before.before.before.before.args.kind c.rule-of.result c.rule-of.ensures
+own : (c : tie.After-rule_of-rule) → rule_by c.rule_of-rule.result ≡ rule_of (kind_by c.args.kind)
+own c = rule_told c.args.kind c.rule_of-rule.result c.rule_of-rule.ensures
 
-returns-2 : tie.Need-returns-2
-returns-2 c = build-high (kind_by c.before.before.before.before.before.args.kind) _ _ _ _ c.refuse2.ensures (omega arith)
+returns-2 : tie.Need-returns-then-block-gt64
+returns-2 c = build-high (kind_by c.args.kind) _ _ _ _ c.refuse-then-block-gt64.ensures (omega arith)
 
 -- the bad record's code and number
-returns-3 : tie.Need-returns-3
+returns-3 : tie.Need-returns-in-Bad
 returns-3 c =
-    let judged = c.before.before.before.before.before.before.before in
-    let ruled = judged.before.before.before.before in
-    build-bad (kind_by ruled.before.before.before.before.before.args.kind) _ _ _ (λ none. omega arith) (omega arith) ruled.rule-of.result (own ruled) _ _ _ c.refuse3.ensures judged.judge.ensures refl c.before.before.verdict.given.1
+    let ruled = c in
+    build-bad (kind_by ruled.args.kind) _ _ _ (λ none. omega arith) (omega arith) ruled.rule_of-rule.result (own ruled.before.before.before.before.before.before.before.before.before) _ _ _ c.refuse-in-Bad.ensures c.judge-verdict.ensures refl c.in-Bad.is
 
 pub build_list_spec : {M : Type 1} → statement M
 build_list_spec =
@@ -44,7 +43,7 @@ build_list_spec =
     (λ c. search rules)
     (λ c. search rules)
     (λ c. search rules)
-    (λ c κs. search (judged-asks, own c.before.before.before.before.before.before.before.before.before.before.before.before.before.before))
+    (λ c κs. search (judged-asks, own c.before.before.before.before.before.before.before.before.before.before.before.before))
     (λ c. search rules)
     (λ c κs. search rules)
     (λ c. search rules)

@@ -7,10 +7,10 @@ use Rattle.counting.proofs.Counting.{deeper-start, deeper-some, deeper-less, dee
 use Rattle.counting.proofs.close_frames.Statement.{statement}
 use Rattle.counting.proofs.close_frames.Tie as tie
 
-abbrev invariant-loop : tie.invariant-loop
+abbrev invariant-loop : tie.invariant-loop-frame
 invariant-loop depths left top frame₀ frame = Deeper depths left top frame
 
-abbrev decreases-loop : tie.decreases-loop
+abbrev decreases-loop : tie.decreases-loop-frame
 decreases-loop depths left top frame₀ frame = frame
 
 pub close_frames_spec : {M : Type 1} → statement M

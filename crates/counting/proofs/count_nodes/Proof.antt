@@ -6,21 +6,19 @@ use Rattle.counting.proofs.Counting.{Counting, counting-start, counting-narrow, 
 use Rattle.counting.proofs.count_nodes.Statement.{statement}
 use Rattle.counting.proofs.count_nodes.Tie as tie
 
-abbrev invariant-loop : tie.invariant-loop
+abbrev invariant-loop : tie.invariant-loop-j
 invariant-loop n shares depths₀ top₀ count₀ j₀ depths top count j = Counting n shares depths top count j
 
-abbrev decreases-loop : tie.decreases-loop
+abbrev decreases-loop : tie.decreases-loop-j
 decreases-loop n shares depths₀ top₀ count₀ j₀ depths top count j = j
 
-loop-again : tie.Need-loop-preserved invariant-loop decreases-loop
+loop-again : tie.Need-loop-j-preserved-then-wide-left invariant-loop decreases-loop
 loop-again c =
-    let left = c.before.before.before.before in
-    let turn = left.before in
-    counting-push turn.before.before.before.requires turn.before.loop.invariant turn.loop-test.true _
-    c.before.before.close-frames.ensures left.left-of.ensures.0 left.left-of.ensures.1 _ c.before.wide.ensures.0 c.if1.true
+    counting-push c.requires c.loop-j.invariant c.loop-j-test.true _
+    c.close_frames-top.ensures c.left_of-left.ensures.0 c.left_of-left.ensures.1 _ c.wide.ensures.0 c.if-wide-left.true
 
-loop-again-2 : tie.Need-loop-preserved-2 invariant-loop decreases-loop
-loop-again-2 c = search (counting-keep, c.before.before.before.before.before.before.loop.invariant)
+loop-again-2 : tie.Need-loop-j-preserved invariant-loop decreases-loop
+loop-again-2 c = search (counting-keep, c.loop-j.invariant)
 
 pub count_nodes_spec : {M : Type 1} → statement M
 count_nodes_spec =

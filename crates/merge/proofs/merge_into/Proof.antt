@@ -20,7 +20,7 @@ again : tie.Need-loop-i-preserved invariant-loop decreases-loop
 again c =
     elim c.if-next.branch [
       | then-next w ↦ rw w.room-is (joins-more c.loop-i.invariant c.requires c.loop-i-test.true c.next_head-next.ensures _ (in-second _ _ w.if-next.true) w.put_record.ensures)
-      | else-next w ↦ rw w.room-is (joins-more c.loop-i.invariant c.requires c.loop-i-test.true c.next_head-next.ensures _ (in-first _ _ w.if-next.false) w.put_record-QQ.ensures)
+      | else-next w ↦ rw w.room-is (joins-more c.loop-i.invariant c.requires c.loop-i-test.true c.next_head-next.ensures _ (in-first _ _ w.if-next.false) w.put_record-else-next.ensures)
     ]
 
 pub merge_into_spec : {M : Type 1} → statement M
