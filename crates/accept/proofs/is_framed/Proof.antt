@@ -54,4 +54,4 @@ is_framed_spec =
     (λ c. search rules)
     (λ c κs. walk-ask _ _ _ _ _ (four c.before))
     (λ c. by-rule c.before.before Plain c.in-Plain.is c.check_entries.result c.check_entries.ensures)
-    (λ c. by-rule c.before.before.before Folded c.in-Folded.is c.check_entries-in-Folded.result c.check_entries-in-Folded.ensures))
+    (λ c. by-rule c.before.before Folded c.in-Folded.is c.check_entries-in-Folded.result c.check_entries-in-Folded.ensures))

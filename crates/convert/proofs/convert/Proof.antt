@@ -16,10 +16,8 @@ convert_spec =
     (λ c κs. search rules)
     (λ c κs. search rules)
     (λ c.
-    let told = c.before.before in
-    let start = told.before.before.before.before.before.before.before in
-    let a = start.args in
-    turn-refused _ a.room.now a.from a.to start.requires _ (search rules) _ told.before.before.before.before.check-book.ensures.1 told.before.before.checked.given.1 _ told.refused-by.ensures c.before.if1.true _ c.refuse2.ensures)
+    let a = c.args in
+    turn-refused _ a.room.now a.from a.to c.requires _ (search rules) _ c.check_book-checked.ensures.1 c.in-Sound.is _ c.refused_by-refused.ensures c.if-refused-ne0.true _ c.refuse-then-refused-ne0.ensures)
     (λ c κs. (search turn-ask, search turn-room))
     (λ c. search turn-unsound)
     (λ c. search rules)

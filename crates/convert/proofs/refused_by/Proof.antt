@@ -12,6 +12,6 @@ refused_by_spec =
     (tie.spec
     (λ c κs. search rules)
     (λ c κs. search rules)
-    (λ c. let a = c.before.before.before.args in refusal-other a.own a.from _ _ c.before.before.mark-back.ensures c.before.mark-back2.ensures c.if1.true)
-    (λ c. let a = c.before.before.before.before.args in refusal-short a.own a.from _ _ c.before.before.before.mark-back.ensures c.before.before.mark-back2.ensures c.before.if1.false c.if2.true)
-    (λ c. let a = c.before.before.before.before.args in refusal-none a.own a.from _ _ c.before.before.before.mark-back.ensures c.before.before.mark-back2.ensures c.before.if1.false (omega (arith, c.if2.false))))
+    (λ c. let a = c.args in refusal-other a.own a.from _ _ c.mark_back-back.ensures c.mark_back-wanted.ensures c.if-back-wanted.true)
+    (λ c. let a = c.args in refusal-short a.own a.from _ _ c.mark_back-back.ensures c.mark_back-wanted.ensures c.if-back-wanted.false c.if-room-size.true)
+    (λ c. let a = c.args in refusal-none a.own a.from _ _ c.mark_back-back.ensures c.mark_back-wanted.ensures c.if-back-wanted.false (omega (arith, c.if-room-size.false))))

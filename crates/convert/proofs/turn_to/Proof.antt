@@ -14,5 +14,5 @@ turn_to_spec =
     (λ c. search rules)
     (λ c. search rules)
     (λ c. search rules)
-    (λ c. told-turn c.before.before.before.args.kind _ _ Rows c.before.before.form_of.ensures c.enum_told.given.1)
-    (λ c. told-turn c.before.before.before.args.kind _ _ Columns c.before.before.form_of.ensures c.enum-told2.given.1))
+    (λ c. told-turn c.args.kind _ _ Rows c.form_of-form.ensures c.in-Rows.is)
+    (λ c. told-turn c.args.kind _ _ Columns c.form_of-form.ensures c.in-Columns.is))

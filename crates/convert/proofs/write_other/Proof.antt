@@ -7,34 +7,34 @@ use Rattle.convert.proofs.Other.{other-lent, other-total, table-asks}
 use Rattle.convert.proofs.write_other.Statement.{statement}
 use Rattle.convert.proofs.write_other.Tie as tie
 
-sub-end : tie.Need-overflow-sub-end
-sub-end c = omega (arith, other-total c.before.before.before.before.requires.0)
+sub-end : tie.Need-overflow_sub-end
+sub-end c = omega (arith, other-total c.requires.0)
 
-part-copy-end : tie.Need-slice-bounds-copy-end
-part-copy-end c = search (rules, other-total c.before.before.before.before.before.requires.0)
+part-copy-end : tie.Need-slice_bounds-copy-end
+part-copy-end c = search (rules, other-total c.requires.0)
 
 copy-requires : tie.Need-copy-requires
-copy-requires c κs = search (rules, other-total c.before.before.before.before.before.before.before.requires.0)
+copy-requires c κs = search (rules, other-total c.requires.0)
 
-sub-turn-table : tie.Need-overflow-sub-turn-table
-sub-turn-table c = omega (arith, other-total c.before.before.before.before.before.before.before.before.before.before.requires.0, c.before.before.before.before.before.before.before.wide16.ensures.0)
+sub-turn-table : tie.Need-slice_bounds-turn_table-count
+sub-turn-table c = omega (arith, other-total c.requires.0, c.wide16-nodes.ensures.0)
 
-part-turn-table-start : tie.Need-slice-bounds-turn-table-start
-part-turn-table-start c = search (rules, other-total c.before.before.before.before.before.before.before.before.before.before.requires.0)
+part-turn-table-start : tie.Need-slice_bounds-turn_table-start
+part-turn-table-start c = search (rules, other-total c.requires.0)
 
-turn-table-requires : tie.Need-turn-table-requires
+turn-table-requires : tie.Need-turn_table-requires
 turn-table-requires c κs =
-    table-asks c.before.before.before.before.before.before.before.before.before.before.before.requires.0 c.before.before.before.before.before.before.before.before.wide16.ensures.0 c.before.before.before.before.before.before.before.wide162.ensures.0 c.before.before.before.before.before.before.turn-to.ensures _ (search (rules, part_length, other-total c.before.before.before.before.before.before.before.before.before.before.before.requires.0))
+    table-asks c.requires.0 c.wide16-nodes.ensures.0 c.wide16-m.ensures.0 c.turn_to-turn.ensures _ (search (rules, part_length, other-total c.requires.0))
 
-put-trailer-requires : tie.Need-put-trailer-requires
-put-trailer-requires c κs = search (rules, part_length, other-total c.before.before.before.before.before.before.before.before.before.before.before.before.before.before.before.before.before.before.requires.0)
+put-trailer-requires : tie.Need-put_trailer-requires
+put-trailer-requires c κs = search (rules, part_length, other-total c.requires.0)
 
 returns : tie.Need-returns
 returns c =
     let start : tie.Start = c.before.before.before.before.before.before.before.before.before.before.before.before.before.before.before.before.before.before.before.before.before in
-    other-lent start.requires.0 c.before.before.before.before.before.before.before.before.before.before.before.before.before.before.before.before.before.before.wide16.ensures.0 c.before.before.before.before.before.before.before.before.before.before.before.before.before.before.before.before.before.wide162.ensures.0 c.before.before.before.before.before.before.before.before.before.before.before.before.before.before.before.before.turn-to.ensures _ _ _ _
-    c.before.before.before.before.before.wide163.ensures.0 c.before.before.before.before.wide164.ensures.0 c.before.before.before.wide165.ensures.0 start.requires.1
-    c.before.before.before.before.before.before.before.before.before.before.before.before.before.copy.ensures.1 c.before.before.before.before.before.before.before.before.before.turn-table.ensures c.before.before.put-trailer.ensures
+    other-lent start.requires.0 c.wide16-nodes.ensures.0 c.wide16-m.ensures.0 c.turn_to-turn.ensures _ _ _ _
+    c.wide16.ensures.0 c.wide16-2.ensures.0 c.wide16-3.ensures.0 start.requires.1
+    c.copy.ensures.1 c.turn_table.ensures c.put_trailer.ensures
 
 pub write_other_spec : {M : Type 1} → statement M
 write_other_spec =

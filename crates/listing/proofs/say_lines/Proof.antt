@@ -10,15 +10,15 @@ use Rattle.names.specs.Names.{PositionAsk}
 use Rattle.listing.proofs.say_lines.Statement.{statement}
 use Rattle.listing.proofs.say_lines.Tie as tie
 
-abbrev invariant-loop : tie.invariant-loop
+abbrev invariant-loop : tie.invariant-loop-i
 invariant-loop book t n k before₀ before-len₀ i₀ before before-len i = before-len ≤ length before
 
-abbrev decreases-loop : tie.decreases-loop
+abbrev decreases-loop : tie.decreases-loop-i
 decreases-loop book t n k before₀ before-len₀ i₀ before before-len i = n - i
 
 -- in a turn
-asked : (c : tie.In-loop invariant-loop decreases-loop) → let a = c.before.before.before.before.before.args in PositionAsk a.book.now a.t c.before.loop.i
-asked c = c.before.before.before.before.before.requires _ (omega arith)
+asked : (c : tie.In-loop-i invariant-loop decreases-loop) → let a = c.args in PositionAsk a.book.now a.t c.loop-i.i
+asked c = c.requires _ (omega arith)
 
 pub say_lines_spec : {M : Type 1} → statement M
 say_lines_spec =
@@ -34,7 +34,7 @@ say_lines_spec =
     (λ c. sym (length-take-le _ _ (search rules)))
     (λ c. search rules)
     (λ c. sym (length-take-le _ _ (search rules)))
-    (λ c κs. omega (arith, asked c.before.before.before.before, c.before.before.before.before.before.before.wide162.ensures.0))
+    (λ c κs. omega (arith, asked c.before.before.before.before, c.wide16-k.ensures.0))
     (λ c. search rules)
     (λ c. search rules)
     (λ c. search rules)

@@ -6,10 +6,10 @@ use lib.ListN.{length}
 use Rattle.listing.proofs.say_name.Statement.{statement}
 use Rattle.listing.proofs.say_name.Tie as tie
 
-abbrev invariant-loop : tie.invariant-loop
+abbrev invariant-loop : tie.invariant-loop-i
 invariant-loop name i₀ i = i ≤ length name
 
-abbrev decreases-loop : tie.decreases-loop
+abbrev decreases-loop : tie.decreases-loop-i
 decreases-loop name i₀ i = length name - i
 
 pub say_name_spec : {M : Type 1} → statement M

@@ -10,13 +10,13 @@ use Rattle.names.proofs.put_name.Statement.{statement}
 use Rattle.names.proofs.put_name.Tie as tie
 
 -- the name at the position
-name-at : (c : tie.After-read-name) → let a = c.before.before.before.args in Named (get_or (names_of a.book.now) a.position []) c.read_name.result.len c.read_name.result.name
-name-at c = c.read_name.ensures.0
+name-at : (c : tie.After-read_name-entry) → let a = c.args in Named (get_or (names_of a.book.now) a.position []) c.read_name-entry.result.len c.read_name-entry.result.name
+name-at c = c.read_name-entry.ensures.0
 
-returns-2 : tie.Need-returns-2
+returns-2 : tie.Need-returns
 returns-2 c =
-    let read = name-at c.before.before.before.before.before.before.before.before in
-    put_all _ _ _ _ read _ (search rules) c.before.before.copy.ensures.1
+    let read = name-at c.before.before.before.before.before.before.before in
+    put_all _ _ _ _ read _ (search rules) c.copy.ensures.1
 
 pub put_name_spec : {M : Type 1} → statement M
 put_name_spec =

@@ -9,17 +9,17 @@ use Rattle.names.proofs.read_at.Statement.{statement}
 use Rattle.names.proofs.read_at.Tie as tie
 
 -- where the block is known
-here : (c : tie.After-block-of) → let a = c.before.before.args in BlockFound a.book.now a.position a.table c.Block-of.result (a.position % a.k)
-here c = found c.before.before.requires c.Block-of.ensures refl
+here : (c : tie.After-block_of-block) → let a = c.args in BlockFound a.book.now a.position a.table c.block_of-block.result (a.position % a.k)
+here c = found c.requires c.block_of-block.ensures refl
 
 -- and how many names stand before it there
-both : (c : tie.After-rest-of) → let a = c.before.before.before.before.args in BlockFound a.book.now a.position a.table c.before.before.Block-of.result c.rest_of.result
-both c = found c.before.before.before.before.requires c.before.before.Block-of.ensures c.rest_of.ensures
+both : (c : tie.After-rest_of) → let a = c.args in BlockFound a.book.now a.position a.table c.block_of-block.result c.rest_of.result
+both c = found c.requires c.block_of-block.ensures c.rest_of.ensures
 
 returns : tie.Need-returns
 returns c =
     let rest = c.before in
-    (found_name (both rest) rest.before.number_at.ensures.0 _ _ c.name_of.ensures.0, found-entries rest.before.before.before.before.requires rest.rest_of.ensures _ c.name_of.ensures.1)
+    (found_name (both rest) rest.number_at-start.ensures.0 _ _ c.name_of.ensures.0, found-entries rest.requires rest.rest_of.ensures _ c.name_of.ensures.1)
 
 pub read_at_spec : {M : Type 1} → statement M
 read_at_spec =
@@ -30,5 +30,5 @@ read_at_spec =
     (λ c. omega (arith, here c))
     (λ c κs. omega (arith, here c))
     (λ c κs. search rules)
-    (λ c κs. found-asks (both c) c.before.number_at.ensures.0)
+    (λ c κs. found-asks (both c) c.number_at-start.ensures.0)
     returns)

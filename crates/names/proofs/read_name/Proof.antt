@@ -11,5 +11,5 @@ read_name_spec =
     (tie.spec
     (λ c κs. search rules)
     (λ c κs. search rules)
-    (λ c κs. place-ask c.before.before.before.requires c.before.wide16.ensures.0 c.wide162.ensures.0)
+    (λ c κs. place-ask c.requires c.wide16-k.ensures.0 c.wide16-table.ensures.0)
     (λ c. c.read_at.ensures))

@@ -15,54 +15,45 @@ use Rattle.questions.proofs.ask.Statement.{statement}
 use Rattle.questions.proofs.ask.Tie as tie
 
 -- the question is not too long
-short : (c : tie.Else1) → length c.before.before.before.args.question.now ≤ 200
+short : (c : tie.Else-question-gt200) → length c.args.question.now ≤ 200
 short c = omega arith
 
 -- the question is too long
-returns : tie.Need-returns
+returns : tie.Need-returns-then-question-gt200
 returns c =
-    let known = c.before.before.before in
-    ask-long _ known.before.args.question.now _ known.shared-slice-known.given known.before.requires _ c.look-at-nothing.ensures c.before.if1.true
+    ask-long _ c.args.question.now _ c.shared_slice_known-1.given c.requires _ c.look_at_nothing.ensures c.if-question-gt200.true
 
 -- nearest is asked of a book without names
-returns-2 : tie.Need-returns-2
+returns-2 : tie.Need-returns-then-kind-eq4
 returns-2 c =
-    let none = c.before.before in
-    let shorter = none.before.before in
-    let known = shorter.before.before in
-    nearest-none _ known.before.args.question.now _ known.shared-slice-known.given known.before.requires (short shorter) _ c.look-at-nothing2.ensures (sym none.before.names.ensures.0 ∙ none.if2.true) c.before.if3.true
+    let shorter = c in
+    nearest-none _ shorter.args.question.now _ shorter.shared_slice_known-1.given shorter.requires (short shorter.before.before.before.before) _ c.look_at_nothing-then-kind-eq4.ensures (sym c.names.ensures.0 ∙ c.if-names-eq0.true) c.if-kind-eq4.true
 
 -- another kind is asked of a book without names
-returns-3 : tie.Need-returns-3
+returns-3 : tie.Need-returns-then-names-eq0
 returns-3 c =
-    let none = c.before.before in
-    let shorter = none.before.before in
-    let known = shorter.before.before in
-    ask-none _ known.before.args.question.now _ known.shared-slice-known.given known.before.requires (short shorter) _ c.look-at-nothing3.ensures (sym none.before.names.ensures.0 ∙ none.if2.true) c.before.if3.false
+    let shorter = c in
+    ask-none _ shorter.args.question.now _ shorter.shared_slice_known-1.given shorter.requires (short shorter.before.before.before.before) _ c.look_at_nothing-then-names-eq0.ensures (sym c.names.ensures.0 ∙ c.if-names-eq0.true) c.if-kind-eq4.false
 
 -- the book has names
-some : (c : tie.Else2) → told c.before.before.before.before.before.args.book.now 0 ≡ 0 → ⊥
-some c z = c.if2.false (c.before.names.ensures.0 ∙ z)
+some : (c : tie.Else-names-eq0) → told c.args.book.now 0 ≡ 0 → ⊥
+some c z = c.if-names-eq0.false (c.names.ensures.0 ∙ z)
 
 -- nearest is answered
-returns-4 : tie.Need-returns-4
+returns-4 : tie.Need-returns-then-kind-eq4-2
 returns-4 c =
-    let answer = c.before in
-    let near = answer.before in
-    let named = near.before in
+    let named = c in
     let shorter = named.before.before in
-    let known = shorter.before.before in
-    let a = known.before.args in
-    let g = subst (λ (k : ℕ). pair_of answer.look_up.result ≡ answer_of k (asked_in a.book.now a.question.now) (words_in a.book.now)) (sym near.if4.true) answer.look_up.ensures.0 in
-    ask-lit _ a.question.now _ known.shared-slice-known.given known.before.requires (short shorter) (some named) answer.look_up.ensures.1 g near.if4.true c.lit-part.ensures
+    let a = shorter.args in
+    let g = subst (λ (k : ℕ). pair_of c.look_up-near.result ≡ answer_of k (asked_in a.book.now a.question.now) (words_in a.book.now)) (sym c.if-kind-eq4-2.true) c.look_up-near.ensures.0 in
+    ask-lit _ a.question.now _ shorter.shared_slice_known-1.given shorter.requires (short shorter.before.before.before) (some named.before.before.before) c.look_up-near.ensures.1 g c.if-kind-eq4-2.true c.lit_part.ensures
 
 -- another kind is
-returns-5 : tie.Need-returns-5
+returns-5 : tie.Need-returns
 returns-5 c =
     let named = c.before.before in
     let shorter = named.before.before in
-    let known = shorter.before.before in
-    ask-some _ known.before.args.question.now _ known.shared-slice-known.given known.before.requires (short shorter) (some named) c.look-up2.ensures.1 c.look-up2.ensures.0 c.before.if4.false
+    ask-some _ shorter.args.question.now _ shorter.shared_slice_known-1.given shorter.requires (short shorter) (some named) c.look_up-reply.ensures.1 c.look_up-reply.ensures.0 c.if-kind-eq4-2.false
 
 pub ask_spec : {M : Type 1} → statement M
 ask_spec =
@@ -70,7 +61,7 @@ ask_spec =
     (tie.spec
     (λ c κs. search rules)
     returns
-    (λ c κs. let known = c.before.before in ask-trailed _ known.before.args.question.now _ known.shared-slice-known.given known.before.requires)
+    (λ c κs. ask-trailed _ c.args.question.now _ c.shared_slice_known-1.given c.requires)
     (λ c κs. search rules)
     returns-2
     (λ c κs. search rules)

@@ -15,7 +15,7 @@ ask_alone_spec =
     (λ c κs. search rules)
     (λ c. search rules)
     (λ c κs.
-    let told = c.enum-told2.given in
-    record { trailer = told.0.0; checked = check-opens _ _ _ c.before.before.check-book.ensures.1 told.1; number = c.before.before.before.before.before.requires })
+    let told = c.enum_told-in-Sound-1.given in
+    record { trailer = told.0.0; checked = check-opens _ _ _ c.check_book-checked.ensures.1 told.1; number = c.requires })
     (λ c. search ask-unsound)
     (λ c. search rules))

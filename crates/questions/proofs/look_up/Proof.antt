@@ -8,5 +8,5 @@ pub look_up_spec : {M : Type 1} → statement M
 look_up_spec =
     tie.close
     (tie.spec
-    (λ c κs. askable _ c.before.before.args.kind c.before.shared-slice-known.given c.before.before.requires)
+    (λ c κs. askable _ c.args.kind c.shared_slice_known-1.given c.requires)
     (λ c. c.answer.ensures))

@@ -9,23 +9,23 @@ use Rattle.search.proofs.answer.Statement.{statement}
 use Rattle.search.proofs.answer.Tie as tie
 
 -- by the map that the trailer tells of
-known : (c : tie.After-pace-of) → Askable c.before.before.before.args.book.now c.pace-of.result.stride c.pace-of.result.step
-known c = let ask = c.before.before.before.requires in own-askable ask.parts ask.searchable c.pace-of.ensures.0 c.pace-of.ensures.1
+known : (c : tie.After-pace_of-pace) → Askable c.args.book.now c.pace_of-pace.result.stride c.pace_of-pace.result.step
+known c = let ask = c.requires in own-askable ask.parts ask.searchable c.pace_of-pace.ensures.0 c.pace_of-pace.ensures.1
 
-returns : tie.Need-returns
-returns c = (by-exact _ _ _ (omega arith) c.ask-exact.ensures.0, c.ask-exact.ensures.1)
+returns : tie.Need-returns-then-kind-eq1
+returns c = (by-exact _ _ _ (omega arith) c.ask_exact.ensures.0, c.ask_exact.ensures.1)
 
-returns-2 : tie.Need-returns-2
-returns-2 c = (by_place _ _ _ (omega arith) c.ask-place.ensures.0, c.ask-place.ensures.1)
+returns-2 : tie.Need-returns-then-kind-lt3
+returns-2 c = (by_place _ _ _ (omega arith) c.ask_place.ensures.0, c.ask_place.ensures.1)
 
-returns-3 : tie.Need-returns-3
-returns-3 c = (by-range _ _ _ (omega arith) c.ask-range.ensures.0, c.ask-range.ensures.1)
+returns-3 : tie.Need-returns-then-kind-eq3
+returns-3 c = (by-range _ _ _ (omega arith) c.ask_range.ensures.0, c.ask_range.ensures.1)
 
-returns-4 : tie.Need-returns-4
-returns-4 c = (by-nearest _ _ _ (omega arith) c.ask-nearest.ensures.0, c.ask-nearest.ensures.1)
+returns-4 : tie.Need-returns-then-kind-eq4
+returns-4 c = (by-nearest _ _ _ (omega arith) c.ask_nearest.ensures.0, c.ask_nearest.ensures.1)
 
-returns-5 : tie.Need-returns-5
-returns-5 c = (by_width _ _ _ (omega arith) c.ask-width.ensures.0, c.ask-width.ensures.1)
+returns-5 : tie.Need-returns
+returns-5 c = (by_width _ _ _ (omega arith) c.ask_width.ensures.0, c.ask_width.ensures.1)
 
 pub answer_spec : {M : Type 1} → statement M
 answer_spec =

@@ -5,20 +5,17 @@ use Rattle.search.proofs.Seats.{exact-found, exact-longer, exact-short}
 use Rattle.search.proofs.ask_exact.Statement.{statement}
 use Rattle.search.proofs.ask_exact.Tie as tie
 
-returns : tie.Need-returns
+returns : tie.Need-returns-then-met-question
 returns c =
-    let met = c.before.before in
-    (exact-short _ met.before.before.before.requires.searchable met.meet.ensures.0 c.if1.true, met.meet.ensures.1)
+    (exact-short _ c.requires.searchable c.meet-met.ensures.0 c.if-met-question.true, c.meet-met.ensures.1)
 
-returns-2 : tie.Need-returns-2
+returns-2 : tie.Need-returns-then-met
 returns-2 c =
-    let met = c.before.before.before.before in
-    (exact-longer _ met.before.before.before.requires.searchable met.meet.ensures.0 c.before.before.if1.false c.if2.true, met.meet.ensures.1)
+    (exact-longer _ c.requires.searchable c.meet-met.ensures.0 c.if-met-question.false c.if-met.true, c.meet-met.ensures.1)
 
-returns-3 : tie.Need-returns-3
+returns-3 : tie.Need-returns
 returns-3 c =
-    let met = c.before.before.before.before in
-    (exact-found _ met.before.before.before.requires.searchable met.meet.ensures.0 c.before.before.if1.false c.if2.false, met.meet.ensures.1)
+    (exact-found _ c.requires.searchable c.meet-met.ensures.0 c.if-met-question.false c.if-met.false, c.meet-met.ensures.1)
 
 pub ask_exact_spec : {M : Type 1} → statement M
 ask_exact_spec = tie.close (tie.spec (λ c κs. search rules) returns returns-2 returns-3)

@@ -12,56 +12,40 @@ use Rattle.search.proofs.seat.Statement.{statement}
 use Rattle.search.proofs.seat.Tie as tie
 
 -- the question is greater
-returns : tie.Need-returns
+returns : tie.Need-returns-then-spot-s
 returns c =
-    let edge = c.before.before in
-    let names = edge.before.before in
-    let symbol = names.before.before in
-    let ruled = symbol.before in
-    let start = ruled.before.before.before in
-    let below : start.args.spot.symbol < symbol.symbol-at.result = omega arith in
-    seat-before start.requires edge.before.depth.ensures.0 ruled.rule.result ruled.rule.ensures symbol.symbol-at.ensures names.before.first.ensures.0
-    names.names.ensures.0 edge.if1.true below
+    let below : c.args.spot.symbol < c.symbol_at-s.result = omega arith in
+    seat-before c.requires c.depth.ensures.0 c.rule.result c.rule.ensures c.symbol_at-s.ensures c.first-first.ensures.0
+    c.names.ensures.0 c.if-shared-depth.true below
 
-returns-2 : tie.Need-returns-2
+returns-2 : tie.Need-returns-then-shared-depth
 returns-2 c =
-    let edge = c.before.before in
-    let symbol = edge.before.before.before.before in
-    let ruled = symbol.before in
-    seat-after ruled.before.before.before.requires edge.before.depth.ensures.0 ruled.rule.result ruled.rule.ensures symbol.symbol-at.ensures edge.before.before.before.first.ensures.0
-    edge.if1.true (omega arith)
+    seat-after c.requires c.depth.ensures.0 c.rule.result c.rule.ensures c.symbol_at-s.ensures c.first-first.ensures.0
+    c.if-shared-depth.true (omega arith)
 
 -- a child's names are greater
-returns-3 : tie.Need-returns-3
+returns-3 : tie.Need-returns-then-c-end
 returns-3 c =
-    let deep = c.before.before.before.before.before in
-    let symbol = deep.before.before.before.before in
-    let ruled = symbol.before in
-    seat-child ruled.before.before.before.requires deep.before.depth.ensures.0 ruled.rule.result ruled.rule.ensures symbol.symbol-at.ensures deep.if1.false
-    c.before.before.seek.ensures c.before.before.before.before.nodes.ensures.0 c.first2.ensures.0 c.before.if3.true
+    seat-child c.requires c.depth.ensures.0 c.rule.result c.rule.ensures c.symbol_at-s.ensures c.if-shared-depth.false
+    c.seek-c.ensures c.nodes.ensures.0 c.first.ensures.0 c.if-c-end.true
 
-returns-4 : tie.Need-returns-4
+returns-4 : tie.Need-returns
 returns-4 c =
-    let deep = c.before.before.before.before in
-    let symbol = deep.before.before.before.before in
-    let ruled = symbol.before in
-    seat-end ruled.before.before.before.requires deep.before.depth.ensures.0 ruled.rule.result ruled.rule.ensures symbol.symbol-at.ensures deep.if1.false
-    c.before.seek.ensures c.before.before.before.nodes.ensures.0 deep.before.before.before.first.ensures.0 deep.before.before.names.ensures.0 c.if3.false
+    seat-end c.requires c.depth.ensures.0 c.rule.result c.rule.ensures c.symbol_at-s.ensures c.if-shared-depth.false
+    c.seek-c.ensures c.nodes.ensures.0 c.first-first.ensures.0 c.names.ensures.0 c.if-c-end.false
 
 -- the node that was found
-there : (c : tie.After-depth) → let a = c.before.before.before.before.before.before.before.args in AtNode a.book.now (table_map a.book.now a.stride a.step) a.spot.node
-there c = seat-node c.before.before.before.before.before.before.before.requires
+there : (c : tie.After-depth) → let a = c.args in AtNode a.book.now (table_map a.book.now a.stride a.step) a.spot.node
+there c = seat-node c.requires
 
 -- the row of its children
-row : tie.Need-seek-requires
+row : tie.Need-seek-c-requires
 row c κs =
-    let deep = c.before.before in
-    let start = deep.before.before.before.before.before.before.before.before in
-    let a = start.args in
+    let a = c.args in
     record {
-      fork = seat-fork start.requires deep.before.depth.ensures.0 deep.if1.false;
+      fork = seat-fork c.requires c.depth.ensures.0 c.if-shared-depth.false;
       part = counts-cut a.step a.book.now;
-      ends = ap (λ (x : ℕ). a.spot.node + x * a.stride) c.before.nodes.ensures.0;
+      ends = ap (λ (x : ℕ). a.spot.node + x * a.stride) c.nodes.ensures.0;
     }
 
 pub seat_spec : {M : Type 1} → statement M
@@ -70,10 +54,10 @@ seat_spec =
     (tie.spec
     (λ c κs. search rules)
     (λ c κs. search rules)
-    (λ c κs. here-room (at_here (seat-node c.before.before.before.before.requires)))
-    (λ c κs. here-room (at_here (seat-node c.before.before.before.before.before.requires)))
+    (λ c κs. here-room (at_here (seat-node c.requires)))
+    (λ c κs. here-room (at_here (seat-node c.requires)))
     (λ c. search rules)
-    (λ c κs. here-room (at_here (seat-node c.before.before.before.before.before.before.requires)))
+    (λ c κs. here-room (at_here (seat-node c.requires)))
     returns
     returns-2
     (λ c κs. here-room (at_here (there c.before)))
@@ -84,6 +68,6 @@ seat_spec =
     (λ c. omega (arith, here-room (at_here (there c.before.before))))
     (λ c. search rules)
     row
-    (λ c κs. here-room (row_here (there c.before.before.before.before.before) c.before.before.before.nodes.ensures.0 c.before.seek.ensures.placed c.if3.true))
+    (λ c κs. here-room (row_here (there c.before.before.before.before.before) c.nodes.ensures.0 c.seek-c.ensures.placed c.if-c-end.true))
     returns-3
     returns-4)

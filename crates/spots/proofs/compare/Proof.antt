@@ -8,11 +8,7 @@ use Rattle.spots.proofs.compare.Tie as tie
 
 returns : tie.Need-returns
 returns c =
-    let counted = c.before.before.before in
-    let ruled = counted.before.before.before in
-    let named = ruled.before.before in
-    let start = named.before.before.before.before.before in
-    (met _ _ ruled.rule.result ruled.rule.ensures start.args.question.now _ named.read_at.ensures.0 counted.shared-symbols.ensures c.symbol-at.ensures, named.read_at.ensures.1)
+    (met _ _ c.rule-rule.result c.rule-rule.ensures c.args.question.now _ c.read_at-entry.ensures.0 c.shared_symbols-shared.ensures c.symbol_at-symbol.ensures, c.read_at-entry.ensures.1)
 
 pub compare_spec : {M : Type 1} → statement M
 compare_spec =
@@ -20,7 +16,7 @@ compare_spec =
     (tie.spec
     (λ c κs. search rules)
     (λ c κs. search rules)
-    (λ c κs. place-ask c.before.before.before.before.requires c.before.block.ensures.0 c.blocks_at.ensures.0)
+    (λ c κs. place-ask c.requires c.block-k.ensures.0 c.blocks_at.ensures.0)
     (λ c κs. search rules)
     (λ c. search rules)
     (λ c. search rules)

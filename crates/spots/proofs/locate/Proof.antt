@@ -8,19 +8,18 @@ use Rattle.spots.proofs.locate.Tie as tie
 
 returns : tie.Need-returns
 returns c =
-    let way = c.before.before.before in
-    let map = way.before.before.before.before.requires.searchable in
-    let met = c.before.compare.ensures in
-    let first = c.before.before.first.ensures.0 in
-    (spot _ _ map way.descend.ensures first met.0 c.highest.ensures, looked (end-reached _ _ map way.descend.ensures first) (end-visits _ _ map way.descend.ensures) met.1)
+    let map = c.requires.searchable in
+    let met = c.compare-met.ensures in
+    let first = c.first-position.ensures.0 in
+    (spot _ _ map c.descend-way.ensures first met.0 c.highest-node.ensures, looked (end-reached _ _ map c.descend-way.ensures first) (end-visits _ _ map c.descend-way.ensures) met.1)
 
 pub locate_spec : {M : Type 1} → statement M
 locate_spec =
     tie.close
     (tie.spec
     (λ c κs. search rules)
-    (λ c κs. (c.before.before.before.requires.searchable, c.nodes-at.ensures.0))
-    (λ c κs. here-room (end-here _ _ c.before.before.before.before.requires.searchable c.descend.ensures))
-    (λ c κs. let start = c.before.before.before.before.before in name-ask _ start.requires (end-reached _ _ start.requires.searchable c.before.descend.ensures c.first.ensures.0))
-    (λ c κs. end-path _ _ c.before.before.before.before.before.before.requires.searchable c.before.before.descend.ensures)
+    (λ c κs. (c.requires.searchable, c.nodes_at-start.ensures.0))
+    (λ c κs. here-room (end-here _ _ c.requires.searchable c.descend-way.ensures))
+    (λ c κs. name-ask _ c.requires (end-reached _ _ c.requires.searchable c.descend-way.ensures c.first-position.ensures.0))
+    (λ c κs. end-path _ _ c.requires.searchable c.descend-way.ensures)
     returns)

@@ -8,15 +8,14 @@ use Rattle.spots.proofs.reach.Tie as tie
 
 returns : tie.Need-returns
 returns c =
-    let way = c.before in
-    let map = way.before.before.before.before.requires in
-    (end-reached _ _ map way.descend.ensures c.first.ensures.0, end-visits _ _ map way.descend.ensures)
+    let map = c.requires in
+    (end-reached _ _ map c.descend-way.ensures c.first.ensures.0, end-visits _ _ map c.descend-way.ensures)
 
 pub reach_spec : {M : Type 1} → statement M
 reach_spec =
     tie.close
     (tie.spec
     (λ c κs. search rules)
-    (λ c κs. (c.before.before.before.requires, c.nodes-at.ensures.0))
-    (λ c κs. here-room (end-here _ _ c.before.before.before.before.requires c.descend.ensures))
+    (λ c κs. (c.requires, c.nodes_at-start.ensures.0))
+    (λ c κs. here-room (end-here _ _ c.requires c.descend-way.ensures))
     returns)
