@@ -12,7 +12,7 @@ use lib.ListN.{get_or, length, length-append, take}
 use lib.Seq.{slice}
 use Rattle.words.specs.Words.{Bytes, plain, word}
 use Rattle.format.specs.Forms.{Form, laid_out}
-use Rattle.format.specs.Kinds.{BookKind, ColumnBook, PlainBook, count_in, form_of, kind_of, mark_of, table_in}
+use Rattle.format.specs.Kinds.{BookKind, ColumnBook, FoldedBook, PlainBook, count_in, form_of, kind_of, mark_of, table_in}
 use Rattle.format.specs.Layout.{Layout}
 use Rattle.format.specs.Nodes.{Node, node_size, table}
 use Rattle.format.specs.Book.{block_part, book, book_by, entry_part, fits, longest_book, names_of, numbers, told, trailer}
@@ -184,6 +184,11 @@ other-book : {b : Bytes} {t : Trailer} {μ : BookKind} → OtherAsk b t μ → O
 other-book {b} {t} {μ} a = go (kind_of b) μ a.turns (book-opened (kind_of b) b t.block (names_of b) a.book)
   where
     go : (κ μ : BookKind) → Turns κ μ → (fits κ t.block (names_of b) ≡ true) × (book κ t.block (names_of b) ≡ b) → OtherBook b t μ
+    go PlainBook PlainBook x o = elim x [ ]
+    go PlainBook FoldedBook x o = elim x [ ]
+    go FoldedBook _ x o = elim x [ ]
+    go ColumnBook FoldedBook x o = elim x [ ]
+    go ColumnBook ColumnBook x o = elim x [ ]
     go PlainBook ColumnBook to-columns o = by-forms to-columns (kind-layout PlainBook) (kind-layout ColumnBook) b t a.told (fits-parts t.block (names_of b) o.0) o.1 refl
     go ColumnBook PlainBook to-rows o = by-forms to-rows (kind-layout ColumnBook) (kind-layout PlainBook) b t a.told (fits-parts t.block (names_of b) o.0) o.1 refl
 

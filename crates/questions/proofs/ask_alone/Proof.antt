@@ -14,8 +14,6 @@ ask_alone_spec =
     (λ c. search rules)
     (λ c κs. search rules)
     (λ c. search rules)
-    (λ c κs.
-    let told = c.enum_told-in-Sound-1.given in
-    record { trailer = told.0.0; checked = check-opens _ _ _ c.check_book-checked.ensures.1 told.1; number = c.requires })
+    (λ c κs. record { trailer = c.in-Sound.field-0; checked = check-opens _ _ _ c.check_book-checked.ensures.1 c.in-Sound.is; number = c.requires })
     (λ c. search ask-unsound)
     (λ c. search rules))
