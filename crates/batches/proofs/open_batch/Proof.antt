@@ -9,7 +9,7 @@ use Rattle.batches.proofs.open_batch.Statement.{statement}
 use Rattle.batches.proofs.open_batch.Tie as tie
 
 -- the rows are taken
-taken : (c : tie.Else2) → let a = c.before.before.before.args in (a.rows ≤ 64) × (a.rows ≡ a.places)
+taken : (c : tie.Else-rows-places) → let a = c.args in (a.rows ≤ 64) × (a.rows ≡ a.places)
 taken c = omega arith
 
 pub open_batch_spec : {M : Type 1} → statement M
@@ -19,10 +19,10 @@ open_batch_spec =
     (λ c κs. search rules)
     (λ c. crowded _ _ _ _ c.refuse.ensures (λ few equal. omega arith))
     (λ c κs. search rules)
-    (λ c. crowded _ _ _ _ c.refuse2.ensures (λ few equal. omega arith))
+    (λ c. crowded _ _ _ _ c.refuse-then-rows-places.ensures (λ few equal. omega arith))
     (λ c κs. search rules)
     (λ c. search rules)
     (λ c κs. search rules)
     (λ c. search rules)
-    (λ c. search (unsound-opens, taken c.before.before.before.before))
-    (λ c. search (sound-opens, taken c.before.before.before)))
+    (λ c. search (unsound-opens, taken c.before.before.before))
+    (λ c. search (sound-opens, taken c.before.before)))
