@@ -7,7 +7,7 @@ Without a word it writes the graph for dot: a box for each crate, and an arrow f
 no other crate of that line leads to. dot gives each crate its row and leads the arrows around the boxes. With --dark it copies a drawing
 from standard input and adds the colours of a dark page, which a browser takes where its pages are dark.
 
-A crate with a src/main.rt is a program. Any other is theory where its sources are comments alone, and else code."""
+A crate with a src/main.rt is a program. Any other is theory where its sources are comments and the line of its tactics alone, and else code."""
 import sys
 from pathlib import Path
 
@@ -39,7 +39,7 @@ def kind_of(name):
     if (sources / "main.rt").exists():
         return "program"
     lines = [line.strip() for file in sources.glob("**/*.rt") for line in file.read_text(encoding="utf-8").splitlines()]
-    return "code" if any(line and not line.startswith("//") for line in lines) else "theory"
+    return "code" if any(line and not line.startswith(("//", "#![")) for line in lines) else "theory"
 
 
 def below(crates, name):
