@@ -2,10 +2,11 @@
 --     no_row, turned              what stands for a row past the last; what turn number i stores
 --     opening-accepts            what an opening that refuses nothing has shown
 --     batch-refused, batch-answered      the call's equation, where the opening refuses and where it doesn't
+--     said-refused, said-accepts, said-answered      the same three, by what `open_batch` says of its answer
 -- Assumes nothing.
 use Prim.Native.Nat.{ℕ}
 use native.Mathlib.Omega.{arith}
-use mathlib.Core.Path.{◌≡◌, ◌∙◌, ap, ap₂, refl, sym}
+use mathlib.Core.Path.{◌≡◌, ◌∙◌, ap, ap₂, refl, subst, sym}
 use mathlib.Core.Bool.{Bool, false, true}
 use mathlib.Core.List.{List, map, map-map}
 use lib.Dec.{eqb, leb}
@@ -96,3 +97,18 @@ module _ (b buffer : Bytes) (rows : List Row) (old : List Answer) where
       go false (Book κ k xs) q e = absurd (omega (arith, e))
       go true NoBook q e = absurd (omega (arith, e))
       go true (Book κ k xs) q e = ap₂ (λ (n : ℕ) (l : List Numbers). record { answer = given n 0; rows = l }) (sym (length-map rows row_of)) (answers (Book κ k xs) q)
+
+  -- ---- the same, by what `open_batch` says of its answer r
+
+  module _ (r : Answer) (said : answered r ≡ opening_of (length rows) (takes_rows (length rows) (length old)) (opened b)) where
+    opens-so : r ≡ opening b rows old
+    opens-so = ap answer_of said
+
+    pub said-refused : (r.code ≡ 0 → ⊥) → batched r old ≡ outcome
+    said-refused = subst (λ (a : Answer). (a.code ≡ 0 → ⊥) → batched a old ≡ outcome) (sym opens-so) batch-refused
+
+    pub said-accepts : r.code ≡ 0 → Accepted b × (length rows ≡ length old)
+    said-accepts = subst (λ (a : Answer). a.code ≡ 0 → Accepted b × (length rows ≡ length old)) (sym opens-so) opening-accepts
+
+    pub said-answered : r.code ≡ 0 → batched r (filled (turned b buffer rows) old (length rows)) ≡ outcome
+    said-answered = subst (λ (a : Answer). a.code ≡ 0 → batched a (filled (turned b buffer rows) old (length rows)) ≡ outcome) (sym opens-so) batch-answered

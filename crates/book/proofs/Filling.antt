@@ -1,11 +1,13 @@
--- Rows that a walk by hand fills, one after the other. They say nothing of the crate.
+-- Rows that a loop fills, one after the other. They say nothing of the crate.
 --     filled, length-filled     the rows after i turns: the first i are stored, and the rest are as they were; as many as before
+--     filled-more               one more is stored
 --     filled-all                all are stored
 -- Assumes nothing.
-use Prim.Native.Nat.{ℕ, zero, suc, ◌<◌, ◌≤◌}
+use Prim.Native.Nat.{ℕ, zero, suc, ◌+◌, ◌<◌, ◌≤◌}
 use native.Mathlib.Nat.{eq-or-lt_of_le, le_of_suc-le-suc, not-suc-le-zero}
+use native.Mathlib.Numerals.{add-one}
 use native.Mathlib.Omega.{arith}
-use mathlib.Core.Path.{◌≡◌, ◌∙◌, refl, subst, sym}
+use mathlib.Core.Path.{◌≡◌, ◌∙◌, ap, ap₂, refl, subst, sym}
 use mathlib.Core.List.{List}
 use mathlib.Core.Logic.{⊎_elim}
 use lib.ListN.{get_or, length, length-set, set}
@@ -20,6 +22,9 @@ module _ {A : Type 0} (g : ℕ → A) (old : List A) where
   pub length-filled : (i : ℕ) → length (filled i) ≡ length old
   length-filled zero = refl
   length-filled (suc i) = length-set (filled i) i (g i) ∙ length-filled i
+
+  pub filled-more : {i : ℕ} {now : List A} {x : A} → now ≡ filled i → x ≡ g i → set now i x ≡ filled (i + 1)
+  filled-more {i} e p = ap₂ (λ (l : List A) (y : A). set l i y) e p ∙ sym (ap filled (add-one i))
 
   stored : (d : A) (i j : ℕ) → j < i → i ≤ length old → get_or (filled i) j d ≡ g j
   stored d zero j lt le = absurd (not-suc-le-zero lt)

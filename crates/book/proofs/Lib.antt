@@ -3,6 +3,4 @@ pub mod Reading
 pub mod Filling
 pub mod Batching
 pub mod Salvaging
-pub mod Walking
-pub mod Front
 pub mod Merging

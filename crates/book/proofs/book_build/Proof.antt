@@ -5,4 +5,4 @@ use Rattle.book.proofs.book_build.Statement.{statement}
 use Rattle.book.proofs.book_build.Tie as tie
 
 pub book_build_spec : {M : Type 1} → statement M
-book_build_spec = tie.close (tie.spec (λ c κs. search rules) (λ c. search rules) (λ c. c.before.before.build-list.ensures))
+book_build_spec = tie.close (tie.spec (λ c κs. search rules) (λ c. search rules) (λ c. c.build_list.ensures))

@@ -10,12 +10,12 @@ use Rattle.book.proofs.book_read.Statement.{statement}
 use Rattle.book.proofs.book_read.Tie as tie
 
 -- there is a name at the position
-within : (c : tie.Else1) → c.before.before.before.before.before.before.before.before.args.position < c.before.wide16.result
+within : (c : tie.Else-wide16-position) → c.args.position < c.wide16.result
 within c = omega arith
 
 -- nothing was written
-returns-2 : tie.Need-returns-2
-returns-2 c = let none : c.before.before.before.before.put-name.result ≡ 0 = omega arith in search read_short
+returns-2 : tie.Need-returns-then-len-eq0
+returns-2 c = let none : c.put_name-len.result ≡ 0 = omega arith in search read_short
 
 pub book_read_spec : {M : Type 1} → statement M
 book_read_spec =

@@ -6,14 +6,13 @@ use Rattle.book.proofs.Merging.{head-refused, judged-read}
 use Rattle.book.proofs.list_head.Statement.{statement}
 use Rattle.book.proofs.list_head.Tie as tie
 
-returns : tie.Need-returns
+returns : tie.Need-returns-then-judged-ne0
 returns c =
-    let judged = c.before.before.before in
-    let a = judged.before.before.before.args in
-    head-refused a.first.now a.second.now judged.judge-both.ensures c.before.if1.true _ _ c.no-head.ensures
+    let a = c.args in
+    head-refused a.first.now a.second.now c.judge_both-judged.ensures c.if-judged-ne0.true _ _ c.no_head.ensures
 
-returns-2 : tie.Need-returns-2
-returns-2 c = c.head-judged.ensures
+returns-2 : tie.Need-returns
+returns-2 c = c.head_judged.ensures
 
 pub list_head_spec : {M : Type 1} → statement M
 list_head_spec =
@@ -22,5 +21,5 @@ list_head_spec =
     (λ c κs. search rules)
     (λ c κs. search rules)
     returns
-    (λ c κs. judged-read _ _ c.before.before.judge-both.ensures c.if1.false)
+    (λ c κs. judged-read _ _ c.judge_both-judged.ensures c.if-judged-ne0.false)
     returns-2)

@@ -5,8 +5,8 @@ use Rattle.book.proofs.Merging.{judged-read, merge-refused}
 use Rattle.book.proofs.list_merge.Statement.{statement}
 use Rattle.book.proofs.list_merge.Tie as tie
 
-returns : tie.Need-returns
-returns c = merge-refused _ _ c.before.before.judge-both.ensures c.if1.true _
+returns : tie.Need-returns-then-judged-ne0
+returns c = merge-refused _ _ c.judge_both-judged.ensures c.if-judged-ne0.true _
 
 pub list_merge_spec : {M : Type 1} → statement M
 list_merge_spec =
@@ -14,6 +14,6 @@ list_merge_spec =
     (tie.spec
     (λ c κs. search rules)
     returns
-    (λ c κs. judged-read _ _ c.before.before.before.judge-both.ensures c.before.if1.false)
+    (λ c κs. judged-read _ _ c.judge_both-judged.ensures c.if-judged-ne0.false)
     (λ c. search rules)
     (λ c. search rules))

@@ -7,35 +7,30 @@ use Rattle.book.proofs.Merging.{end_fits, in-first, in-second, step-first, step-
 use Rattle.book.proofs.list_step.Statement.{statement}
 use Rattle.book.proofs.list_step.Tie as tie
 
-returns : tie.Need-returns
+returns : tie.Need-returns-then-head-eq2
 returns c =
-    let shown = c.before.before.before.before in
-    let a = shown.before.before.before.args in
-    step-second a.first a.second _ _ shown.list-head.ensures c.before.if1.true
+    let a = c.args in
+    step-second a.first a.second _ _ c.list_head-head.ensures c.if-head-eq2.true
 
-returns-2 : tie.Need-returns-2
+returns-2 : tie.Need-returns-else-head-eq2
 returns-2 c =
-    let shown = c.before.before.before.before in
-    let a = shown.before.before.before.args in
-    step-first a.first a.second _ _ shown.list-head.ensures c.before.if1.false
+    let a = c.args in
+    step-first a.first a.second _ _ c.list_head-head.ensures c.if-head-eq2.false
 
-add-end : tie.Need-overflow-add-end
+add-end : tie.Need-overflow_add-end
 add-end c =
-    let shown = c.before in
-    let a = shown.before.before.before.args in
-    omega (arith, end_fits a.first a.second _ _ shown.list-head.ensures (omega arith) (omega arith))
+    let a = c.args in
+    omega (arith, end_fits a.first a.second _ _ c.list_head-head.ensures (omega arith) (omega arith))
 
-part-result-end : tie.Need-slice-bounds-result-end
+part-result-end : tie.Need-slice_bounds-result-end
 part-result-end c =
-    let shown = c.before.before.before in
-    let a = shown.before.before.before.args in
-    omega (arith, in-second a.first a.second _ _ shown.list-head.ensures c.if1.true)
+    let a = c.args in
+    omega (arith, in-second a.first a.second _ _ c.list_head-head.ensures c.if-head-eq2.true)
 
-part-result-end-2 : tie.Need-slice-bounds-result-end-2
+part-result-end-2 : tie.Need-slice_bounds-result-end-else-head-eq2
 part-result-end-2 c =
-    let shown = c.before.before.before in
-    let a = shown.before.before.before.args in
-    omega (arith, in-first a.first a.second _ _ shown.list-head.ensures c.if1.false)
+    let a = c.args in
+    omega (arith, in-first a.first a.second _ _ c.list_head-head.ensures c.if-head-eq2.false)
 
 pub list_step_spec : {M : Type 1} → statement M
 list_step_spec =
