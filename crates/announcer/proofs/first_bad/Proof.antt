@@ -9,10 +9,10 @@ use Rattle.answers.proofs.Routes.{Good, bad-here, bad-none, good_more, good_star
 use Rattle.announcer.proofs.first_bad.Statement.{statement}
 use Rattle.announcer.proofs.first_bad.Tie as tie
 
-abbrev invariant-loop : tie.invariant-loop
+abbrev invariant-loop : tie.invariant-loop-i
 invariant-loop positions n i₀ i = Good n positions i
 
-abbrev decreases-loop : tie.decreases-loop
+abbrev decreases-loop : tie.decreases-loop-i
 decreases-loop positions n i₀ i = length positions - i
 
 pub first_bad_spec : {M : Type 1} → statement M
@@ -23,9 +23,9 @@ first_bad_spec =
     decreases-loop
     (λ c. good_start _)
     (λ c. search rules)
-    (λ c. omega (arith, c.before.loop-test))
-    (λ c. bad-here _ _ c.before.before.before.loop.invariant c.before.before.loop-test.true c.if1.true)
+    (λ c. omega (arith, c.loop-i-test))
+    (λ c. bad-here _ _ c.loop-i.invariant c.loop-i-test.true c.if-n-positions.true)
     (λ c. search rules)
-    (λ c. omega (arith, c.before.before.loop-test))
-    (λ c. good_more c.before.before.before.loop.invariant c.before.before.loop-test.true (omega (arith, c.if1)))
-    (λ c. bad-none _ _ c.before.loop.invariant (omega (arith, c.loop-test))))
+    (λ c. omega (arith, c.loop-i-test))
+    (λ c. good_more c.loop-i.invariant c.loop-i-test.true (omega (arith, c.if-n-positions)))
+    (λ c. bad-none _ _ c.loop-i.invariant (omega (arith, c.loop-i-test))))

@@ -13,4 +13,4 @@ hear_spec =
     (λ c. search rules)
     (λ c. search rules)
     (λ c. search rules)
-    (λ c. let asked = c.before.before.before.before in hears _ _ asked.ask-rows.result.answer asked.ask-rows.result.answers asked.ask-rows.ensures))
+    (λ c. hears _ _ c.ask_rows-asked.result.answer c.ask_rows-asked.result.answers c.ask_rows-asked.ensures))

@@ -10,6 +10,6 @@ is_full_spec =
     tie.close
     (tie.spec
     (λ c. omega (arith, check-long _ c.requires))
-    (λ c. omega (arith, check-long _ c.before.requires))
-    (λ c. full-plain _ c.before.before.requires c.if1.true)
-    (λ c. full-other _ c.before.before.requires c.if1.false))
+    (λ c. omega (arith, check-long _ c.requires))
+    (λ c. full-plain _ c.requires c.if-third-eq75.true)
+    (λ c. full-other _ c.requires c.if-third-eq75.false))

@@ -8,10 +8,10 @@ use Rattle.announcer.proofs.Putting.{Putting, inside-fits, putting-done, putting
 use Rattle.announcer.proofs.put_clips.Statement.{statement}
 use Rattle.announcer.proofs.put_clips.Tie as tie
 
-abbrev invariant-loop : tie.invariant-loop
+abbrev invariant-loop : tie.invariant-loop-stop
 invariant-loop clips positions room₀ stop₀ room stop = Putting clips positions room₀ room stop
 
-abbrev decreases-loop : tie.decreases-loop
+abbrev decreases-loop : tie.decreases-loop-stop
 decreases-loop clips positions room₀ stop₀ room stop = length positions - stop
 
 pub put_clips_spec : {M : Type 1} → statement M
@@ -22,13 +22,13 @@ put_clips_spec =
     decreases-loop
     (λ c. putting-start _ _ _)
     (λ c. search rules)
-    (λ c. omega (arith, c.before.loop-test))
-    (λ c. inside-fits c.before.before.before.requires (omega (arith, c.before.before.before.well-formed)) _ (omega (arith, c.before.loop-test)))
-    (λ c. c.before.before.before.before.requires.within _ (omega (arith, c.before.before.loop-test)))
+    (λ c. omega (arith, c.loop-stop-test))
+    (λ c. inside-fits c.requires (omega (arith, c.well_formed)) _ (omega (arith, c.loop-stop-test)))
+    (λ c. c.requires.within _ (omega (arith, c.loop-stop-test)))
     (λ c. search rules)
-    (λ c. omega (arith, c.before.before.loop-test, putting-long c.before.before.before.before.requires c.before.before.before.loop.invariant, c.before.before.before.before.requires.enough))
+    (λ c. omega (arith, c.loop-stop-test, putting-long c.requires c.loop-stop.invariant, c.requires.enough))
     (λ c. search rules)
-    (λ c. omega (arith, c.before.before.loop-test))
-    (λ c. putting-more c.before.before.before.before.requires c.before.before.before.loop.invariant c.before.before.loop-test.true)
-    (λ c. putting-long c.before.before.requires c.before.loop.invariant)
-    (λ c. putting-done c.before.before.requires c.before.loop.invariant (omega (arith, c.loop-test))))
+    (λ c. omega (arith, c.loop-stop-test))
+    (λ c. putting-more c.requires c.loop-stop.invariant c.loop-stop-test.true)
+    (λ c. putting-long c.requires c.loop-stop.invariant)
+    (λ c. putting-done c.requires c.loop-stop.invariant (omega (arith, c.loop-stop-test))))

@@ -6,4 +6,4 @@ use Rattle.announcer.proofs.speak.Statement.{statement}
 use Rattle.announcer.proofs.speak.Tie as tie
 
 pub speak_spec : {M : Type 1} → statement M
-speak_spec = tie.close (tie.spec (λ c. search rules) (λ c. search rules) (λ c. omega (arith, c.shared-slice-known.given c.before.args.position)) (λ c. search rules))
+speak_spec = tie.close (tie.spec (λ c. search rules) (λ c. search rules) (λ c. omega (arith, c.shared_slice_known-1.given c.args.position)) (λ c. search rules))
