@@ -18,13 +18,12 @@ blocks-for-requires c κs =
     (omega (arith, mapped-few _ map, names, c.wide16.ensures.0), omega (arith, mapped-low _ map, block, c.wide16-2.ensures.0), omega (arith, mapped-high _ map, block, c.wide16-2.ensures.0))
 
 returns : tie.Need-returns
-returns c =
-    (
-      c.blocks_for.ensures.0
-          ∙ ap₂ block_count (c.wide16.ensures.0 ∙ ap (λ (t : Trailer). t.names) c.read-t.ensures) (c.wide16-2.ensures.0 ∙ ap (λ (t : Trailer). t.block) c.read-t.ensures)
-          ∙ sym (blocks-many _),
-      c.blocks_for.ensures.1,
-    )
+returns c = (
+  c.blocks_for.ensures.0
+      ∙ ap₂ block_count (c.wide16.ensures.0 ∙ ap (λ (t : Trailer). t.names) c.read-t.ensures) (c.wide16-2.ensures.0 ∙ ap (λ (t : Trailer). t.block) c.read-t.ensures)
+      ∙ sym (blocks-many _),
+  c.blocks_for.ensures.1,
+)
 
 pub block_count_spec : {M : Type 1} → statement M
 block_count_spec =

@@ -110,14 +110,14 @@ turn t c =
     let names = c.before.names.ensures.0 in
     elim c.if-names-eq1.branch [
       | check-row-lts.then-names-eq1+else-not-is_leaf w ↦
-        rw (w.first-is, w.child-is, w.entry-is, w.led-is)
-        (law.rows-leaf (walked t looked) (led t looked) _ names w.if-names-eq1.true w.is_leaf.result w.is_leaf.ensures (not_from_true _ w.if-not-is_leaf.false) _ c.symbol-led.ensures.0)
+          rw (w.first-is, w.child-is, w.entry-is, w.led-is)
+          (law.rows-leaf (walked t looked) (led t looked) _ names w.if-names-eq1.true w.is_leaf.result w.is_leaf.ensures (not_from_true _ w.if-not-is_leaf.false) _ c.symbol-led.ensures.0)
       | check-row-lts.else-names-eq1+else-not-may_be_fork+else-found-eq0 w ↦
-        rw (w.first-is, w.child-is, w.entry-is, w.led-is)
-        (law.rows-fork (walked t looked) (led t looked) _ names w.if-names-eq1.false
-        (law.fork-like _ _ _ _ _ _ _ w.may_be_fork.result w.may_be_fork.ensures (not_from_true _ w.if-not-may_be_fork.false))
-        w.nodes.result w.nodes.ensures.0 w.check_node-found.result w.check_node-found.ensures w.if-found-eq0.false
-        _ w.nodes-else-names-eq1.ensures.0 _ _ _ w.first.ensures.0 w.names-else-names-eq1.ensures.0 w.symbol-led-else-names-eq1.ensures.0)
+          rw (w.first-is, w.child-is, w.entry-is, w.led-is)
+          (law.rows-fork (walked t looked) (led t looked) _ names w.if-names-eq1.false
+          (law.fork-like _ _ _ _ _ _ _ w.may_be_fork.result w.may_be_fork.ensures (not_from_true _ w.if-not-may_be_fork.false))
+          w.nodes.result w.nodes.ensures.0 w.check_node-found.result w.check_node-found.ensures w.if-found-eq0.false
+          _ w.nodes-else-names-eq1.ensures.0 _ _ _ w.first.ensures.0 w.names-else-names-eq1.ensures.0 w.symbol-led-else-names-eq1.ensures.0)
     ]
 
 -- another record starts behind it, and another entry

@@ -18,18 +18,16 @@ returns-2 c =
     (save-rows _ _ _ c.is_mapped.ensures (not_from_true _ c.if-not-is_mapped.false) c.block_count.ensures.0 c.if-rows-block_count.true c.refuse-then-rows-block_count.result c.refuse-then-rows-block_count.ensures, not-zero c.refuse-then-rows-block_count.result _ c.refuse-then-rows-block_count.ensures)
 
 returns-3 : tie.Need-returns-then-room-size
-returns-3 c =
-    (
-      save-short _ _ _ c.is_mapped.ensures (not_from_true _ c.if-not-is_mapped.false) c.block_count.ensures.0 c.if-rows-block_count.false c.count_blocks-size.ensures c.if-room-size.true c.refuse-then-room-size.result c.refuse-then-room-size.ensures,
-      not-zero c.refuse-then-room-size.result _ c.refuse-then-room-size.ensures,
-    )
+returns-3 c = (
+  save-short _ _ _ c.is_mapped.ensures (not_from_true _ c.if-not-is_mapped.false) c.block_count.ensures.0 c.if-rows-block_count.false c.count_blocks-size.ensures c.if-room-size.true c.refuse-then-room-size.result c.refuse-then-room-size.ensures,
+  not-zero c.refuse-then-room-size.result _ c.refuse-then-room-size.ensures,
+)
 
 returns-4 : tie.Need-returns
-returns-4 c =
-    (
-      save-put _ _ _ c.is_mapped.ensures (not_from_true _ c.if-not-is_mapped.false) c.block_count.ensures.0 c.if-rows-block_count.false c.count_blocks-size.ensures c.if-room-size.false c.put_blocks-end.ensures,
-      λ z. c.count_blocks-size.ensures.verdicts,
-    )
+returns-4 c = (
+  save-put _ _ _ c.is_mapped.ensures (not_from_true _ c.if-not-is_mapped.false) c.block_count.ensures.0 c.if-rows-block_count.false c.count_blocks-size.ensures c.if-room-size.false c.put_blocks-end.ensures,
+  λ z. c.count_blocks-size.ensures.verdicts,
+)
 
 pub save_names_spec : {M : Type 1} → statement M
 save_names_spec =
