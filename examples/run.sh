@@ -11,8 +11,8 @@
 # the machine at hand.
 #
 # Each failure ends it with status 1. The library is for x86-64, and there the system's compilers are used (CC and CXX, else cc and
-# c++). Elsewhere the system's compiler only puts in what the examples include; the kit's compiles them for x86-64, and the kit's emulator
-# runs them with the kit's C library. With MISTROGU_KIT=1 that way is taken on x86-64, too, without the emulator. The example in C++ is linked
+# c++). Elsewhere the system's compiler only puts in what the examples include; the kit's compiles them for x86-64, and Debian's qemu-user
+# runs them with the kit's C library. With MISTROGU_KIT=1 that way is taken on x86-64, too, without qemu. The example in C++ is linked
 # with an archive for the machine at hand, which MISTROGU_ARCHIVE names elsewhere; without one it is compiled alone.
 set -eu
 
@@ -49,12 +49,13 @@ with_the_system() {
 
 # The same. Both compilers have to read the same headers: GNU C 4 is what the kit's says it is.
 with_the_kit() {
-    local kit tools emulator
+    local tools emulator
     command -v rt >/dev/null || fail "rt, the program of the Rattle kit, is missing, and the kit compiles the examples here"
-    kit=$(dirname "$(dirname "$(rt doc)")")
-    tools=$kit/on/$machine/toolchain
-    emulator=$tools/bin/qemu-x86_64
-    [ -x "$emulator" ] || emulator=
+    tools=$(dirname "$(rt doc)")/toolchain
+    emulator=
+    if [ "$machine" != x86_64 ]; then
+        emulator=$(command -v qemu-x86_64) || fail "qemu-x86_64, of Debian's qemu-user, is missing, and runs the examples here"
+    fi
 
     "${CC:-cc}" -E -std=c99 -U__GNUC__ -D__GNUC__=4 "${@:3}" -Iinclude "examples/$1.c" -o "$work/$1.i" || fail "$1.c could not be read"
     "$tools/bin/clang" --target=x86_64-unknown-linux-gnu "${strict[@]}" -fPIE -c -x cpp-output "$work/$1.i" -o "$work/$1.o" ||

@@ -6,11 +6,12 @@
 #   --product   the product itself, which is for x86-64, on any machine
 #   --anew      make it even where it is there already, of the same sources
 #
-# On x86-64 it is target/staticlib/libmistrogu.a, the product itself: the objects that `rt staticlib book` and `rt staticlib announcer` write,
-# as they are, in one archive. The prover compiles for no other processor, so elsewhere the LLVM modules that it hands to its compiler are
-# kept on the way and compiled anew for this machine, to target/native/libmistrogu.a. That archive is for tests and benchmarks only. With
-# MISTROGU_NATIVE=1 the second way is taken on x86-64, too; with MISTROGU_TARGET, such as aarch64-unknown-linux-gnu, it is compiled for
-# that processor. Either way the product is there, too.
+# On x86-64 it is target/staticlib/libmistrogu.a, the product itself: the objects that `rt lib` writes in crates/book_c and crates/announcer_c,
+# as they are but for their names, in one archive. They are for any x86-64 processor. The prover compiles for no other one, so elsewhere the
+# LLVM modules that it hands to its compiler are kept on the way and compiled anew for this machine, to target/native/libmistrogu.a. That
+# archive is for tests and benchmarks only. With MISTROGU_NATIVE=1 the second way is taken on x86-64, too; with MISTROGU_TARGET, such as
+# aarch64-unknown-linux-gnu, it is compiled for that processor. Either way the product is there, too. The kit itself is for x86-64: on another
+# machine it runs only where the system runs such programs.
 #
 # It is made again only where what it is made from has changed: crates.txt, the crates' src, specs and proofs, the kit, and for the second
 # way this script, native.c and the processor. A sum of these, and of the archive itself, is kept beside it. What the prover says goes to
@@ -19,6 +20,7 @@ set -eu
 cd "$(dirname "$0")/.."
 root=$(pwd -P)
 libraries=(book announcer)
+processor=x86-64
 machine=$(uname -m)
 product=$root/target/staticlib/libmistrogu.a
 native=$root/target/native/libmistrogu.a
@@ -51,7 +53,7 @@ target=${MISTROGU_TARGET:-$machine-unknown-linux-gnu}
 # The sums of what the product, and what the other archive, are made from.
 of_product=$({
     rt version
-    echo "${libraries[@]}"
+    echo "${libraries[@]} $processor"
     find crates.txt crates/*/src crates/*/specs crates/*/proofs -type f -print0 | LC_ALL=C sort -z | xargs -0 sha256sum
 } | sha256sum)
 of_native=$({ echo "$of_product $target" && sha256sum host/archive.sh host/native.c; } | sha256sum)
@@ -72,49 +74,56 @@ if [ "$anew" = 0 ] && is_made "$product" "$of_product" && { [ "$archive" = "$pro
     exit
 fi
 
-kit=$(dirname "$(dirname "$(rt doc)")")
-tools=$kit/on/$machine/toolchain
+kit=$(dirname "$(rt doc)")
+tools=$kit/toolchain
 work=$(mktemp -d)
 trap 'rm -rf "$work"' EXIT
 
-# Has the libraries proved and compiled, by the kit $1 or, without it, by the one that is installed, and puts their objects into the product. A
-# module that is kept on the way gets its library's name. All that is said is in the log.
+# Has the libraries proved and compiled, by the program $1, which is rt or that of another kit, and puts their objects into the product, each
+# under the name of its library. A module that is kept on the way gets that name, too. All that is said is in the log.
 make_product() {
-    local own=${1:-} library made
+    local rt=$1 library crate made
     say "the library is proved and compiled, which can take minutes; target/archive.log has what the prover says"
-    mkdir -p target
+    mkdir -p "$(dirname "$product")"
     : >"$log"
     for library in "${libraries[@]}"; do
-        made=target/staticlib/lib$library.a
-        ${own:+env RATTLE_HOME="$own"} rt staticlib "$library" >>"$log" 2>&1 || { say "the library was not made: target/archive.log says why"; exit 1; }
+        crate=${library}_c
+        made=crates/$crate/out/lib$crate.a
+        (cd "crates/$crate" && "$rt" lib "--cpu=$processor") >>"$log" 2>&1 || { say "the library was not made: target/archive.log says why"; exit 1; }
         [ -f "$made" ] || { say "the prover wrote no $made: target/archive.log may say why"; exit 1; }
         [ ! -f "$work/module.bc" ] || mv "$work/module.bc" "$work/$library.bc"
-        "$tools/bin/llvm-ar" qLcs "$work/product.a" "$made" >>"$log" 2>&1 || { say "$made could not be put into the product: target/archive.log says why"; exit 1; }
+        {
+            "$tools/bin/llvm-ar" p "$made" "$crate.o" >"$work/$library.o" && "$tools/bin/llvm-ar" qcs "$work/product.a" "$work/$library.o"
+        } 2>>"$log" || { say "$made could not be put into the product: target/archive.log says why"; exit 1; }
     done
     cp "$work/product.a" "$product"
     note "$product" "$of_product"
 }
 
 if [ "$archive" = "$product" ]; then
-    make_product
+    make_product rt
     echo "$product"
     exit
 fi
 
-# Makes the folder $2, with a link in it to everything in the folder $1 but what is called $3.
-link_all_but() {
+# Makes the folder $2, with a link in it to everything in the folder $1.
+link_all() {
     mkdir -p "$2"
-    for item in "$1"/*; do
-        [ "$(basename "$item")" = "$3" ] || ln -s "$item" "$2/"
-    done
+    ln -s "$1"/* "$2/"
 }
 
-# A kit of links, in which only the compiler is another: it keeps the module, then does what it is asked.
-own=$work/kit/on/$machine
-link_all_but "$kit" "$work/kit" on
-link_all_but "$kit/on/$machine" "$own" toolchain
-link_all_but "$tools" "$own/toolchain" bin
-link_all_but "$tools/bin" "$own/toolchain/bin" clang
+# A kit of links, in which only the compiler is another: it keeps the module, then does what it is asked. rt finds its kit by the folder in
+# which its own file stands, so that is a copy, with what it loads.
+own=$work/kit
+link_all "$kit" "$own"
+rm "$own/bin" "$own/toolchain"
+link_all "$kit/bin" "$own/bin"
+rm "$own"/bin/rt*
+cp "$kit"/bin/rt* "$own/bin/"
+link_all "$tools" "$own/toolchain"
+rm "$own/toolchain/bin"
+link_all "$tools/bin" "$own/toolchain/bin"
+rm "$own/toolchain/bin/clang"
 cat >"$own/toolchain/bin/clang" <<END
 #!/bin/sh
 for word in "\$@"; do
@@ -123,7 +132,7 @@ done
 exec "$tools/bin/clang" "\$@"
 END
 chmod +x "$own/toolchain/bin/clang"
-make_product "$work/kit"
+make_product "$own/bin/rt"
 
 # Each module as text, without the words on x86-64; the compiler puts in those of its target. The calls get other names there, and
 # native.c has them as this processor's C sees them. Inner functions have the name of their crate and :: in theirs, and keep it; a call that

@@ -20,7 +20,7 @@ esac
 archive=${1:-${MISTROGU_ARCHIVE:-}}
 [ -z "$archive" ] || archive=$(realpath -e "$archive")
 cd "$(dirname "$0")/.."
-unset MISTROGU_ARCHIVE MISTROGU_PRODUCT MISTROGU_NATIVE MISTROGU_TARGET RATTLE_HOME CARGO_TARGET_DIR
+unset MISTROGU_ARCHIVE MISTROGU_PRODUCT MISTROGU_NATIVE MISTROGU_TARGET CARGO_TARGET_DIR
 
 work=$(mktemp -d)
 trap 'rm -rf "$work"' EXIT
@@ -60,7 +60,7 @@ wants_objcopy() {
 takes_long() {
     case $1 in
     ./demo* | ./test* | ./fuzz* | examples/run.sh* | host/benchmark.sh* | host/figures.sh* | 'cargo test'*) return 0 ;;
-    *target/bin/*) return 0 ;;
+    *crates/*/out/*) return 0 ;;
     *) return 1 ;;
     esac
 }
@@ -69,8 +69,8 @@ takes_long() {
 look_at() {
     local word=${1%% *} program
     case $1 in
-    *target/bin/*)
-        program=${1##*target/bin/}
+    *crates/*/out/*)
+        program=${1##*/out/}
         grep -q "^${program%% *}:" crates.txt
         ;;
     ./* | */*.sh*) "$word" --help >"$work/help" 2>&1 && [ -s "$work/help" ] ;;

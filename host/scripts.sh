@@ -13,7 +13,7 @@ case ${1:-} in
     ;;
 esac
 cd "$(dirname "$0")/.."
-unset MISTROGU_ARCHIVE MISTROGU_PRODUCT MISTROGU_NATIVE MISTROGU_TARGET RATTLE_HOME CARGO_TARGET_DIR
+unset MISTROGU_ARCHIVE MISTROGU_PRODUCT MISTROGU_NATIVE MISTROGU_TARGET CARGO_TARGET_DIR
 
 work=$(mktemp -d)
 trap 'rm -rf "$work"' EXIT
@@ -45,7 +45,7 @@ try() {
 
 # How often the prover was asked to make this library.
 times_made() {
-    grep -cx "staticlib $1" "$asked" || true
+    grep -cx "lib ${1}_c" "$asked" || true
 }
 
 # After a try: that it gave this path, with one line on the screen, made each library so many times, and left the product with both of them.
@@ -58,7 +58,7 @@ gave() {
         [ "$(times_made "$library")" = "$2" ] || fail "archive.sh had $library made $(times_made "$library") times and not $2, $3"
     done
     [ -f "$clone/$1" ] || fail "archive.sh made nothing, $3"
-    cat "$clone"/target/staticlib/lib{book,announcer}.a | cmp -s - "$clone/$product" || fail "the product has not just the two libraries, $3"
+    cat "$clone"/crates/{book_c/out/libbook_c,announcer_c/out/libannouncer_c}.a | cmp -s - "$clone/$product" || fail "the product has not just the two libraries, $3"
 }
 
 product=target/staticlib/libmistrogu.a

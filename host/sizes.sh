@@ -67,7 +67,7 @@ linked() {
 
 # The first of these linkers that can; the last is the kit's, where there is a kit.
 kit=
-if command -v rt >/dev/null; then kit=$(dirname "$(dirname "$(rt doc)")")/on/$(uname -m)/toolchain/bin/ld.lld; fi
+if command -v rt >/dev/null; then kit=$(dirname "$(rt doc)")/toolchain/bin/ld.lld; fi
 ld=
 for program in ${LD:+"$LD"} x86_64-linux-gnu-ld ld ld.lld ${kit:+"$kit"}; do
     # shellcheck disable=SC2086

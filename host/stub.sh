@@ -12,7 +12,7 @@ set -eu
 copy_files() {
     mkdir -p "$1"
     if ! git ls-files --error-unmatch crates.txt >/dev/null 2>&1; then
-        tar --exclude=./.git --exclude=./target --exclude=./host/target --exclude=./packages -cf - . | tar -xf - -C "$1"
+        tar --exclude=./.git --exclude=./target --exclude=./host/target --exclude=./packages --exclude='./crates/*/out' -cf - . | tar -xf - -C "$1"
         return
     fi
     git ls-files -z --cached --others --exclude-standard | while IFS= read -r -d '' file; do
@@ -26,16 +26,14 @@ commit_all() {
     git -c user.name=copy -c user.email=copy@example.org -c commit.gpgsign=false commit --quiet --message copy
 }
 
-# Without an archive the stub makes one for each library, with its name and crates.txt. While FOLDER/broken is there, it makes none. A crate
-# that is to be proved has to be one of crates.txt.
+# Without an archive the stub makes one for each library, with the name of its crate and crates.txt. While FOLDER/broken is there, it makes none.
+# A crate that is proved, built or run has to be the folder at hand, and one of crates.txt.
 make_kit() {
-    local folder=$1 archive=${2:-} machine tools
+    local folder=$1 archive=${2:-} tools=$1/toolchain
     # shellcheck disable=SC2016
-    local put='shift && cat "$@" >>"$out"'
+    local put='cat "$@" >>"$out"'
     [ -z "$archive" ] || put="cat \"$archive\" >\"\$out\""
-    machine=$(uname -m)
-    tools=$folder/on/$machine/toolchain
-    mkdir -p "$tools/bin" "$tools/lib" "$folder/doc" "$folder/bin"
+    mkdir -p "$tools/bin" "$tools/lib" "$folder/bin"
     cat >"$tools/bin/clang" <<'END'
 #!/bin/sh
 while [ $# -gt 0 ]; do
@@ -45,29 +43,35 @@ done
 END
     cat >"$tools/bin/llvm-ar" <<END
 #!/bin/sh
-shift
-out=\$1
-$put
+how=\$1 out=\$2
+shift 2
+case \$how in
+p) cat "\$out" ;;
+*) $put ;;
+esac
 END
     cat >"$folder/bin/rt" <<END
 #!/bin/sh
-echo "\$*" >>"$folder/asked"
+kit=\$(dirname "\$(dirname "\$(realpath "\$0")")")
+crate=\$(basename "\$PWD")
+case \$1 in
+check | lib | run)
+    echo "\$1 \$crate" >>"$folder/asked"
+    grep -q "^\$crate\( staticlib\)*:" ../../crates.txt || { echo "rt: there is no crate \$crate" >&2; exit 1; }
+    ;;
+*) echo "\$*" >>"$folder/asked" ;;
+esac
 case \$1 in
 version) echo "a stub of the kit" ;;
-doc) echo "$folder/doc/index" ;;
-staticlib)
+doc) echo "$folder/index" ;;
+check | run) ;;
+lib)
     echo "a long log"
     [ ! -f "$folder/broken" ] || exit 1
-    mkdir -p target/staticlib
-    { echo "\$2" && cat crates.txt; } >"target/staticlib/lib\$2.a"
-    echo module >"$folder/\$2.bc"
-    "\${RATTLE_HOME:-$folder}/on/$machine/toolchain/bin/clang" "$folder/\$2.bc" -o "$folder/\$2.o"
-    ;;
-check | dev)
-    shift
-    for crate in "\$@"; do
-        grep -q "^\$crate:" crates.txt || { echo "rt: there is no crate \$crate" >&2; exit 1; }
-    done
+    mkdir -p out
+    { echo "\$crate" && cat ../../crates.txt; } >"out/lib\$crate.a"
+    echo module >"$folder/\$crate.bc"
+    "\$kit/toolchain/bin/clang" "$folder/\$crate.bc" -o "$folder/\$crate.o"
     ;;
 *) echo "rt: the stub can't \$1" >&2 && exit 1 ;;
 esac

@@ -1,6 +1,6 @@
 // The announcer: a text becomes the clip that is spoken, a route a row of clips. It stands above the book and knows it by its public calls
 // alone; only the mark, which no call tells, it reads by itself. Its two calls ask nothing of their caller, like those of `book`, and each has
-// one statement. They are exported for C and Rust; a slice is a pointer and how many numbers stand there.
+// one statement. The crate `announcer_c` exports them for C.
 #![tactic(auto)]
 
 ghost use Rattle.std.specs.Prelude.{◌≡◌, map, ◌<◌, get_or, length};
@@ -124,8 +124,7 @@ fn speak(clips: &[u16], position: usize) -> Answer
 
 // The clip of a text: that of the name that equals it; else that of the only name that begins with it; else how many begin with it.
 // Refusals: 2, 16, 1.
-#[unsafe(no_mangle)]
-pub extern "C" fn announce_clip(book: &[u8], clips: &[u16], text: &[u8]) -> Answer
+pub fn announce_clip(book: &[u8], clips: &[u16], text: &[u8]) -> Answer
     ensures { answered result ≡ clip_of book.now clips.now text.now }
 {
     let heard = hear(book, text);
@@ -178,13 +177,7 @@ fn put_clips(clips: &[u16], positions: &[usize], room: &mut [u16])
 
 // The clips of a route, in its order, at the front of the room: two bytes for each position. Refusals: 2, 16, 12, 3 with the index of the
 // first bad position, 4.
-#[unsafe(no_mangle)]
-pub extern "C" fn announce_route(
-    book: &[u8],
-    clips: &[u16],
-    positions: &[usize],
-    room: &mut [u16],
-) -> Answer
+pub fn announce_route(book: &[u8], clips: &[u16], positions: &[usize], room: &mut [u16]) -> Answer
     ensures { routed result room.new ≡ route_of book.now clips.now positions.now room.old }
 {
     let checked = book::book_check(book);

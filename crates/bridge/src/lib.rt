@@ -1,5 +1,4 @@
-// How a program asks a batch: a local that holds a slice of rows is walked by hand, and this function is the only one that has it.
-// Whoever calls it passes and gets plain data.
+// How a program asks a batch: it passes and gets plain data, and this function alone lends the rows and the answers.
 #![tactic(auto)]
 
 ghost use Rattle.std.specs.Prelude.{◌≡◌, map, ◌≤◌, drop, take};
@@ -28,8 +27,5 @@ pub fn run(
     ensures { (batched result.answer (take m result.answers) ≡ batch book.now questions.now (map row_of (take n rows)) (map answered (take m answers))) × (drop m result.answers ≡ drop m answers) }
 {
     let answer = book::book_batch(book, questions, &rows[..n], &mut answers[..m]);
-    Ran {
-        answer: answer,
-        answers: answers,
-    }
+    Ran { answer, answers }
 }

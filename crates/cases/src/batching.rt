@@ -1,7 +1,7 @@
 // The cases of `book_batch`. A case is a head, then a book, a question buffer and rows: of the head, 4 bytes each have the book's length,
 // the buffer's, how many rows there are and how many places for answers; a row is three numbers of 8 bytes. Where the book's length is 0,
 // the book is that of the case before.
-ghost use Rattle.std.specs.Prelude.{◌+◌, ◌*◌, ◌<◌, ◌≤◌, length};
+ghost use Rattle.std.specs.Prelude.{◌+◌, ◌*◌, ◌<◌, ◌≤◌, length, IfOk};
 ghost use Rattle.cases.specs.Places.{CasePlaced};
 ghost use Rattle.cases.specs.Sums.{Reduced};
 
@@ -9,6 +9,8 @@ use crate::bytes::Sums;
 use crate::places::Place;
 use crate::{bytes, lines, places};
 use book::{Answer, Row};
+use std::io;
+use std::io::Write;
 
 const HEAD: usize = 16;
 
@@ -41,10 +43,8 @@ fn rows_from(file: &[u8], at: usize, n: usize) -> [Row; 65]
         length: 0,
     };
     let mut rows = [zeros; MOST];
-    let mut i: usize = 0;
-    while i < n {
+    for i in 0..n {
         rows[i] = row_at(file, at + ROW * i);
-        i += 1;
     }
     rows
 }
@@ -57,14 +57,12 @@ fn unset() -> [Answer; 65] {
         second: 0,
     };
     let mut answers = [zeros; MOST];
-    let mut i: usize = 0;
-    while i < MOST {
+    for i in 0..MOST {
         answers[i] = Answer {
             code: 100 + i,
             first: 200 + i,
             second: 300 + i,
         };
-        i += 1;
     }
     answers
 }
@@ -82,38 +80,49 @@ fn with_answer(before: Sums, answer: Answer) -> Sums
 // The checksum of all numbers of answers.
 fn checksum(answers: [Answer; 65]) -> Sums {
     let mut sums = bytes::none();
-    let mut i: usize = 0;
-    while i < MOST {
-        sums = with_answer(sums, answers[i]);
-        i += 1;
+    for answer in answers {
+        sums = with_answer(sums, answer);
     }
     sums
 }
 
 // Asks the first n of the rows with m places for answers. Prints the case's number, the answer, and the checksum of all answer rows, those
 // that are not lent too.
-fn print_batch(number: usize, book: &[u8], questions: &[u8], rows: [Row; 65], n: usize, m: usize)
+fn print_batch<W: Write>(
+    out: &mut W,
+    number: usize,
+    book: &[u8],
+    questions: &[u8],
+    rows: [Row; 65],
+    n: usize,
+    m: usize,
+) -> io::Result<()>
     requires { (n ≤ 65) × (m ≤ 65) }
 {
     let before = unset();
     let ran = bridge::run(book, questions, rows, n, before, m);
     let answers = ran.answers;
     let sums = checksum(answers);
-    lines::begin(number);
-    lines::add_answer(ran.answer);
-    lines::add_sums(sums);
-    lines::end();
+    lines::begin(out, number)?;
+    lines::add_answer(out, ran.answer)?;
+    lines::add_sums(out, sums)?;
+    lines::end(out)
 }
 
 // Runs the case behind another. A case that is cut off, or has too many rows or places, is the last.
-pub fn run_one(number: usize, file: &[u8], before: Place) -> Place
+pub fn run_one<W: Write>(
+    out: &mut W,
+    number: usize,
+    file: &[u8],
+    before: Place,
+) -> io::Result<Place>
     requires { CasePlaced file.now before × (before.next < length file.now) }
-    ensures { CasePlaced file.now result × (before.next < result.next) }
+    ensures { IfOk result (λ place. CasePlaced file.now place × (before.next < place.next)) }
 {
     let at = before.next;
     let last = places::without_book(before, file.len());
     if file.len() - at < HEAD {
-        return last;
+        return Ok(last);
     }
     let behind = at + HEAD;
     let size = bytes::four(file, at);
@@ -121,13 +130,13 @@ pub fn run_one(number: usize, file: &[u8], before: Place) -> Place
     let n = bytes::four(file, at + 8);
     let m = bytes::four(file, at + 12);
     if MOST < n {
-        return last;
+        return Ok(last);
     }
     if MOST < m {
-        return last;
+        return Ok(last);
     }
     if file.len() - behind < size + asked + ROW * n {
-        return last;
+        return Ok(last);
     }
     let start = behind + size;
     let end = start + asked;
@@ -136,6 +145,6 @@ pub fn run_one(number: usize, file: &[u8], before: Place) -> Place
     let place = places::with_book(before, behind, size, next);
     let from = place.start;
     let to = place.end;
-    print_batch(number, &file[from..to], &file[start..end], rows, n, m);
-    place
+    print_batch(out, number, &file[from..to], &file[start..end], rows, n, m)?;
+    Ok(place)
 }

@@ -1,51 +1,83 @@
 // The cases of `book_build` and of `book_build_folded`. A case is a head and then the list: of the head, 4 bytes have the list's length, 8 the block size and 4 the
 // room's length.
-ghost use Rattle.std.specs.Prelude.{◌<◌, ◌≤◌, length};
+ghost use Rattle.std.specs.Prelude.{◌<◌, ◌≤◌, length, IfOk};
 
 use crate::{bytes, lines};
+use std::io;
+use std::io::Write;
 
 const HEAD: usize = 16;
 
 const LONGEST_ROOM: usize = 70000;
 
 // Builds in a room that is filled, and prints the case's line.
-fn print_build(number: usize, list: &[u8], block: usize, room: &mut [u8]) {
+fn print_build<W: Write>(
+    out: &mut W,
+    number: usize,
+    list: &[u8],
+    block: usize,
+    room: &mut [u8],
+) -> io::Result<()> {
     bytes::fill(room);
     let answer = book::book_build(list, block, room);
-    lines::print_room(number, answer, room);
+    lines::print_room(out, number, answer, room)
 }
 
 // The same, with a folded book.
-fn print_folded(number: usize, list: &[u8], block: usize, room: &mut [u8]) {
+fn print_folded<W: Write>(
+    out: &mut W,
+    number: usize,
+    list: &[u8],
+    block: usize,
+    room: &mut [u8],
+) -> io::Result<()> {
     bytes::fill(room);
     let answer = book::book_build_folded(list, block, room);
-    lines::print_room(number, answer, room);
+    lines::print_room(out, number, answer, room)
 }
 
 // Runs the case at a place, and gives the place of the next. A case that is cut off, or has too long a room, is the last.
-pub fn run_one(folded: bool, number: usize, file: &[u8], at: usize) -> usize
+pub fn run_one<W: Write>(
+    out: &mut W,
+    folded: bool,
+    number: usize,
+    file: &[u8],
+    at: usize,
+) -> io::Result<usize>
     requires { at < length file.now }
-    ensures { (at < result) × (result ≤ length file.now) }
+    ensures { IfOk result (λ next. (at < next) × (next ≤ length file.now)) }
 {
     if file.len() - at < HEAD {
-        return file.len();
+        return Ok(file.len());
     }
     let start = at + HEAD;
     let size = bytes::four(file, at);
     let block = bytes::eight(file, at + 4);
     let room_size = bytes::four(file, at + 12);
     if file.len() - start < size {
-        return file.len();
+        return Ok(file.len());
     }
     if LONGEST_ROOM < room_size {
-        return file.len();
+        return Ok(file.len());
     }
     let end = start + size;
     let mut room = [0u8; LONGEST_ROOM];
     if folded {
-        print_folded(number, &file[start..end], block, &mut room[0..room_size]);
+        print_folded(
+            out,
+            number,
+            &file[start..end],
+            block,
+            &mut room[0..room_size],
+        )?;
     } else {
-        print_build(number, &file[start..end], block, &mut room[0..room_size]);
+        print_build(
+            out,
+            number,
+            &file[start..end],
+            block,
+            &mut room[0..room_size],
+        )?;
     }
-    end
+    Ok(end)
 }

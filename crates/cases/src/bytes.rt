@@ -1,21 +1,26 @@
 // Bytes of a case: a whole file of them, numbers that stand in it, what a room holds before a call, and a checksum.
 // Numbers are low byte first.
-ghost use Rattle.std.specs.Prelude.{◌+◌, ◌<◌, ◌≤◌, length};
-ghost use Rattle.io.specs.Counts.{IsPrefixLen};
+ghost use Rattle.std.specs.Prelude.{◌+◌, ◌<◌, ◌≤◌, length, IfOk};
 ghost use Rattle.cases.specs.Sums.{Reduced};
 
-// Reads a file as far as there is space, and gives the number of bytes read. Of a file that cannot be opened, says why and reads none.
-pub fn load(path: &[u8], space: &mut [u8]) -> usize
-    ensures { IsPrefixLen result space.new }
+use std::io::Read;
+use std::rt::Files;
+use std::{fs, io};
+
+// Reads a file as far as there is space, and gives the number of bytes read.
+pub fn load<R: Files>(rt: &R, path: &str, space: &mut [u8]) -> io::Result<usize>
+    ensures { IfOk result (λ size. size ≤ length space.new) }
 {
-    let fd = os::open_read(path);
-    if fd < 0 {
-        os::fail(path);
-        return 0;
+    let mut file = fs::open(rt, path)?;
+    let mut size = 0;
+    for _ in 0..u64::MAX {
+        let count = file.read(&mut space[size..])?;
+        if count == 0 {
+            break;
+        }
+        size += count;
     }
-    let size = io::read_full(fd, space);
-    libc::close(fd);
-    size
+    Ok(size)
 }
 
 // The number of two bytes at a place.
@@ -49,10 +54,8 @@ pub fn eight(s: &[u8], at: usize) -> usize
 
 // Fills a room so that a byte that a call should not have touched shows.
 pub fn fill(room: &mut [u8]) {
-    let mut i: usize = 0;
-    while i < room.len() {
-        room[i] = (i % 251) as u8;
-        i += 1;
+    for (i, byte) in room.iter_mut().enumerate() {
+        *byte = (i % 251) as u8;
     }
 }
 
@@ -88,10 +91,8 @@ pub fn with(before: Sums, number: usize) -> Sums
 // The checksum of bytes.
 pub fn checksum(s: &[u8]) -> Sums {
     let mut sums = none();
-    let mut i: usize = 0;
-    while i < s.len() {
-        sums = with(sums, numbers::wide(s[i]));
-        i += 1;
+    for byte in s {
+        sums = with(sums, numbers::wide(*byte));
     }
     sums
 }

@@ -1,4 +1,4 @@
-// The listing of a book, on standard output: a line of numbers, then a line for each name. Whatever bytes come, it is safe and ends.
+// The listing of a book, into a writer: a line of numbers, then a line for each name. Whatever bytes come, it is safe and ends.
 // The book is checked once, by `accept::check_book`; then each name is read by `names::read_name`, which trusts what the check has
 // shown. What an entry stores is not told with its name, so the stored count is made of the name before: it is a count of bytes in every
 // book, and by the plain rule symbols are equal just where bytes are.
@@ -7,14 +7,9 @@
 ghost use Rattle.std.specs.Prelude.{ℕ, ◌<◌};
 ghost use Rattle.names.specs.Names.{PositionAsk};
 
-use libc::STDOUT_FILENO;
+use std::io;
+use std::io::Write;
 use symbols::Rule;
-
-// A number, after a word or a space.
-fn say(before: &[u8], number: usize) {
-    io::write_all(STDOUT_FILENO, before);
-    io::print_decimal(STDOUT_FILENO, number as u64);
-}
 
 // An upper-case hex digit.
 fn digit(value: u8) -> u8
@@ -24,86 +19,82 @@ fn digit(value: u8) -> u8
 }
 
 // A byte from space to tilde as it is, but a backslash and any other as a backslash and two hex digits.
-fn say_byte(byte: u8) {
-    let mut plain = 32 <= byte;
-    if 126 < byte {
-        plain = false;
-    }
-    if byte == 92 {
-        plain = false;
-    }
-    if plain {
-        io::write_all(STDOUT_FILENO, &[byte]);
+fn say_byte<W: Write>(out: &mut W, byte: u8) -> io::Result<()> {
+    let is_plain = (b' '..=b'~').contains(&byte) && byte != b'\\';
+    if is_plain {
+        out.write_all(&[byte])
     } else {
-        io::write_all(STDOUT_FILENO, &[92, digit(byte / 16), digit(byte % 16)]);
+        out.write_all(&[b'\\', digit(byte / 16), digit(byte % 16)])
     }
 }
 
 // A name, byte by byte.
-fn say_name(name: &[u8]) {
-    let mut i: usize = 0;
-    while i < name.len() {
-        say_byte(name[i]);
-        i += 1;
+fn say_name<W: Write>(out: &mut W, name: &[u8]) -> io::Result<()> {
+    for byte in name {
+        say_byte(out, *byte)?;
     }
+    Ok(())
 }
 
 // A name's line: position, block, stored shared count, full length, name. The count of a block's first name is 0.
-fn say_line(position: usize, k: usize, before: &[u8], name: &[u8])
+fn say_line<W: Write>(
+    out: &mut W,
+    position: usize,
+    k: usize,
+    before: &[u8],
+    name: &[u8],
+) -> io::Result<()>
     requires { 0 < k }
 {
-    let mut count: usize = 0;
+    let mut count = 0;
     if position % k != 0 {
         count = symbols::shared_symbols(Rule::Plain, before, name);
     }
-    say(b"", position);
-    say(b" ", position / k);
-    say(b" ", count);
-    say(b" ", name.len());
-    io::write_all(STDOUT_FILENO, b" ");
-    say_name(name);
-    io::write_all(STDOUT_FILENO, b"\n");
+    let block = position / k;
+    let length = name.len();
+    write!(out, "{position} {block} {count} {length} ")?;
+    say_name(out, name)?;
+    writeln!(out)
 }
 
 // The lines of all names.
-fn say_lines(book: &[u8], t: trailer::Trailer)
+fn say_lines<W: Write>(out: &mut W, book: &[u8], t: trailer::Trailer) -> io::Result<()>
     requires { (i : ℕ) → i < t.names → PositionAsk book.now t i }
 {
     let n = numbers::wide16(t.names);
     let k = numbers::wide16(t.block);
     let mut before = [0u8; 200];
-    let mut before_len: usize = 0;
-    let mut i: usize = 0;
-    while i < n {
+    let mut before_len = 0;
+    for i in 0..n {
         let entry = names::read_name(book, t, i);
         let name = entry.name;
         let len = entry.len;
-        say_line(i, k, &before[..before_len], &name[..len]);
+        say_line(out, i, k, &before[..before_len], &name[..len])?;
         before = name;
         before_len = len;
-        i += 1;
     }
+    Ok(())
 }
 
 // The first line: names, block size, nodes, bytes.
-fn say_head(t: trailer::Trailer, bytes: usize) {
-    say(b"names ", numbers::wide16(t.names));
-    say(b" block ", numbers::wide16(t.block));
-    say(b" nodes ", numbers::wide16(t.nodes));
-    say(b" bytes ", bytes);
-    io::write_all(STDOUT_FILENO, b"\n");
+fn say_head<W: Write>(out: &mut W, t: trailer::Trailer, bytes: usize) -> io::Result<()> {
+    let names = t.names;
+    let block = t.block;
+    let nodes = t.nodes;
+    writeln!(
+        out,
+        "names {names} block {block} nodes {nodes} bytes {bytes}"
+    )
 }
 
 // The listing of a book; of bytes that are none, the line `refused 2`.
-pub fn list(book: &[u8]) {
+pub fn list<W: Write>(out: &mut W, book: &[u8]) -> io::Result<()> {
     let checked = accept::check_book(book);
     match checked {
         accept::Checked::Sound(t) => {
-            say_head(t, book.len());
-            say_lines(book, t);
+            say_head(out, t, book.len())?;
+            say_lines(out, book, t)
         }
-        accept::Checked::Unsound => {
-            io::write_all(STDOUT_FILENO, b"refused 2\n");
-        }
+        accept::Checked::Unsound => out.write_all(b"refused 2\n"),
     }
 }
