@@ -32,7 +32,7 @@ pub struct Heard {
     pub range: Answer,
 }
 
-// Asks three rows at once, for one check of the book. It decides nothing: a local that holds a slice of rows is walked by hand.
+// Asks three rows at once, for one check of the book. It decides nothing.
 fn ask_rows(book: &[u8], questions: &[u8], rows: [Row; 3], mut answers: [Answer; 3]) -> Asked
     ensures { batched result.answer result.answers ≡ batch book.now questions.now (map row_of rows) (map answered answers) }
 {

@@ -3,7 +3,6 @@
 ghost use Rattle.std.specs.Prelude.{◌+◌, ◌<◌, ◌≤◌, length, IfOk};
 ghost use Rattle.cases.specs.Sums.{Reduced};
 
-use std::io::Read;
 use std::rt::Files;
 use std::{fs, io};
 
@@ -12,15 +11,7 @@ pub fn load<R: Files>(rt: &R, path: &str, space: &mut [u8]) -> io::Result<usize>
     ensures { IfOk result (λ size. size ≤ length space.new) }
 {
     let mut file = fs::open(rt, path)?;
-    let mut size = 0;
-    for _ in 0..u64::MAX {
-        let count = file.read(&mut space[size..])?;
-        if count == 0 {
-            break;
-        }
-        size += count;
-    }
-    Ok(size)
+    input::read_full(&mut file, space)
 }
 
 // The number of two bytes at a place.

@@ -7,37 +7,37 @@ mod batching;
 mod building;
 mod bytes;
 mod checking;
+mod files;
 mod lines;
 mod merging;
 mod places;
 mod reading;
-mod walk;
 
-use crate::walk::Call;
+use crate::files::Call;
 use std::io;
-use std::io::{BufWriter, Write};
+use std::io::Write;
 
 // The longest file of cases has less than 600,000 bytes. What is past them would not be read, and its lines would be missed.
 fn main(rt: HostRuntime) -> io::Result<()> {
-    let mut file = vec![in rt.alloc(); 0u8; 600000]?;
-    let mut out = BufWriter::new(rt.alloc(), io::writer(&rt))?;
-    walk::run(&rt, &mut out, Call::Build, "build.cases", &mut file)?;
-    walk::run(&rt, &mut out, Call::Check, "check.cases", &mut file)?;
-    walk::run(&rt, &mut out, Call::Read, "read.cases", &mut file)?;
-    walk::run(&rt, &mut out, Call::Ask, "ask.cases", &mut file)?;
-    walk::run(&rt, &mut out, Call::Ask, "dearest.cases", &mut file)?;
-    walk::run(&rt, &mut out, Call::Batch, "batch.cases", &mut file)?;
-    walk::run(&rt, &mut out, Call::Merge, "merge.cases", &mut file)?;
-    walk::run(
+    let mut file = [0u8; 600000];
+    let mut out = io::writer(&rt);
+    files::run(&rt, &mut out, Call::Build, "build.cases", &mut file)?;
+    files::run(&rt, &mut out, Call::Check, "check.cases", &mut file)?;
+    files::run(&rt, &mut out, Call::Read, "read.cases", &mut file)?;
+    files::run(&rt, &mut out, Call::Ask, "ask.cases", &mut file)?;
+    files::run(&rt, &mut out, Call::Ask, "dearest.cases", &mut file)?;
+    files::run(&rt, &mut out, Call::Batch, "batch.cases", &mut file)?;
+    files::run(&rt, &mut out, Call::Merge, "merge.cases", &mut file)?;
+    files::run(
         &rt,
         &mut out,
         Call::BuildFolded,
         "folded_build.cases",
         &mut file,
     )?;
-    walk::run(&rt, &mut out, Call::Check, "folded_check.cases", &mut file)?;
-    walk::run(&rt, &mut out, Call::Read, "folded_read.cases", &mut file)?;
-    walk::run(&rt, &mut out, Call::Ask, "folded_ask.cases", &mut file)?;
-    walk::run(&rt, &mut out, Call::Batch, "folded_batch.cases", &mut file)?;
+    files::run(&rt, &mut out, Call::Check, "folded_check.cases", &mut file)?;
+    files::run(&rt, &mut out, Call::Read, "folded_read.cases", &mut file)?;
+    files::run(&rt, &mut out, Call::Ask, "folded_ask.cases", &mut file)?;
+    files::run(&rt, &mut out, Call::Batch, "folded_batch.cases", &mut file)?;
     out.flush()
 }

@@ -2,15 +2,15 @@
 #![tactic(auto)]
 
 use std::io;
-use std::io::{BufWriter, Read, Write};
+use std::io::Write;
 
 // One byte more than the longest book has: where it comes, the bytes are no book, and what follows it does not matter.
-const MOST: u64 = 65536;
+const MOST: usize = 65536;
 
 fn main(rt: HostRuntime) -> io::Result<()> {
-    let mut input = Vec::new(rt.alloc());
-    rt.reader().take(MOST).read_to_end(&mut input)?;
-    let mut out = BufWriter::new(rt.alloc(), io::writer(&rt))?;
-    listing::list(&mut out, &input)?;
+    let mut bytes = [0u8; MOST];
+    let size = input::read_full(&mut rt.reader(), &mut bytes)?;
+    let mut out = io::writer(&rt);
+    listing::list(&mut out, &bytes[..size])?;
     out.flush()
 }

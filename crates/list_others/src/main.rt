@@ -5,7 +5,7 @@
 ghost use Rattle.std.specs.Prelude.{◌≡◌, ◌≤◌, length};
 
 use std::io;
-use std::io::{BufWriter, Write};
+use std::io::Write;
 
 // Builds a book of either kind.
 fn build_kind(folded: bool, records: &[u8], block: usize, room: &mut [u8]) -> book::Answer
@@ -30,7 +30,7 @@ fn list_built<W: Write>(out: &mut W, folded: bool, records: &[u8], block: usize)
 }
 
 fn main(rt: HostRuntime) -> io::Result<()> {
-    let mut out = BufWriter::new(rt.alloc(), io::writer(&rt))?;
+    let mut out = io::writer(&rt);
     let escaped = b"\x04\x00\x1F ~\x05\x00\x1F ~\x7F\x03A\\B\x04\xC3\x87ay\x01\xFF";
     listing::list(&mut out, b"")?;
     listing::list(&mut out, b"\x03Mar\x06Marina")?;

@@ -3,7 +3,6 @@
 #![tactic(auto)]
 
 use std::io;
-use std::io::Read;
 
 // The longest input.
 const MOST: usize = 65536;
@@ -23,10 +22,10 @@ fn make(rt: &(impl Print + Eprint), list: &[u8]) -> io::Result<()> {
 
 // Asks for one byte more than may come: where it comes, the input is too long.
 fn main(rt: HostRuntime) -> io::Result<()> {
-    let mut input = Vec::new(rt.alloc());
-    rt.reader().take(MOST as u64 + 1).read_to_end(&mut input)?;
-    if input.len() <= MOST {
-        make(&rt, &input)
+    let mut list = [0u8; MOST + 1];
+    let size = input::read_full(&mut rt.reader(), &mut list)?;
+    if size <= MOST {
+        make(&rt, &list[..size])
     } else {
         eprintln!(rt; "input too long")
     }

@@ -1,7 +1,7 @@
--- `cases::bytes::load`: what has been read stands in the space.
+-- `input::read_full`: what has been read stands in the space.
 -- Assumes nothing.
 use Rattle.std.proofs.Common.{◌≤◌, length}
-use Rattle.cases.proofs.bytes.load.Given as goal
+use Rattle.input.proofs.read_full.Given as goal
 
 abbrev pub invariant-loop : goal.invariant-loop
 invariant-loop g l = l.size ≤ length l.space

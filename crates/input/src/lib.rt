@@ -1,0 +1,22 @@
+// What a program reads: bytes of any reader, as far as there is space, with nothing allocated.
+#![tactic(auto)]
+
+ghost use Rattle.std.specs.Prelude.{◌≤◌, length, IfOk};
+
+use std::io;
+use std::io::Read;
+
+// Reads until the input ends or the space is full, and gives the number of bytes read.
+pub fn read_full<R: Read>(from: &mut R, space: &mut [u8]) -> io::Result<usize>
+    ensures { IfOk result (λ size. size ≤ length space.new) }
+{
+    let mut size = 0;
+    for _ in 0..u64::MAX {
+        let count = from.read(&mut space[size..])?;
+        if count == 0 {
+            break;
+        }
+        size += count;
+    }
+    Ok(size)
+}
