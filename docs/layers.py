@@ -29,7 +29,7 @@ def read_crates():
     """name -> the crates on its line, in the file's order; libraries of the kit are left out."""
     lines = (ROOT / "crates.txt").read_text(encoding="utf-8").splitlines()
     pairs = [line.split(":", 1) for line in lines if ":" in line and not line.lstrip().startswith("#")]
-    named = {name.strip(): rest.split() for name, rest in pairs}
+    named = {name.split()[0]: rest.split() for name, rest in pairs}
     return {name: [other for other in others if other in named] for name, others in named.items()}
 
 
