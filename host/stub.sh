@@ -27,7 +27,7 @@ commit_all() {
 }
 
 # Without an archive the stub makes one for each library, with the name of its crate and crates.txt. While FOLDER/broken is there, it makes none.
-# A crate that is proved, built or run has to be the folder at hand, and one of crates.txt.
+# A crate that is proved, built or run has to be the folder at hand, and one of crates.txt, as do those that the gate is run for.
 make_kit() {
     local folder=$1 archive=${2:-} tools=$1/toolchain
     # shellcheck disable=SC2016
@@ -65,6 +65,12 @@ case \$1 in
 version) echo "a stub of the kit" ;;
 doc) echo "$folder/index" ;;
 check | run) ;;
+ci)
+    shift
+    for crate in "\$@"; do
+        grep -q "^\$crate\( staticlib\)*:" crates.txt || { echo "rt: there is no crate \$crate" >&2; exit 1; }
+    done
+    ;;
 lib)
     echo "a long log"
     [ ! -f "$folder/broken" ] || exit 1

@@ -1,5 +1,5 @@
-// The cases of `book_build` and of `book_build_folded`. A case is a head and then the list: of the head, 4 bytes have the list's length, 8 the block size and 4 the
-// room's length.
+// The cases of `book_build` and of `book_build_folded`. A case is a head and then the list: of the head, 4 bytes have the list's length, 8 the
+// block size and 4 the room's length.
 ghost use Rattle.std.specs.Prelude.{◌<◌, ◌≤◌, length, IfOk};
 
 use crate::{bytes, lines};
@@ -61,23 +61,13 @@ pub fn run_one<W: Write>(
         return Ok(file.len());
     }
     let end = start + size;
-    let mut room = [0u8; LONGEST_ROOM];
+    let list = &file[start..end];
+    let mut space = [0u8; LONGEST_ROOM];
+    let room = &mut space[..room_size];
     if folded {
-        print_folded(
-            out,
-            number,
-            &file[start..end],
-            block,
-            &mut room[0..room_size],
-        )?;
+        print_folded(out, number, list, block, room)?;
     } else {
-        print_build(
-            out,
-            number,
-            &file[start..end],
-            block,
-            &mut room[0..room_size],
-        )?;
+        print_build(out, number, list, block, room)?;
     }
     Ok(end)
 }

@@ -136,7 +136,8 @@ fn shared_along(book: &[u8], p: usize, a: usize, i: usize) -> usize
 // Whether name number i, whose entry stands at a and stores another count than d, can part at symbol number d from the name before it,
 // whose entry stands at p: then a, which is not 0; else 0. It can't where they share more or less. It can where they share d symbols at
 // least, and the entry no more bytes. By the plain rule each count says how many symbols they share, but for 0, which a block's
-// first name stores.
+// first name stores. It stays a function: within the walk over the node table it would take 16 bytes of stack more at each level.
+#[inline(never)]
 pub fn part_at(book: &[u8], p: usize, a: usize, i: usize, d: usize) -> usize
     requires { MeetAsk book.now p a i × (get_or book.now a 0 ≡ d → ⊥) }
     ensures { PartSays book.now a i d result }

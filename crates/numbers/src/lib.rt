@@ -62,10 +62,13 @@ pub fn put_numbers(part: &mut [u8], ns: &[usize])
     }
 }
 
-// Bytes at the front of a room, in which what lies behind them stays.
+// Bytes at the front of a room, in which what lies behind them stays. One by one: `copy_from_slice` would be compiled into a call of memmove,
+// and a guest has but memcpy and memset.
 pub fn copy(bytes: &[u8], room: &mut [u8])
     requires { length bytes.now ≤ length room.old }
     ensures { (length room.new ≡ length room.old) × (room.new ≡ take (length bytes.now) bytes.now ++ drop (length bytes.now) room.old) }
 {
-    room[..bytes.len()].copy_from_slice(bytes);
+    for i in 0..bytes.len() {
+        room[i] = bytes[i];
+    }
 }
