@@ -1,6 +1,7 @@
 // Bytes of a case: a whole file of them, numbers that stand in it, what a room holds before a call, and a checksum.
 // Numbers are low byte first.
 ghost use Rattle.std.specs.Prelude.{◌+◌, ◌<◌, ◌≤◌, length, IfOk};
+ghost use Rattle.std.specs.Io.{ReadsAtMost};
 ghost use Rattle.cases.specs.Sums.{Reduced};
 
 use std::rt::Files;
@@ -8,7 +9,7 @@ use std::{fs, io};
 
 // Reads a file as far as there is space, and gives the number of bytes read.
 pub fn load<R: Files>(rt: &R, path: &str, space: &mut [u8]) -> io::Result<usize>
-    ensures { IfOk result (λ size. size ≤ length space.new) }
+    ensures { ReadsAtMost result space.new }
 {
     let mut file = fs::open(rt, path)?;
     input::read_full(&mut file, space)

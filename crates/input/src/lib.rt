@@ -1,14 +1,14 @@
 // What a program reads: bytes of any reader, as far as there is space, with nothing allocated.
 #![tactic(auto)]
 
-ghost use Rattle.std.specs.Prelude.{◌≤◌, length, IfOk};
+ghost use Rattle.std.specs.Io.{ReadsAtMost};
 
 use std::io;
 use std::io::Read;
 
 // Reads until the input ends or the space is full, and gives the number of bytes read.
 pub fn read_full<R: Read>(from: &mut R, space: &mut [u8]) -> io::Result<usize>
-    ensures { IfOk result (λ size. size ≤ length space.new) }
+    ensures { ReadsAtMost result space.new }
 {
     let mut size = 0;
     for _ in 0..u64::MAX {
