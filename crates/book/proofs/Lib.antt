@@ -4,3 +4,5 @@ pub mod Filling
 pub mod Batching
 pub mod Salvaging
 pub mod Merging
+pub mod Walking
+pub mod Front
