@@ -1,6 +1,6 @@
 // Bytes of a case: a whole file of them, numbers that stand in it, what a room holds before a call, and a checksum.
 // Numbers are low byte first.
-ghost use Rattle.std.specs.Prelude.{◌+◌, ◌<◌, ◌≤◌, length, IfOk};
+ghost use Rattle.std.specs.Prelude.{◌≡◌, ◌+◌, ◌<◌, ◌≤◌, length, IfOk};
 ghost use Rattle.std.specs.Io.{ReadsAtMost};
 ghost use Rattle.cases.specs.Sums.{Reduced};
 
@@ -9,7 +9,8 @@ use std::{fs, io};
 
 // Reads a file as far as there is space, and gives the number of bytes read.
 pub fn load<R: Files>(rt: &R, path: &str, space: &mut [u8]) -> io::Result<usize>
-    ensures { ReadsAtMost result space.new }
+    ensures read { ReadsAtMost result space.new }
+    ensures kept { length space.new ≡ length space.old }
 {
     let mut file = fs::open(rt, path)?;
     input::read_full(&mut file, space)
