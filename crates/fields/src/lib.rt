@@ -1,9 +1,8 @@
 // A node's record in a book: its numbers, read one by one, and all of them written. How many bytes it has, and where in it a number
-// stands, is known here and nowhere else. A record that is read is told by where its first number stands, and by how far it is from one of
-// its numbers to the next.
+// stands, is known here and nowhere else.
 #![tactic(auto)]
 
-ghost use Rattle.std.specs.Prelude.{◌≡◌, ◌<◌, suc, get_or, length};
+ghost use Rattle.std.specs.Prelude.{◌≡◌, ◌*◌, ◌<◌, ◌≤◌, suc, drop, get_or, length};
 ghost use Rattle.format.specs.Book.{numbers};
 ghost use Rattle.format.specs.Nodes.{field_count, node_size, fields};
 ghost use Rattle.standing.specs.Maps.{Roomy, record_at};
@@ -30,73 +29,92 @@ pub struct Node {
     pub width: usize,
 }
 
-// Field number j of the record at an offset.
-fn field(book: &[u8], at: usize, step: usize, j: usize) -> usize
-    requires { Roomy step book.now at × (j < field_count) }
-    ensures { (result ≡ get_or (fields (record_at step book.now at)) j 0) × (result < 65536) }
-{
-    numbers::number_at(book, at + j * step)
+// A node table as it stands in a book: how many bytes it is from a node to the next, and from a number of a node to its next one. A node is
+// told by the offset of its first number.
+#[derive(Clone, Copy)]
+pub struct Table<'a> {
+    pub book: &'a [u8],
+    pub stride: usize,
+    pub step: usize,
 }
 
-// Field number j + 1. A processor adds one, two or four steps to a place as it reads, but not three or five: those fields are read from
-// the number behind the first on.
-fn field_on(book: &[u8], at: usize, step: usize, j: usize) -> usize
-    requires { Roomy step book.now at × (suc j < field_count) }
-    ensures { (result ≡ get_or (fields (record_at step book.now at)) (suc j) 0) × (result < 65536) }
-{
-    let on = at + step;
-    numbers::number_at(&book[on..], j * step)
-}
+impl<'a> Table<'a> {
+    // Field number j of the node at an offset.
+    fn field(self, at: usize, j: usize) -> usize
+        requires { Roomy self.step self.book.now at × (j < field_count) }
+        ensures { (result ≡ get_or (fields (record_at self.entry.step self.entry.book.now at)) j 0) × (result < 65536) }
+    {
+        numbers::number_at(self.book, at + j * self.step)
+    }
 
-pub fn symbol(book: &[u8], at: usize, step: usize) -> usize
-    requires { Roomy step book.now at }
-    ensures { (result ≡ (record_at step book.now at).symbol) × (result < 65536) }
-{
-    field(book, at, step, 0)
-}
+    // Field number j + 1. A processor adds one, two or four steps to a place as it reads, but not three or five: those fields are read from
+    // the number behind the first on.
+    fn field_on(self, at: usize, j: usize) -> usize
+        requires { Roomy self.step self.book.now at × (suc j < field_count) }
+        ensures { (result ≡ get_or (fields (record_at self.entry.step self.entry.book.now at)) (suc j) 0) × (result < 65536) }
+    {
+        let on = at + self.step;
+        numbers::number_at(&self.book[on..], j * self.step)
+    }
 
-pub fn depth(book: &[u8], at: usize, step: usize) -> usize
-    requires { Roomy step book.now at }
-    ensures { (result ≡ (record_at step book.now at).depth) × (result < 65536) }
-{
-    field(book, at, step, 1)
-}
+    pub fn symbol(self, at: usize) -> usize
+        requires { Roomy self.step self.book.now at }
+        ensures { (result ≡ (record_at self.entry.step self.entry.book.now at).symbol) × (result < 65536) }
+    {
+        self.field(at, 0)
+    }
 
-pub fn first(book: &[u8], at: usize, step: usize) -> usize
-    requires { Roomy step book.now at }
-    ensures { (result ≡ (record_at step book.now at).first) × (result < 65536) }
-{
-    field(book, at, step, 2)
-}
+    pub fn depth(self, at: usize) -> usize
+        requires { Roomy self.step self.book.now at }
+        ensures { (result ≡ (record_at self.entry.step self.entry.book.now at).depth) × (result < 65536) }
+    {
+        self.field(at, 1)
+    }
 
-pub fn names(book: &[u8], at: usize, step: usize) -> usize
-    requires { Roomy step book.now at }
-    ensures { (result ≡ (record_at step book.now at).names) × (result < 65536) }
-{
-    field_on(book, at, step, 2)
-}
+    pub fn first(self, at: usize) -> usize
+        requires { Roomy self.step self.book.now at }
+        ensures { (result ≡ (record_at self.entry.step self.entry.book.now at).first) × (result < 65536) }
+    {
+        self.field(at, 2)
+    }
 
-pub fn nodes(book: &[u8], at: usize, step: usize) -> usize
-    requires { Roomy step book.now at }
-    ensures { (result ≡ (record_at step book.now at).nodes) × (result < 65536) }
-{
-    field(book, at, step, 4)
-}
+    pub fn names(self, at: usize) -> usize
+        requires { Roomy self.step self.book.now at }
+        ensures { (result ≡ (record_at self.entry.step self.entry.book.now at).names) × (result < 65536) }
+    {
+        self.field_on(at, 2)
+    }
 
-// The same, read from `counts`, the part of the book that begins with the number of nodes that a record at 0 would have. Who reads many of
-// them cuts that part once, and no step is added where one is read.
-pub fn nodes_in(book: &[u8], counts: &[u8], at: usize, step: usize) -> usize
-    requires { Roomy step book.now at × (counts.now ≡ counts_in step book.now) }
-    ensures { (result ≡ (record_at step book.now at).nodes) × (result < 65536) }
-{
-    numbers::number_at(counts, at)
-}
+    pub fn nodes(self, at: usize) -> usize
+        requires { Roomy self.step self.book.now at }
+        ensures { (result ≡ (record_at self.entry.step self.entry.book.now at).nodes) × (result < 65536) }
+    {
+        self.field(at, NODES)
+    }
 
-pub fn width(book: &[u8], at: usize, step: usize) -> usize
-    requires { Roomy step book.now at }
-    ensures { (result ≡ (record_at step book.now at).width) × (result < 65536) }
-{
-    field_on(book, at, step, 4)
+    pub fn width(self, at: usize) -> usize
+        requires { Roomy self.step self.book.now at }
+        ensures { (result ≡ (record_at self.entry.step self.entry.book.now at).width) × (result < 65536) }
+    {
+        self.field_on(at, 4)
+    }
+
+    // The part of the book that begins with number j of the node that would stand at 0. Who reads one number of many nodes cuts it once, and no
+    // step is added where one is read.
+    pub fn part(self, j: usize) -> &'a [u8]
+        requires { j * self.step ≤ length self.book.now }
+        ensures { result.now ≡ drop (j * self.entry.step) self.entry.book.now }
+    {
+        &self.book[j * self.step..]
+    }
+
+    // The number of nodes of the node at an offset, read in the part that begins with such numbers.
+    pub fn nodes_in(self, counts: &[u8], at: usize) -> usize
+        requires { Roomy self.step self.book.now at × (counts.now ≡ counts_in self.step self.book.now) }
+        ensures { (result ≡ (record_at self.entry.step self.entry.book.now at).nodes) × (result < 65536) }
+    {
+        numbers::number_at(counts, at)
+    }
 }
 
 // A node's record, in a part that is as long.

@@ -2,9 +2,9 @@
 --     kind_by, form_by    a kind; a form
 --     kind_for           a kind of book, as the code has it
 --     mark_front, mark_back     a mark as two numbers: 4E 42 stands in front of every one, 4B 32, 46 32 or 43 32 at the back
---     IsMark, MarkSays  a number is the back of some kind's mark; whether it is
+--     MarkTells         a number is the back of that kind's mark, or of none
 -- The laws are in proofs/Telling.antt. Assumes nothing: these are definitions.
-use Rattle.std.specs.Prelude.{ℕ, ◌≡◌, Bool, false, true}
+use Rattle.std.specs.Prelude.{ℕ, ◌≡◌, Option, Some, None}
 use Rattle.format.specs.Kinds.{BookKind, ColumnBook, Columns as ByColumns, FoldedBook, Form, PlainBook, Rows}
 use Rattle.kinds.specs.declared.Form.{Form as CodeForm}
 use Rattle.kinds.specs.declared.Form.TheVariants.{Columns as InColumns, Rows as InRows}
@@ -33,11 +33,6 @@ mark_back PlainBook = 0x324B
 mark_back FoldedBook = 0x3246
 mark_back ColumnBook = 0x3243
 
--- the back of some kind's mark
-pub record IsMark (back : ℕ) : Type 0 where
-  pub kind : BookKind
-  pub is : back ≡ mark_back kind
-
-abbrev pub MarkSays : ℕ → Bool → Type 0
-MarkSays back true = IsMark back
-MarkSays back false = (κ : BookKind) → back ≡ mark_back κ → ⊥
+abbrev pub MarkTells : ℕ → Option Kind → Type 0
+MarkTells back (Some kind) = back ≡ mark_back (kind_by kind)
+MarkTells back None = (κ : BookKind) → back ≡ mark_back κ → ⊥

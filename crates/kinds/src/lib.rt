@@ -8,12 +8,12 @@ ghost use Rattle.format.specs.Full.{is_full};
 ghost use Rattle.format.specs.Kinds.{all_kinds, form_of, marked_as, record_size};
 ghost use Rattle.format.specs.Nodes.{node_size};
 ghost use Rattle.symbols.specs.Rules.{by_kind};
-ghost use Rattle.kinds.specs.Known.{MarkSays, form_by, kind_by, kind_for, mark_back};
+ghost use Rattle.kinds.specs.Known.{MarkTells, form_by, kind_by, kind_for, mark_back};
 
 use symbols::Rule;
 
 // The kind of a book.
-#[derive(Clone, Copy)]
+#[derive(Clone, Copy, PartialEq, Eq)]
 pub enum Kind {
     // Document 01's own.
     Plain,
@@ -24,7 +24,7 @@ pub enum Kind {
 }
 
 // What stands between the block table and the trailer.
-#[derive(Clone, Copy)]
+#[derive(Clone, Copy, PartialEq, Eq)]
 pub enum Form {
     // Node records, one behind the other.
     Rows,
@@ -39,80 +39,79 @@ const FOLDED: usize = 0x3246;
 
 const COLUMNS: usize = 0x3243;
 
-// The kind that the third byte of a mark tells. Of a byte that is in no mark it says Plain; whether the whole mark stands is asked elsewhere.
-pub fn marked(third: u8) -> Kind
-    ensures { result ≡ kind_for (marked_as third all_kinds) }
-{
-    if third == 0x46 {
-        return Kind::Folded;
+impl Kind {
+    // The kind that the third byte of a mark tells. Of a byte that is in no mark it says Plain; whether the whole mark stands is asked elsewhere.
+    pub fn marked(third: u8) -> Kind
+        ensures { result ≡ kind_for (marked_as third all_kinds) }
+    {
+        match third {
+            0x46 => Kind::Folded,
+            0x43 => Kind::Columns,
+            _ => Kind::Plain,
+        }
     }
-    if third == 0x43 {
-        return Kind::Columns;
+
+    // The kind whose mark has this back. One test for each: behind it the compiler knows the kind, and with it the rule.
+    pub fn with_mark(back: usize) -> Option<Kind>
+        ensures { MarkTells back result }
+    {
+        match back {
+            PLAIN => Some(Kind::Plain),
+            FOLDED => Some(Kind::Folded),
+            COLUMNS => Some(Kind::Columns),
+            _ => None,
+        }
     }
-    Kind::Plain
+
+    // The rule by which its names have their symbols.
+    pub fn rule(self) -> Rule
+        ensures { result ≡ by_kind (kind_by self) }
+    {
+        match self {
+            Kind::Plain => Rule::Plain,
+            Kind::Folded => Rule::Folded,
+            Kind::Columns => Rule::Plain,
+        }
+    }
+
+    // The form of its node table.
+    pub fn form(self) -> Form
+        ensures { form_by result ≡ form_of (kind_by self) }
+    {
+        match self {
+            Kind::Plain => Form::Rows,
+            Kind::Folded => Form::Rows,
+            Kind::Columns => Form::Columns,
+        }
+    }
+
+    // The back of its mark.
+    pub fn mark_back(self) -> usize
+        ensures { result ≡ mark_back (kind_by self) }
+    {
+        match self {
+            Kind::Plain => PLAIN,
+            Kind::Folded => FOLDED,
+            Kind::Columns => COLUMNS,
+        }
+    }
+
+    // Whether it is a full book: with a node table in rows.
+    pub fn is_full(self) -> bool
+        ensures { result ≡ is_full (kind_by self) }
+    {
+        self.form() == Form::Rows
+    }
 }
 
-pub fn rule_of(kind: Kind) -> Rule
-    ensures { result ≡ by_kind (kind_by kind) }
-{
-    match kind {
-        Kind::Plain => Rule::Plain,
-        Kind::Folded => Rule::Folded,
-        Kind::Columns => Rule::Plain,
-    }
-}
-
-pub fn form_of(kind: Kind) -> Form
-    ensures { form_by result ≡ form_of (kind_by kind) }
-{
-    match kind {
-        Kind::Plain => Form::Rows,
-        Kind::Folded => Form::Rows,
-        Kind::Columns => Form::Columns,
-    }
-}
-
-// The back of a kind's mark.
-pub fn mark_back(kind: Kind) -> usize
-    ensures { result ≡ mark_back (kind_by kind) }
-{
-    match kind {
-        Kind::Plain => PLAIN,
-        Kind::Folded => FOLDED,
-        Kind::Columns => COLUMNS,
-    }
-}
-
-// Whether a number is the back of some kind's mark. One test for each: behind it the compiler knows the kind, and with it the rule.
-pub fn is_mark(back: usize) -> bool
-    ensures { MarkSays back result }
-{
-    if back == PLAIN {
-        return true;
-    }
-    if back == FOLDED {
-        return true;
-    }
-    back == COLUMNS
-}
-
-// How many bytes a record of the table has: a node's at the most.
-pub fn record_size(form: Form) -> usize
-    ensures { (result ≡ record_size (form_by form)) × (result ≤ node_size) }
-{
-    match form {
-        Form::Rows => fields::SIZE,
-        Form::Columns => fields::SIZE,
-    }
-}
-
-// Whether a kind is a full book: with a node table in rows.
-pub fn is_full(kind: Kind) -> bool
-    ensures { result ≡ is_full (kind_by kind) }
-{
-    let form = form_of(kind);
-    match form {
-        Form::Rows => true,
-        Form::Columns => false,
+impl Form {
+    // How many bytes a record of the table has: a node's at the most.
+    pub fn record_size(self) -> usize
+        ensures { (result ≡ record_size (form_by self)) × (result ≤ node_size) }
+    {
+        match self {
+            Form::Rows => fields::SIZE,
+            Form::Columns => fields::SIZE,
+        }
     }
 }

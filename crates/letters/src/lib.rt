@@ -8,10 +8,7 @@ ghost use Rattle.answers.specs.Lit.{in_character, lit};
 fn in_character(x: u8) -> bool
     ensures { result ≡ in_character x }
 {
-    if x < 128 {
-        return false;
-    }
-    x <= 191
+    matches!(x, 128..=191)
 }
 
 // The greatest place, not above a count, where the lit part of a question may end. From the count it goes back over the bytes that go on
@@ -22,12 +19,10 @@ pub fn lit_part(question: &[u8], count: usize) -> usize
     if question.len() <= count {
         return question.len();
     }
-    let mut place = count;
-    while 0 < place {
+    for place in (1..=count).rev() {
         if !in_character(question[place]) {
             return place;
         }
-        place -= 1;
     }
-    place
+    0
 }

@@ -1,12 +1,14 @@
 // What crosses the public calls: the answer that they give, the row of a batch that they take, the head of a list and the row of a
 // salvage's report. A part above the book that has one of them in its hands lists this crate beside `book`; so nothing here asks
-// anything of its caller.
+// anything of its caller. Kinds, codes and lists are numbers in these, and no enums, since C reads and writes them.
 #![tactic(auto)]
 
 ghost use Rattle.std.specs.Prelude.{◌≡◌};
-ghost use Rattle.format.specs.Outcomes.{numbered};
-ghost use Rattle.answers.specs.Counts.{unlooked};
+ghost use Rattle.refusals.specs.Refusals.{said};
 ghost use Rattle.shapes.specs.Shapes.{answered, counted};
+ghost use Rattle.shapes.specs.Endings.{looked_at_nothing, outcome};
+
+use refusals::Refusal;
 
 // 0 or the number of a refusal, and two numbers beside it.
 #[repr(C)]
@@ -17,14 +19,32 @@ pub struct Answer {
     pub second: usize,
 }
 
-// A refusal, and the number beside it.
-pub fn refuse(code: usize, first: usize) -> Answer
-    ensures { answered result ≡ numbered code first }
-{
-    Answer {
-        code,
-        first,
-        second: 0,
+// A refusal as an answer: its number, and the number beside it.
+impl From<Refusal> for Answer {
+    ghost from_gives = { λ refusal answer. answered answer ≡ said refusal };
+
+    fn from(refusal: Refusal) -> Answer {
+        Answer {
+            code: refusal.code(),
+            first: refusal.beside(),
+            second: 0,
+        }
+    }
+}
+
+// How a writing ended, as an answer: how many bytes were written, or why it refused.
+impl From<Result<usize, Refusal>> for Answer {
+    ghost from_gives = { λ ending answer. answered answer ≡ outcome ending };
+
+    fn from(ending: Result<usize, Refusal>) -> Answer {
+        match ending {
+            Ok(bytes) => Answer {
+                code: 0,
+                first: bytes,
+                second: 0,
+            },
+            Err(refusal) => Answer::from(refusal),
+        }
     }
 }
 
@@ -40,16 +60,18 @@ pub struct Counted {
     pub entries: usize,
 }
 
-// A code, where nothing was looked at.
-pub fn look_at_nothing(code: usize) -> Counted
-    ensures { counted result ≡ unlooked code }
-{
-    Counted {
-        code,
-        first: 0,
-        second: 0,
-        visits: 0,
-        entries: 0,
+// A refusal of a single question, where nothing was looked at.
+impl From<Refusal> for Counted {
+    ghost from_gives = { λ refusal answer. counted answer ≡ looked_at_nothing refusal };
+
+    fn from(refusal: Refusal) -> Counted {
+        Counted {
+            code: refusal.code(),
+            first: refusal.beside(),
+            second: 0,
+            visits: 0,
+            entries: 0,
+        }
     }
 }
 

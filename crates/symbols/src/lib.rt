@@ -7,6 +7,8 @@
 ghost use Rattle.std.specs.Prelude.{◌≡◌, ◌-◌, ◌<◌, ◌≤◌, eqb, ltb};
 ghost use Rattle.words.specs.Words.{at, less, shared, word};
 ghost use Rattle.format.specs.Folded.{capital};
+ghost use Rattle.symbols.specs.declared.Rule.{Rule as ByRule};
+ghost use Rattle.symbols.specs.declared.Rule.TheVariants.{Folded, Plain};
 ghost use Rattle.symbols.specs.Rules.{rule_by};
 ghost use Rattle.symbols.specs.Parting.{Parted};
 
@@ -19,21 +21,48 @@ pub enum Rule {
     Folded,
 }
 
+// A rule that is known where the code is compiled. What is generic over it is compiled for each rule by itself, with no test of the rule left.
+pub trait KnownRule {
+    ghost rule: { ByRule };
+
+    fn rule() -> Rule
+        ensures { result ≡ rule };
+}
+
+// The plain rule, as a type.
+pub struct PlainRule;
+
+impl KnownRule for PlainRule {
+    ghost rule = { Plain };
+
+    fn rule() -> Rule {
+        Rule::Plain
+    }
+}
+
+// The folded rule, as a type.
+pub struct FoldedRule;
+
+impl KnownRule for FoldedRule {
+    ghost rule = { Folded };
+
+    fn rule() -> Rule {
+        Rule::Folded
+    }
+}
+
 // Whether a byte is a capital letter, 65 to 90. All other bytes have the same symbol by every rule.
 pub fn is_capital(x: u8) -> bool
     ensures { result ≡ capital x }
 {
-    if x < 65 {
-        return false;
-    }
-    x <= 90
+    matches!(x, b'A'..=b'Z')
 }
 
 // The symbol of a byte.
 pub fn symbol(rule: Rule, x: u8) -> usize
     ensures { (result ≡ rule_by rule x) × (result < 257) }
 {
-    let own = numbers::wide(x) + 1;
+    let own = usize::from(x) + 1;
     match rule {
         Rule::Plain => own,
         Rule::Folded => {
@@ -50,7 +79,7 @@ pub fn has_symbol(rule: Rule, x: u8, s: usize) -> bool
     ensures { result ≡ eqb s (rule_by rule x) }
 {
     match rule {
-        Rule::Plain => s == numbers::wide(x) + 1,
+        Rule::Plain => s == usize::from(x) + 1,
         Rule::Folded => s == symbol(Rule::Folded, x),
     }
 }
@@ -60,10 +89,7 @@ fn is_pair(x: u8, y: u8) -> bool
     requires { x < y }
     ensures { result ≡ eqb (rule_by Rule.Folded x) (rule_by Rule.Folded y) }
 {
-    if !is_capital(x) {
-        return false;
-    }
-    x + 32 == y
+    is_capital(x) && x + 32 == y
 }
 
 // Whether two bytes have the same symbol.
@@ -99,31 +125,23 @@ pub fn symbol_at(rule: Rule, rest: &[u8], skip: usize, d: usize) -> usize
     requires { skip ≤ d }
     ensures { result ≡ at (word (rule_by rule) rest.now) (d - skip) }
 {
-    let i = d - skip;
-    if rest.len() <= i {
+    let Some(x) = rest.get(d - skip) else {
         return 0;
-    }
-    match rule {
-        Rule::Plain => numbers::wide(rest[i]) + 1,
-        Rule::Folded => symbol(Rule::Folded, rest[i]),
-    }
+    };
+    symbol(rule, *x)
 }
 
 // How many leading symbols two names share.
 pub fn shared_symbols(rule: Rule, a: &[u8], b: &[u8]) -> usize
     ensures { result ≡ shared (word (rule_by rule) a.now) (word (rule_by rule) b.now) }
 {
-    let mut i: usize = 0;
-    while i < a.len() {
-        if b.len() <= i {
-            return i;
-        }
+    let most = a.len().min(b.len());
+    for i in 0..most {
         if !is_alike(rule, a[i], b[i]) {
             return i;
         }
-        i += 1;
     }
-    i
+    most
 }
 
 // The same of two names whose first bytes differ, where both have one: by the plain rule they share none.

@@ -13,6 +13,7 @@ use native.Mathlib.Nat.{mul-le-mul}
 use native.Mathlib.Omega.{arith}
 use mathlib.Core.Path.{◌≡◌, refl, sym, ap, ap₂, ◌∙◌}
 use mathlib.Core.Bool.{Bool, false, true}
+use Rattle.std.proofs.Common.{Option, Some, None, is_some}
 use mathlib.Core.List.{[], ◌∷◌}
 use lib.ListN.{get_or, length}
 use lib.Dec.{eqb}
@@ -26,7 +27,7 @@ use Rattle.standing.specs.Maps.{map_in, map_of}
 use Rattle.numbers.proofs.Parts.{Held, held_bytes}
 use Rattle.symbols.specs.Rules.{by_kind}
 use Rattle.symbols.specs.declared.Rule.TheVariants.{Folded, Plain}
-use Rattle.kinds.specs.Known.{MarkSays, form_by, kind_by, kind_for, mark_back, mark_front}
+use Rattle.kinds.specs.Known.{MarkTells, form_by, kind_by, kind_for, mark_back, mark_front}
 use Rattle.kinds.specs.declared.Form.{Form}
 use Rattle.kinds.specs.declared.Kind.{Kind}
 use Rattle.kinds.proofs.Telling.{kind-told}
@@ -79,11 +80,11 @@ pub size_is : (b : Bytes) (kind : Kind) (form : Form) (size : ℕ) → kind ≡ 
 size_is b kind form size e f h = h ∙ ap record_size (f ∙ ap (λ (x : Kind). form_of (kind_by x)) e ∙ ap form_of (kind-told (kind_of b)))
 
 -- the back of the mark is asked for last
-pub trail-marked : (b : Bytes) → trailer_size ≤ length b → Held b → (x : ℕ) (r : Bool) → x ≡ told b 7 → MarkSays x r → (told b 7 ≡ mark_back (kind_of b) → Trail b) → TrailSays b r
-trail-marked b long held x true e mark fits =
-    let is : told b 7 ≡ mark_back mark.kind = sym e ∙ mark.is in
-    fits (is ∙ ap mark_back (sym (mark-kind b long (held_bytes b held) mark.kind is)))
-trail-marked b long held x false e never fits = λ t. never (kind_of b) (e ∙ t.back)
+pub trail-marked : (b : Bytes) → trailer_size ≤ length b → Held b → (x : ℕ) (kind : Option Kind) → x ≡ told b 7 → MarkTells x kind → (told b 7 ≡ mark_back (kind_of b) → Trail b) → TrailSays b (is_some kind)
+trail-marked b long held x (Some kind) e mark fits =
+    let is : told b 7 ≡ mark_back (kind_by kind) = sym e ∙ mark in
+    fits (is ∙ ap mark_back (sym (mark-kind b long (held_bytes b held) (kind_by kind) is)))
+trail-marked b long held x None e never fits = λ t. never (kind_of b) (e ∙ t.back)
 
 -- so many records are no more bytes than nodes would be
 pub records-few : (n size : ℕ) → n < 65536 → size ≤ node_size → n * size ≤ 65536 * node_size

@@ -10,6 +10,7 @@ ghost use Rattle.symbols.specs.Rules.{by_kind};
 ghost use Rattle.kinds.specs.Known.{kind_by, kind_for};
 ghost use Rattle.trailer.specs.Trailer.{TrailSays, trailer_in};
 
+use fields::Table;
 use kinds::{Form, Kind};
 use symbols::Rule;
 
@@ -32,13 +33,6 @@ pub struct Trailer {
     pub nodes: u16,
     // The kind of book that its mark tells.
     pub kind: Kind,
-}
-
-// How many bytes it is from a node to the next, and from a number of a node to its next one.
-#[derive(Clone, Copy)]
-pub struct Pace {
-    pub stride: usize,
-    pub step: usize,
 }
 
 // Number j of the trailer.
@@ -87,7 +81,7 @@ pub fn kind(book: &[u8]) -> Kind
     requires { trailer_size ≤ length book.now }
     ensures { result ≡ kind_for (kind_of book.now) }
 {
-    kinds::marked(book[book.len() - 2])
+    Kind::marked(book[book.len() - 2])
 }
 
 // By which rule the names have their symbols: one test of one byte. Who walks in a recursion asks for it where it is wanted.
@@ -101,18 +95,20 @@ pub fn rule(book: &[u8]) -> Rule
     Rule::Plain
 }
 
-// How the numbers of the table stand that the trailer tells of: an arm for each form of table that has nodes.
-pub fn pace_of(book: &[u8]) -> Pace
+// The node table that the trailer tells of: an arm for each form of table that has nodes.
+pub fn table_of(book: &[u8]) -> Table<'_>
     requires { trailer_size ≤ length book.now }
-    ensures { (result.stride ≡ (map_of book.now).stride) × (result.step ≡ (map_of book.now).step) }
+    ensures book_same { result.book.now ≡ book.now }
+    ensures map_told { (result.stride ≡ (map_of book.now).stride) × (result.step ≡ (map_of book.now).step) }
 {
-    let form = kinds::form_of(kind(book));
-    match form {
-        Form::Rows => Pace {
+    match kind(book).form() {
+        Form::Rows => Table {
+            book,
             stride: fields::SIZE,
             step: fields::STEP,
         },
-        Form::Columns => Pace {
+        Form::Columns => Table {
+            book,
             stride: fields::STEP,
             step: fields::STEP * number(book, 4),
         },
@@ -138,27 +134,20 @@ pub fn read(book: &[u8]) -> Trailer
 pub fn is_trailer(book: &[u8]) -> bool
     ensures { TrailSays book.now result }
 {
-    if book.len() < SIZE {
-        return false;
-    }
-    if 65535 < book.len() {
+    if !(SIZE..=65535).contains(&book.len()) {
         return false;
     }
     if 2000 < names(book) {
         return false;
     }
-    let k = block(book);
-    if k == 0 {
-        return false;
-    }
-    if 64 < k {
+    if !(1..=64).contains(&block(book)) {
         return false;
     }
     let start = nodes_at(book);
     if start < blocks_at(book) {
         return false;
     }
-    let size = kinds::record_size(kinds::form_of(kind(book)));
+    let size = kind(book).form().record_size();
     if start + number(book, 4) * size + SIZE != book.len() {
         return false;
     }
@@ -168,7 +157,7 @@ pub fn is_trailer(book: &[u8]) -> bool
     if number(book, 6) != FRONT {
         return false;
     }
-    kinds::is_mark(number(book, 7))
+    Kind::with_mark(number(book, 7)).is_some()
 }
 
 // The trailer of a book of so many names in blocks of so many, with these starts of its tables, so many nodes and so many bytes in all, and
@@ -186,7 +175,7 @@ pub fn put_trailer(
     requires { length part.old ≡ trailer_size }
     ensures { part.new ≡ trailer (mark_of (kind_by kind)) names block blocks nodes count total }
 {
-    let back = kinds::mark_back(kind);
+    let back = kind.mark_back();
     let fields = [names, block, blocks, nodes, count, total, FRONT, back];
     numbers::put_numbers(part, &fields);
 }

@@ -119,18 +119,18 @@ module _ {b : Bytes} {from step count : ℕ} {part : Bytes} {place at left : ℕ
     pub gathering-place : place + 2 ≤ length b
     gathering-place = omega (arith, g.inside, times-less left step h)
 
-    pub gathering-more : (low high : ℕ) → low ≡ get_or b place 0 → high ≡ get_or b (place + 1) 0
-        → Gathering b from step count (set (set part at low) (at + 1) high) (place + step) (at + 2) (left - 1)
+    pub gathering-more : (low high onto fewer : ℕ) → low ≡ get_or b place 0 → high ≡ get_or b (place + 1) 0 → onto ≡ at + 2 → fewer ≡ left - 1
+        → Gathering b from step count (set (set part at low) (at + 1) high) (place + step) onto fewer
     unfolding gather
-    gathering-more low high l u =
+    gathering-more low high onto fewer l u o w =
         let next : Bytes = gather b (place + step) step (left - 1) in
         let number : gather b place step left ≡ low ∷ high ∷ next = ap (gather b place step) (one_less left h) ∙ ap₂ (λ (x y : ℕ). x ∷ y ∷ next) (sym l) (sym u) in
-        record {
+        rw (o, w) (record {
           inside = omega (arith, g.inside, times-less left step h);
           filled =
               rw (two-put part at low high (omega (arith, g.filled.room)))
               (filled_more g.filled (low ∷ high ∷ []) next 2 (2 * (left - 1)) (at + 2) number refl (omega arith) refl);
-        }
+        })
 
 -- ---- all rows
 
@@ -167,16 +167,16 @@ module _ {b : Bytes} {from rows far inner step : ℕ} {part : Bytes} {place at l
       fits = part_length part at (at + 2 * inner - at) (omega (arith, turning-room)) ∙ omega arith;
     }
 
-    pub turning-more : (ys : Bytes) → ys ≡ gather b place step inner
-        → Turning b from rows far inner step (take at part ++ (ys ++ drop (at + 2 * inner - at) (drop at part))) (place + far) (at + 2 * inner) (left - 1)
+    pub turning-more : (ys : Bytes) (fewer : ℕ) → ys ≡ gather b place step inner → fewer ≡ left - 1
+        → Turning b from rows far inner step (take at part ++ (ys ++ drop (at + 2 * inner - at) (drop at part))) (place + far) (at + 2 * inner) fewer
     unfolding turned
-    turning-more ys e =
+    turning-more ys fewer e w =
         let others : Bytes = turned b (place + far) (left - 1) far inner step in
         let row : turned b place left far inner step ≡ ys ++ others =
         ap (λ (n : ℕ). turned b place n far inner step) (one_less left h) ∙ ap (λ (x : Bytes). x ++ others) (sym e) in
-        record {
+        rw w (record {
           inside = omega (arith, t.inside, times-less left far h);
           filled =
               filled_more t.filled ys others (at + 2 * inner - at) ((left - 1) * (2 * inner)) (at + 2 * inner)
               row (ap length e ∙ gather-length b place step inner ∙ omega arith) (omega (arith, times-less left (2 * inner) h)) (omega arith);
-        }
+        })

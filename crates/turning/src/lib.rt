@@ -6,22 +6,20 @@ ghost use Rattle.std.specs.Prelude.{◌≡◌};
 ghost use Rattle.turning.specs.Turning.{GatherAsk, TurnAsk, gather, turned};
 
 // `count` numbers of two bytes: the first at `from`, each other one `step` bytes behind the one before. Both bytes are read before either
-// is written, so that the compiler moves them at once: as far as it knows, the part may overlap the book.
+// is written, so that the compiler moves them at once: as far as it knows, the part may overlap the book. They are written by their
+// place: of chunks that are lent out of the part a proof knows no byte when they come back.
 fn gather_numbers(book: &[u8], from: usize, step: usize, count: usize, part: &mut [u8])
     requires { GatherAsk book.now from step count part.old }
     ensures { part.new ≡ gather book.now from step count }
 {
     let mut place = from;
-    let mut at: usize = 0;
-    let mut left = count;
-    while 0 < left {
+    for i in 0..count {
+        let at = 2 * i;
         let low = book[place];
         let high = book[place + 1];
         part[at] = low;
         part[at + 1] = high;
         place += step;
-        at += 2;
-        left -= 1;
     }
 }
 
@@ -41,12 +39,10 @@ pub fn turn_table(
 {
     let mut place = from;
     let mut at: usize = 0;
-    let mut left = rows;
-    while 0 < left {
+    for _ in 0..rows {
         let end = at + 2 * inner;
         gather_numbers(book, place, step, inner, &mut part[at..end]);
         place += far;
         at = end;
-        left -= 1;
     }
 }

@@ -1,0 +1,2 @@
+-- Laws of refusals. No contract cites them.
+pub mod Codes
