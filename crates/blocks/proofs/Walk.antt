@@ -2,6 +2,7 @@
 --     BlocksDone: blocked-start, blocked-ask, blocked-more, blocked-end, blocked-sums     the blocks before lo are done
 --     lent-behind, lent-before                                           a room of two parts, of which one was lent in part
 --     BlocksPut: put-start, put-size, put-row, put_two, put-table, put-part, put-more, put_all     they are written, and where they begin
+--     noted-places, noted_count, put_here, put_along     what is noted has its places; steps of k, the last of which may lead past the names
 --     Surveying: surveying-start, surveying-enough, surveying-more, surveying-fits .. surveying-all     they are counted, by sums
 -- Assumes nothing.
 use Prim.Native.Nat.{ℕ, suc, ◌+◌, ◌-◌, ◌*◌, ◌≤◌, ◌<◌, zero-le, min}
@@ -20,10 +21,13 @@ use Rattle.format.proofs.Entries.{blocks-first}
 use Rattle.format.proofs.Numbers.{numbers-append, numbers-length}
 use Rattle.format.specs.Outcomes.{over}
 use Rattle.numbers.proofs.Parts.{lent, lent-front, over-all, over-length, part_length}
+use Rattle.records.specs.declared.Note.{Note}
 use Rattle.records.specs.Lists.{names, start_of}
+use Rattle.records.specs.Notes.{counts_of}
+use Rattle.records.proofs.Notes.{counts-at, counts-length}
 use Rattle.records.proofs.Starts.{start-all, start_none}
-use Rattle.blocks.specs.Writing.{BlockAsk, BlockPut, BlockSize, EntriesAsk, SharedSum, SumsAre, block, shared_to}
-use Rattle.blocks.proofs.Writing.{BlockSums, block-sums, shared-grows, shared-next, sizing-all}
+use Rattle.blocks.specs.Writing.{BlockAsk, BlockPut, BlockSize, EntriesAsk, SumsAre, block, shared_to}
+use Rattle.blocks.proofs.Writing.{BlockSums, block-sums, shared-grows, shared-next, shared-small, sizing-all}
 
 -- ---- a block is a span of names
 
@@ -348,18 +352,18 @@ pub record Surveying (s : Bytes) (n : ℕ) (counts : List ℕ) (k shared count l
   pub small : shared ≤ 510000
 
 module _ {s : Bytes} {n : ℕ} {counts : List ℕ} {k : ℕ} (a : EntriesAsk s n counts k) where
-  pub surveying-start : {r : ℕ} → SharedSum counts n r → Surveying s n counts k r 0 0
+  pub surveying-start : (r : ℕ) → r ≡ shared_to counts n → Surveying s n counts k r 0 0
   unfolding blocked-start shared_to
-  surveying-start r = record {
+  surveying-start r e = record {
     reached = 0;
     is = omega arith;
     start = 0;
     size = 0;
     walk = blocked-start a;
     number = refl;
-    sums = omega (arith, r.is);
-    enough = omega (arith, r.is);
-    small = omega (arith, r.small, a.ready.few);
+    sums = omega (arith, e);
+    enough = omega (arith, e);
+    small = omega (arith, e, shared-small a.ready n (omega arith), a.ready.few);
   }
 
   module _ {shared count lo : ℕ} (b : Surveying s n counts k shared count lo) where
@@ -424,3 +428,20 @@ module _ {s : Bytes} {n : ℕ} {counts : List ℕ} {k : ℕ} (a : EntriesAsk s n
       surveying-all =
           let e : b.size ≡ length s + n - shared = omega (arith, whole) in
           subst (SumsAre s k count) e (blocked-sums a b.walk (omega (arith, at-end)) b.number)
+
+-- what is noted, in the rows
+module _ {s : Bytes} {n : ℕ} (rows : List Note) {k : ℕ} (a : EntriesAsk s n (counts_of rows) k) where
+  pub noted-places : n ≤ length rows
+  noted-places = omega (arith, a.ready.total, a.ready.noted.counts-room, counts-length rows)
+
+  pub noted_count : (lo : ℕ) (d : Note) → lo < n → (get_or rows lo d).count ≡ get_or (counts_of rows) lo 0
+  noted_count lo d h = sym (counts-at rows lo d (omega (arith, noted-places)))
+
+-- the walk goes by steps of k, and the last may lead past n
+module _ {s : Bytes} {n : ℕ} {k table : ℕ} {room₀ room : Bytes} {at size row : ℕ} where
+  pub put_here : (lo : ℕ) → lo < n → BlocksPut s n k table room₀ room (min lo n) at size row → BlocksPut s n k table room₀ room lo at size row
+  put_here lo h b = let e : min lo n ≡ lo = omega arith in subst (λ (i : ℕ). BlocksPut s n k table room₀ room i at size row) e b
+
+  -- as far as it has come, told in another way
+  pub put_along : {i j : ℕ} → i ≡ j → BlocksPut s n k table room₀ room i at size row → BlocksPut s n k table room₀ room j at size row
+  put_along e b = subst (λ (i : ℕ). BlocksPut s n k table room₀ room i at size row) e b

@@ -1,14 +1,13 @@
 -- Laws of the writers of entries.
 --     stored_same, stored_other     the count that a name stores
---     entry-put                     the bytes of one entry: its two counts, and its rest copied behind them
 --     entry_here                    an entry, by bytes of the list
 --     Sizing: sizing-start, sizing-record .. sizing-fits, sizing-count, sizing-more, sizing-all     a block, name by name
 --     Filling: filling-start, filling-fits, filling-count .. filling-part (what an entry asks), filling-more, filling-all     the same, written
---     shared-next, shared-grows     what names share, in all
---     Adding: adding-start, adding-more, adding-all     the same, name by name
+--     shared-next, shared-grows, shared-taken, shared-summed     what names share, in all
+--     count_low, shared-small       it is not much
 --     BlockSums: block-sums         a block's size, by what its names share
 -- Assumes nothing.
-use Prim.Native.Nat.{ℕ, zero, suc, pred, ◌+◌, ◌-◌, ◌≤◌, ◌<◌, zero-le, ◌*◌}
+use Prim.Native.Nat.{ℕ, zero, suc, pred, ◌+◌, ◌-◌, ◌≤◌, ◌<◌, ◌*◌}
 use native.Mathlib.Nat.{lt_irrefl}
 use native.Mathlib.Decide.{ℕ_discrete}
 use native.Mathlib.Numerals.{add-one}
@@ -16,18 +15,24 @@ use native.Mathlib.Omega.{arith}
 use mathlib.Core.Path.{◌≡◌, refl, sym, ap, ◌∙◌, ap₂, subst}
 use mathlib.Core.List.{List, [], ◌∷◌, ◌++◌, append_assoc, append-nil}
 use lib.Dec.{eqb}
-use lib.ListN.{length, get_or, set, take, drop, length-append, length-take, length-drop}
-use lib.Seq.{slice, slice_empty, slice-cons, take-suc, drop-append-le, length-take-le, take-add, take_at, drop_at, drop-drop}
+use lib.ListN.{length, get_or, take, drop, length-append}
+use lib.Seq.{slice, slice_empty, slice-cons, take-suc, drop-append-le, get_or-take, length-take-le, take-add, take_all, drop_at, drop-drop}
 use borrow.Author.Tests.{eq-eqb, ne_eqb}
-use Rattle.words.specs.Words.{Bytes, pick, shared}
+use Rattle.std.proofs.Common.{sum_by}
+use Rattle.std.proofs.lemmas.List.{take-map}
+use Rattle.std.proofs.lemmas.List.Sums.{sum_by_more}
+use Rattle.words.specs.Words.{Bytes, Rule, pick, shared}
 use Rattle.words.proofs.Words.{shared-comm, shared-le}
 use Rattle.format.specs.Entries.{entry, front}
 use Rattle.format.specs.Outcomes.{over}
 use Rattle.format.specs.Spans.{last_of}
-use Rattle.numbers.proofs.Parts.{Copied, copied_behind, lent, over-all, over-length, part_length}
-use Rattle.records.specs.Lists.{names, start_of}
+use Rattle.numbers.proofs.Parts.{lent, over-length, part_length}
+use Rattle.records.specs.declared.Note.{Note}
+use Rattle.records.specs.Lists.{Ready, names, start_of}
+use Rattle.records.specs.Notes.{counts_of, lens_of}
+use Rattle.records.proofs.Notes.{counts-at, lens-at, lens-length}
 use Rattle.records.proofs.Starts.{ready-size, start-byte, start_fits, start-name, start-next, start-within}
-use Rattle.blocks.specs.Writing.{BlockAsk, BlockPut, BlockSize, LengthsAre, SharedSum, before, block, shared_to, stored_count}
+use Rattle.blocks.specs.Writing.{BlockAsk, BlockPut, BlockSize, LengthsAre, before, block, shared_to, stored_count}
 
 -- ---- the count that a name stores
 
@@ -36,27 +41,6 @@ stored_same lo i counts e = rw (eq-eqb i lo e) refl
 
 pub stored_other : (lo i c : ℕ) (counts : List ℕ) → (i ≡ lo → ⊥) → c ≡ get_or counts i 0 → c ≡ stored_count lo i counts
 stored_other lo i c counts n e = rw (ne_eqb i lo n) e
-
--- ---- one entry
-
--- the two counts in front of a copy
-counted : (part copy : Bytes) (c rest : ℕ) → 2 ≤ length part → set (set (take 2 part ++ copy) 0 c) 1 rest ≡ c ∷ rest ∷ copy
-counted [] copy c rest h = absurd (omega arith)
-counted (x ∷ []) copy c rest h = absurd (omega arith)
-counted (x ∷ y ∷ part) copy c rest h = refl
-
--- the rest, as the part `&list[from..to]`, was copied, and the counts were written in front of it
-pub entry-put : (s : Bytes) (from c rest : ℕ) (part : Bytes) → from + rest ≤ length s → length part ≡ rest + 2
-    → (ys : Bytes) → Copied (take (from + rest - from) (drop from s)) (take (length part - 2) (drop 2 part)) ys
-    → set (set (take 2 part ++ (ys ++ drop (length part - 2) (drop 2 part))) 0 c) 1 rest ≡ c ∷ rest ∷ take rest (drop from s)
-entry-put s from c rest part room size ys y =
-    let z : from + rest - from ≡ rest = omega arith in
-    let copy : Bytes = take (from + rest - from) (drop from s) in
-    let long : length copy ≡ rest = part_length s from (from + rest - from) (omega arith) ∙ z in
-    let whole : length (take 2 part ++ copy) ≡ length part = length-append (take 2 part) copy ∙ omega (arith, length-take-le 2 part (omega arith)) in
-    ap (λ (x : Bytes). set (set x 0 c) 1 rest) (copied_behind copy part ys 2 (omega arith) y ∙ over-all (take 2 part ++ copy) part whole)
-    ∙ counted part copy c rest (omega arith)
-    ∙ ap (λ (n : ℕ). c ∷ rest ∷ take n (drop from s)) z
 
 -- ---- blocks of names
 
@@ -209,7 +193,7 @@ pub record Filling (s : Bytes) (lo hi : ℕ) (room₀ room : Bytes) (i next size
   pub kept : length room ≡ length room₀
   pub written : room ≡ over (block s lo i) room₀
 
-module _ {s : Bytes} {lens counts : List ℕ} {lo at hi : ℕ} (a : BlockAsk s counts lo at hi) (l : LengthsAre (names s) lens) (room₀ : Bytes) (big : length (block s lo hi) ≤ length room₀) where
+module _ {s : Bytes} (rows : List Note) {lo at hi : ℕ} (a : BlockAsk s (counts_of rows) lo at hi) (l : LengthsAre (names s) (lens_of rows)) (room₀ : Bytes) (big : length (block s lo hi) ≤ length room₀) where
   pub filling-start : Filling s lo hi room₀ room₀ lo at 0
   filling-start = record { sizing = sizing-start a; kept = refl; written = ap (λ (b : Bytes). over b room₀) (sym (block_none s lo)) }
 
@@ -219,13 +203,15 @@ module _ {s : Bytes} {lens counts : List ℕ} {lo at hi : ℕ} (a : BlockAsk s c
         let e : i ≡ hi = omega (arith, z.sizing.high) in
         record { sized = sizing-all a z.sizing h; put = z.written ∙ ap (λ (k : ℕ). over (block s lo k) room₀) e }
 
-    pub filling-place : i < hi → i < length lens
-    filling-place h = omega (arith, l.enough, in-names a z.sizing h)
+    pub filling-place : i < hi → i < length rows
+    filling-place h = omega (arith, l.enough, in-names a z.sizing h, lens-length rows)
 
-    module _ (h : i < hi) (len : ℕ) (noted : len ≡ get_or lens i 0) (c : ℕ) (f : c ≡ stored_count lo i counts) where
+    module _ (h : i < hi) (d : Note) (len : ℕ) (noted : len ≡ (get_or rows i d).len) (c : ℕ) (f : c ≡ stored_count lo i (counts_of rows)) where
       -- what was noted is the record's length byte
       byte : len ≡ get_or s next 0
-      byte = noted ∙ l.sizes i (in-names a z.sizing h) ∙ sym (ap (λ (k : ℕ). get_or s k 0) z.sizing.here ∙ start-byte a.ready i (in_list a z.sizing h))
+      byte =
+          noted ∙ sym (lens-at rows i d (filling-place h)) ∙ l.sizes i (in-names a z.sizing h)
+          ∙ sym (ap (λ (k : ℕ). get_or s k 0) z.sizing.here ∙ start-byte a.ready i (in_list a z.sizing h))
 
       pub filling-less : c ≤ len
       filling-less = sizing-count a z.sizing h len byte c f
@@ -246,18 +232,26 @@ module _ {s : Bytes} {lens counts : List ℕ} {lo at hi : ℕ} (a : BlockAsk s c
       pub filling-count : c < 256
       filling-count = omega (arith, sizing-low a z.sizing h len byte, sizing-count a z.sizing h len byte c f)
 
-      pub filling-rest : len - c < 256
-      filling-rest = omega (arith, sizing-low a z.sizing h len byte)
-
       pub filling-source : next + 1 + c + (len - c) ≤ length s
       filling-source = omega (arith, sizing-fits a z.sizing h len byte, sizing-count a z.sizing h len byte c f)
 
-      pub filling-part : length (take (size + 2 + (len - c) - size) (drop size room)) ≡ len - c + 2
-      filling-part = simp (length-take, length-drop) (omega (arith, filling-fits))
+      -- the rest as it is lent
+      rest-is : take (next + 1 + c + (len - c) - (next + 1 + c)) (drop (next + 1 + c) s) ≡ take (len - c) (drop (next + 1 + c) s)
+      rest-is = let z : next + 1 + c + (len - c) - (next + 1 + c) ≡ len - c = omega arith in ap (λ (n : ℕ). take n (drop (next + 1 + c) s)) z
 
-      pub filling-more : (ys : Bytes) → ys ≡ c ∷ (len - c) ∷ take (len - c) (drop (next + 1 + c) s)
+      rest-length : length (take (next + 1 + c + (len - c) - (next + 1 + c)) (drop (next + 1 + c) s)) ≡ len - c
+      rest-length = ap length rest-is ∙ part_length s (next + 1 + c) (len - c) filling-source
+
+      pub filling-rest : length (take (next + 1 + c + (len - c) - (next + 1 + c)) (drop (next + 1 + c) s)) < 256
+      filling-rest = omega (arith, rest-length, sizing-low a z.sizing h len byte)
+
+      pub filling-part : length (take (size + 2 + (len - c) - size) (drop size room)) ≡ length (take (next + 1 + c + (len - c) - (next + 1 + c)) (drop (next + 1 + c) s)) + 2
+      filling-part = omega (arith, rest-length, part_length room size (size + 2 + (len - c) - size) (omega (arith, filling-fits)))
+
+      pub filling-more : (ys : Bytes) → ys ≡ c ∷ length (take (next + 1 + c + (len - c) - (next + 1 + c)) (drop (next + 1 + c) s)) ∷ take (next + 1 + c + (len - c) - (next + 1 + c)) (drop (next + 1 + c) s)
           → Filling s lo hi room₀ (take size room ++ (ys ++ drop (size + 2 + (len - c) - size) (drop size room))) (i + 1) (next + (1 + len)) (size + 2 + (len - c))
-      filling-more ys y =
+      filling-more ys y₀ =
+          let y : ys ≡ c ∷ (len - c) ∷ take (len - c) (drop (next + 1 + c) s) = y₀ ∙ ap₂ (λ (n : ℕ) (r : Bytes). c ∷ n ∷ r) rest-length rest-is in
           let end : size + (2 + len - c) ≡ size + 2 + (len - c) = omega (arith, sizing-count a z.sizing h len byte c f) in
           let long : length ys ≡ size + 2 + (len - c) - size =
           ap length y ∙ omega (arith, part_length s (next + 1 + c) (len - c) (omega (arith, sizing-fits a z.sizing h len byte, sizing-count a z.sizing h len byte c f))) in
@@ -282,21 +276,42 @@ shared-grows counts i (suc m) =
     let e : i + m + 1 ≡ i + suc m = omega arith in
     omega (arith, shared-grows counts i m, shared-next counts (i + m), ap (shared_to counts) e)
 
--- what the first i of n names share
-pub record Adding (counts : List ℕ) (n i r : ℕ) : Type 0 where
-  pub within : i ≤ n
-  pub sum : SharedSum counts i r
-
-pub adding-start : (counts : List ℕ) (n : ℕ) → Adding counts n 0 0
+-- those of the first n notes alone
+shared-front : (counts : List ℕ) (n i : ℕ) → i ≤ n → shared_to (take n counts) i ≡ shared_to counts i
 unfolding shared_to
-adding-start counts n = record { within = zero-le; sum = record { is = refl; small = zero-le } }
+shared-front counts n zero h = refl
+shared-front counts n (suc i) h = ap₂ (λ (a b : ℕ). a + b) (shared-front counts n i (omega arith)) (get_or-take n counts i 0 h)
 
-module _ {counts : List ℕ} {n i r : ℕ} (k : Adding counts n i r) where
-  pub adding-more : i < n → (x : ℕ) → x ≡ get_or counts i 0 → x < 256 → Adding counts n (i + 1) (r + x)
-  adding-more h x e l = record { within = omega arith; sum = record { is = omega (arith, k.sum.is, shared-next counts i); small = omega (arith, k.sum.small) } }
+pub shared-taken : (rows : List Note) (n : ℕ) → n ≤ length rows → shared_to (counts_of (take n rows)) (length (take n rows)) ≡ shared_to (counts_of rows) n
+unfolding counts_of
+shared-taken rows n h =
+    rw (length-take-le n rows h) (ap (λ (xs : List ℕ). shared_to xs n) (sym (take-map (λ (r : Note). r.count) n rows)) ∙ shared-front (counts_of rows) n n (omega arith))
 
-  pub adding-all : n ≤ i → SharedSum counts n r
-  adding-all h = let e : i ≡ n = omega (arith, k.within) in subst (λ (m : ℕ). SharedSum counts m r) e k.sum
+-- the sum of them
+pub shared-summed : (rows : List Note) → sum_by (λ (r : Note). r.count) rows ≡ shared_to (counts_of rows) (length rows)
+unfolding shared_to
+shared-summed rows = ap (sum_by (λ (r : Note). r.count)) (sym (take_all (length rows) rows (omega arith))) ∙ go (length rows) (omega arith)
+  where
+    go : (i : ℕ) → i ≤ length rows → sum_by (λ (r : Note). r.count) (take i rows) ≡ shared_to (counts_of rows) i
+    go zero h = refl
+    go (suc i) h =
+        let d : Note = record { len = 0; count = 0; share = 0 } in
+        ap (λ (n : ℕ). sum_by (λ (r : Note). r.count) (take n rows)) (sym (add-one i)) ∙ sum_by_more (λ (r : Note). r.count) rows i d h
+        ∙ ap₂ (λ (a b : ℕ). a + b) (go i (omega arith)) (sym (counts-at rows i d h))
+
+-- a name shares no more than its length
+module _ {ρ : Rule} {s : Bytes} {n : ℕ} {lens counts shares : List ℕ} (a : Ready ρ s n lens counts shares) where
+  count_low : (i : ℕ) → i < n → get_or counts i 0 ≤ 200
+  count_low zero h = omega (arith, a.noted.first (omega (arith, a.total)))
+  count_low (suc i) h =
+      let x : Bytes = get_or (names s) i [] in
+      let y : Bytes = get_or (names s) (suc i) [] in
+      omega (arith, a.noted.common i (omega (arith, a.total)), shared-comm x y, shared-le y x, (ready-size a (suc i) h).1)
+
+  pub shared-small : (i : ℕ) → i ≤ n → shared_to counts i ≤ 200 * i
+  unfolding shared_to
+  shared-small zero h = omega arith
+  shared-small (suc i) h = omega (arith, shared-small i (omega arith), count_low i h)
 
 -- The size of names lo to i as one block, and what they share: each but the first stores two bytes and what it does not share, and its
 -- record has a length byte and all of it.

@@ -5,7 +5,7 @@
 --     LengthsAre        a row with the length of each name
 --     BlockAsk, BlockSize, BlockPut    one block, its size, and the block written
 --     EntriesAsk        all names, in blocks of k
---     shared_to, SharedSum    what the first i names share, in all; a number that is that
+--     shared_to         what the first i names share, in all
 --     SumsAre           how many blocks there are, and how large their entries
 -- The laws are in proofs/. Assumes nothing: these are definitions.
 use Rattle.std.specs.Prelude.{ℕ, zero, suc, pred, ◌+◌, ◌*◌, ◌≤◌, ◌<◌, ◌≡◌, List, [], eqb, length, get_or}
@@ -65,10 +65,6 @@ pub record EntriesAsk (s : Bytes) (n : ℕ) (counts : List ℕ) (k : ℕ) : Type
 unfoldable pub shared_to : List ℕ → ℕ → ℕ
 shared_to counts zero = 0
 shared_to counts (suc i) = shared_to counts i + get_or counts i 0
-
-pub record SharedSum (counts : List ℕ) (i r : ℕ) : Type 0 where
-  pub is : r ≡ shared_to counts i
-  pub small : r ≤ 255 * i
 
 -- how many blocks of k there are, and the size of all entries
 pub record SumsAre (s : Bytes) (k count size : ℕ) : Type 0 where

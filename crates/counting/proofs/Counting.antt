@@ -1,24 +1,29 @@
 -- Laws of counting the nodes. It is the writer's own walk, in a room with no place: the frames of which only the depths are kept, and
 -- the records that would have been written, are there and nobody holds them.
---     Deeper: deeper-start, deeper-some, deeper-less, deeper-more, deeper-done     frame after frame
+--     Deeper: deeper-start, deeper-some, deeper-more, deeper-done     frame after frame
 --     SameDepths, Unwound           a row of depths and the frames that have them; the frames above number r are closed
+--     asked-room                    each name has its note
 --     Uncounted, Counting: counting-start .. counting-all             the walk over all names
 -- Assumes nothing.
 use Prim.Native.Nat.{ℕ, zero, suc, ◌+◌, ◌-◌, ◌*◌, ◌≤◌, ◌<◌, zero-le}
 use native.Mathlib.Nat.{lt_irrefl}
 use native.Mathlib.Decide.{ℕ_discrete}
 use native.Mathlib.Omega.{arith}
-use mathlib.Core.Path.{◌≡◌, refl, sym, ap, ◌∙◌, subst}
+use mathlib.Core.Path.{◌≡◌, refl, sym, ap, ◌∙◌}
 use mathlib.Core.List.{List, []}
 use lib.ListN.{length, get_or, drop, length-set, replicate, set, take}
 use lib.Seq.{get_or-set_other, get_or-set_same}
 use mir.Val.{Fits}
 use mir.Syntax.{w8}
 use Rattle.words.specs.Words.{Bytes, Rule}
+use Rattle.records.specs.declared.Note.{Note}
 use Rattle.records.specs.Lists.{Ready, words}
+use Rattle.records.specs.Notes.{shares_of}
+use Rattle.records.proofs.Notes.{shares-length}
 use Rattle.records.proofs.Starts.{ready-rises}
+use Rattle.frames.specs.declared.Frame.{Frame}
 use Rattle.frames.specs.declared.LeftOpen.{LeftOpen}
-use Rattle.frames.specs.Frames.{depth_in, frame_count, frame_size, raised, with_frame}
+use Rattle.frames.specs.Frames.{depth_in, frame_count, no_frame, raised, with_frame}
 use Rattle.frames.proofs.Frames.{frame_below, frame-raised, with-depth}
 use Rattle.nodes.specs.Writing.{NameAsk, NamePut, Passing, Rowing}
 use Rattle.nodes.proofs.Open.{open-depth}
@@ -38,9 +43,6 @@ module _ {depths : List ℕ} {left top r : ℕ} (k : Deeper depths left top r) (
       go zero e = omega arith
       go (suc t) e = omega arith
 
-  pub deeper-less : get_or depths 0 0 ≡ 0 → left < x → r - 1 < r
-  deeper-less z h = omega (arith, deeper-some z h)
-
   pub deeper-more : left < x → Deeper depths left top (r - 1)
   deeper-more h = record {
     within = omega (arith, k.within);
@@ -54,24 +56,24 @@ module _ {depths : List ℕ} {left top r : ℕ} (k : Deeper depths left top r) (
   deeper-done h = record { above = k; shallow = omega arith }
 
 -- the frames hold these depths, up to the top one
-abbrev SameDepths : List ℕ → List ℕ → ℕ → Type 0
+abbrev SameDepths : List Frame → List ℕ → ℕ → Type 0
 SameDepths frames depths top = (t : ℕ) → t ≤ top → depth_in frames t ≡ get_or depths t 0
 
 -- the frames above number r are closed, after so many records
-record Unwound (ρ : Rule) (rest : Bytes) (skip j left : ℕ) (frames : List ℕ) (top count r total : ℕ) : Type 0 where
+record Unwound (ρ : Rule) (rest : Bytes) (skip j left : ℕ) (frames : List Frame) (top count r total : ℕ) : Type 0 where
   pub p : LeftOpen
   pub top-is : p.top ≡ r
   pub count-is : p.count ≡ total
   pub passing : Passing ρ rest skip j left frames top count [] p []
 
-module _ {ρ : Rule} {rest : Bytes} {skip j left : ℕ} {frames : List ℕ} {first count : ℕ} (a : NameAsk ρ rest skip j left frames first count []) where
+module _ {ρ : Rule} {rest : Bytes} {skip j left : ℕ} {frames : List Frame} {first count : ℕ} (a : NameAsk ρ rest skip j left frames first count []) where
   -- one record for each frame
   unwound : {r : ℕ} (depths : List ℕ) → SameDepths frames depths first → Deeper depths left first r → (m : ℕ) {p : LeftOpen} → p.top ≤ first → p.top ≡ r + m
       → Passing ρ rest skip j left frames first count [] p [] → Unwound ρ rest skip j left frames first count r (p.count + m)
   unwound depths same d zero {p} l e k = record { p = p; top-is = omega arith; count-is = omega arith; passing = k }
   unwound {r} depths same d (suc m) {p} l e k =
       let h : left < depth_in frames p.top = omega (arith, d.deeper p.top (omega arith) l, same p.top l) in
-      let put = node-put (passing-deeper k refl _ refl a h) (back_full [] p.count _ (omega arith)) refl _ _ _ refl refl refl refl refl refl refl refl in
+      let put = node-put (passing-deeper k _ refl a h) (back_full [] p.count _ (omega arith)) refl _ _ _ refl refl refl refl refl refl refl refl in
       let u = unwound depths same d m (omega arith) (omega arith) (passing-on k put.onward) in
       record { p = u.p; top-is = u.top-is; count-is = omega (arith, u.count-is); passing = u.passing }
 
@@ -79,7 +81,7 @@ module _ {ρ : Rule} {rest : Bytes} {skip j left : ℕ} {frames : List ℕ} {fir
 
 -- the writer's state where count is the number of its records, of the names that it has not yet come to and of the open nodes
 pub record Uncounted (ρ : Rule) (s : Bytes) (n : ℕ) (depths : List ℕ) (top count j : ℕ) : Type 0 where
-  pub frames : List ℕ
+  pub frames : List Frame
   pub same : SameDepths frames depths top
   pub written : ℕ
   pub end : ℕ
@@ -94,6 +96,10 @@ pub record Counting (n : ℕ) (shares depths : List ℕ) (top count j : ℕ) : T
   pub slot : top < frame_count
   pub few : count ≤ 2 * n + frame_count
   pub state : (ρ : Rule) (s : Bytes) (lens counts : List ℕ) → Ready ρ s n lens counts shares → Uncounted ρ s n depths top count j
+
+-- each name has its note
+pub asked-room : {n : ℕ} (notes : List Note) → CountAsk n (shares_of notes) → n ≤ length notes
+asked-room notes a = omega (arith, a.ready.total, a.ready.noted.shares-room, shares-length notes)
 
 module _ {n : ℕ} {shares : List ℕ} (a : CountAsk n shares) where
   -- what is so for every list of which this is noted is so for the one that there is
@@ -112,7 +118,7 @@ module _ {n : ℕ} {shares : List ℕ} (a : CountAsk n shares) where
 
   pub counting-start : Counting n shares (replicate frame_count 0) 0 n n
   counting-start = counting refl (λ ρ s lens counts ready. record {
-    frames = replicate (frame_size * frame_count) 0;
+    frames = replicate frame_count no_frame;
     same = λ t l. let e : t ≡ 0 = omega arith in rw e refl;
     written = 0;
     end = length s;
@@ -180,8 +186,7 @@ module _ {n : ℕ} {shares : List ℕ} (a : CountAsk n shares) where
             written = closed.p.count;
             end = o.end - len - 1;
             rowing =
-                subst (λ (t : ℕ). Rowing ρ s n [] [] (raised o.frames closed.p.top closed.p.width) t closed.p.count (o.end - len - 1) (j - 1)) closed.top-is
-                (rowing-keep ready o.rowing h len refl left z l put x top-depth g _ refl);
+                rowing-keep ready o.rowing h len refl left z l put x top-depth g _ r refl (sym closed.top-is);
             is = omega (arith, o.is, closed.count-is, u.above.within);
             closed = bottom;
           }
@@ -200,8 +205,8 @@ module _ {n : ℕ} {shares : List ℕ} (a : CountAsk n shares) where
                 written = closed.p.count;
                 end = o.end - len - 1;
                 rowing =
-                    subst (λ (t : ℕ). Rowing ρ s n [] [] (with_frame o.frames (t + 1) left closed.p.width closed.p.end closed.p.mark) (t + 1) closed.p.count (o.end - len - 1) (j - 1)) closed.top-is
-                    (rowing_push ready o.rowing h len refl left z l put x top-depth g _ refl);
+                    rowing_push ready o.rowing h len refl left z l put x top-depth g _ (r + 1)
+                    (ap (λ (t : ℕ). with_frame o.frames (t + 1) left closed.p.width closed.p.end closed.p.mark) (sym closed.top-is)) (omega (arith, closed.top-is));
                 is = omega (arith, o.is, closed.count-is, u.above.within);
                 closed = λ q. absurd (lt_irrefl x (omega (arith, z q)));
               }

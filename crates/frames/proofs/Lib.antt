@@ -1,2 +1,2 @@
--- Laws of the row of frames. No contract cites them.
+-- Laws of the frames. No contract cites them.
 pub mod Frames

@@ -23,9 +23,9 @@ use Rattle.format.specs.Records.{encode}
 use Rattle.format.proofs.Merging.{merged-both, merged-first, merged-none, merged-second, rising-only}
 use Rattle.format.proofs.Records.{First, read_names, rising-first}
 use Rattle.answers.specs.Heads.{Head, lesser_head}
-use Rattle.heads.specs.Heads.{HeadAsk, LesserSays, RestOf, HeadStep, head_in}
-use Rattle.heads.specs.declared.Lesser.{Lesser}
-use Rattle.heads.specs.declared.Lesser.TheVariants.{Both, First as FirstLess, Second}
+use Rattle.heads.specs.Heads.{HeadAsk, OrderSays, RestOf, HeadStep, head_in}
+use Rattle.heads.specs.declared.Side.TheVariants.{First as AtFirst, Second as AtSecond}
+use Rattle.std.proofs.Common.{Ordering, Less, Equal, Greater}
 
 -- the next record of a list, of `size` bytes, is that of x
 pub record Headed (s : Bytes) (at size : ℕ) (xs : List Bytes) : Type 0 where
@@ -127,7 +127,7 @@ module _ {first second : Bytes} {i j : ℕ} {xs ys : List Bytes} (a : RestOf fir
       go [] f = refl
       go (z ∷ zs) f = absurd (lt_irrefl 0 (omega (arith, ap length f, length-drop j second)))
 
-  pub alone-second : i ≡ length first → 0 < length xs + length ys → (size : ℕ) → size ≡ 1 + get_or second j 0 → HeadStep first second i j xs ys (head_in true j size i (j + size))
+  pub alone-second : i ≡ length first → 0 < length xs + length ys → (size : ℕ) → size ≡ 1 + get_or second j 0 → HeadStep first second i j xs ys (head_in AtSecond j size i (j + size))
   unfolding merged
   alone-second e some size z =
       let none : xs ≡ [] = none_left e in
@@ -154,7 +154,7 @@ module _ {first second : Bytes} {i j : ℕ} {xs ys : List Bytes} (a : RestOf fir
     pub head-fits : i + size ≤ length first
     head-fits = p.fits
 
-    pub alone-first : j ≡ length second → HeadStep first second i j xs ys (head_in false i size (i + size) j)
+    pub alone-first : j ≡ length second → HeadStep first second i j xs ys (head_in AtFirst i size (i + size) j)
     alone-first e =
         let none : ys ≡ [] = none_right e in
         record {
@@ -186,7 +186,7 @@ module _ {first second : Bytes} {i j : ℕ} {xs ys : List Bytes} (a : RestOf fir
       abbrev y : Bytes
       y = take (j + other - (j + 1)) (drop (j + 1) second)
 
-      pub lesser-first : {r : Lesser} → LesserSays x y r → r ≡ FirstLess → HeadStep first second i j xs ys (head_in false i size (i + size) j)
+      pub lesser-first : {r : Ordering} → OrderSays x y r → r ≡ Less → HeadStep first second i j xs ys (head_in AtFirst i size (i + size) j)
       lesser-first {r} says e =
           let l : less (word plain p.x) (word plain q.x) ≡ true = rw (← p.name-is, ← q.name-is) (rw e at says) in
           record {
@@ -203,7 +203,7 @@ module _ {first second : Bytes} {i j : ℕ} {xs ys : List Bytes} (a : RestOf fir
             lesser = shows_first i j size p.size_is p.all q.all (less-asym (word plain p.x) (word plain q.x) l);
           }
 
-      pub lesser-second : {r : Lesser} → LesserSays x y r → r ≡ Second → HeadStep first second i j xs ys (head_in true j other i (j + other))
+      pub lesser-second : {r : Ordering} → OrderSays x y r → r ≡ Greater → HeadStep first second i j xs ys (head_in AtSecond j other i (j + other))
       lesser-second {r} says e =
           let l : less (word plain q.x) (word plain p.x) ≡ true = rw (← p.name-is, ← q.name-is) (rw e at says) in
           record {
@@ -220,7 +220,7 @@ module _ {first second : Bytes} {i j : ℕ} {xs ys : List Bytes} (a : RestOf fir
             lesser = shows_second i j other q.size_is p.all q.all l;
           }
 
-      pub lesser-both : {r : Lesser} → LesserSays x y r → r ≡ Both → HeadStep first second i j xs ys (head_in false i size (i + size) (j + other))
+      pub lesser-both : {r : Ordering} → OrderSays x y r → r ≡ Equal → HeadStep first second i j xs ys (head_in AtFirst i size (i + size) (j + other))
       lesser-both {r} says e =
           let l : word plain p.x ≡ word plain q.x = rw (← p.name-is, ← q.name-is) (rw e at says) in
           record {
@@ -275,6 +275,3 @@ ask-fits k size here z = head-fits k.ahead k.beside here size z
 
 pub ask-other-fits : {first second : Bytes} {i j : ℕ} → HeadAsk first i second j → (size : ℕ) → (j ≡ length second → ⊥) → size ≡ 1 + get_or second j 0 → j + size ≤ length second
 ask-other-fits {second = second} {j = j} k size here z = (head_read second j size k.ys k.beside here z).fits
-
-pub second_fits : {first second : Bytes} {i j : ℕ} → HeadAsk first i second j → (size : ℕ) → i ≡ length first → size ≡ 1 + get_or second j 0 → j + size ≤ length second
-second_fits {first} {second} {i} {j} k size e z = ask-other-fits k size (λ f. lt_irrefl j (omega (arith, second-left k e))) z

@@ -1,23 +1,24 @@
 -- The lesser head behind so many records of each of two lists that read well.
 --     Behind, behind-ask     what passing records has shown; the lists go on with some names
---     showing-none, showing-first, showing-second     ways out of `head_judged`
+--     showing-none, showing-next     ways out of `head_judged`
 -- Assumes nothing.
-use Prim.Native.Nat.{ℕ, ◌+◌, ◌-◌, ◌^◌, ◌≤◌, ◌<◌}
+use Prim.Native.Nat.{ℕ, ◌+◌, ◌^◌, ◌≤◌, ◌<◌}
 use native.Mathlib.Omega.{arith}
 use mathlib.Core.Path.{◌≡◌, sym, ap, ap₂, ◌∙◌}
-use mathlib.Core.Bool.{Bool, true, false}
 use mathlib.Core.List.{List, []}
 use lib.ListN.{drop, get_or, length, length-drop}
 use lib.Seq.{get_or-drop}
 use mir.Syntax.{w64}
 use mir.Val.{Fits}
-use Rattle.words.specs.Words.{Bytes, pick}
+use Rattle.words.specs.Words.{Bytes}
 use Rattle.format.specs.Alone.{BothRead}
 use Rattle.answers.specs.Heads.{Head as Numbers, head_at, head_of, lesser_head}
 use Rattle.answers.proofs.Heads.{head_read}
-use Rattle.heads.specs.Heads.{HeadAsk, HeadSays, RestOf, HeadStep, shown_by}
+use Rattle.heads.specs.Heads.{HeadAsk, HeadSays, RestOf, HeadStep, list_at, shown_by}
 use Rattle.heads.specs.Passing.{ListAsk, PassedTo}
 use Rattle.heads.specs.declared.Next.{Next}
+use Rattle.heads.specs.declared.Side.{Side}
+use Rattle.heads.specs.declared.Side.TheVariants.{First, Second}
 use Rattle.heads.proofs.Heads.{no-records, rest_of, some_left}
 
 module _ {s t : Bytes} (b : BothRead s t) where
@@ -59,11 +60,11 @@ module _ {s t : Bytes} (b : BothRead s t) where
         head-some k h = omega (arith, step.some)
 
         head-low : r.from + r.size ≤ length s + length t
-        head-low = go r.second step.fits
+        head-low = go r.side step.fits
           where
-            go : (v : Bool) → r.from + r.size ≤ length (pick v t s) → r.from + r.size ≤ length s + length t
-            go true h = omega arith
-            go false h = omega arith
+            go : (v : Side) → r.from + r.size ≤ length (list_at v s t) → r.from + r.size ≤ length s + length t
+            go First h = omega arith
+            go Second h = omega arith
 
         pub start_fits : (k : ℕ) → k ≤ 1 → length s + length t < 2 ^ 64 → Fits w64 (r.from + k)
         start_fits k l h = omega (arith, head-low, step.some)
@@ -72,16 +73,10 @@ module _ {s t : Bytes} (b : BothRead s t) where
         own : (zs : List Bytes) (e : ℕ) → get_or (drop e zs) 0 [] ≡ get_or zs e []
         own zs e = get_or-drop e zs 0 [] ∙ (let z : e + 0 ≡ e = omega arith in ap (λ (k : ℕ). get_or zs k []) z)
 
-        shown : shown_by r ≡ head_of s t c d
-        shown =
+        pub showing-next : shown_by r ≡ head_of s t c d
+        showing-next =
             step.lesser
             ∙ ap₂ (λ (one other : Numbers). lesser_head one other (drop c b.xs) (drop d b.ys))
             (ap₂ (λ (k : ℕ) (z : Bytes). (1, k + 1, length z)) (p.place b.xs (rest_of b.first)) (own b.xs c))
             (ap₂ (λ (k : ℕ) (z : Bytes). (2, k + 1, length z)) (q.place b.ys (rest_of b.second)) (own b.ys d))
             ∙ sym (head_read b.first b.second c d)
-
-        pub showing-second : r.second ≡ true → (2, r.from + 1, r.size - 1) ≡ head_of s t c d
-        showing-second e = ap (λ (v : Bool). (pick v 2 1, r.from + 1, r.size - 1)) (sym e) ∙ shown
-
-        pub showing-first : r.second ≡ false → (1, r.from + 1, r.size - 1) ≡ head_of s t c d
-        showing-first e = ap (λ (v : Bool). (pick v 2 1, r.from + 1, r.size - 1)) (sym e) ∙ shown

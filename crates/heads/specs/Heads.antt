@@ -1,27 +1,38 @@
 -- Two lists that are gone through record by record.
 --     RestOf            the records from an offset on are those of some names, which rise
---     LesserSays        which of two names is the lesser
+--     OrderSays         how two names stand to each other
+--     list_at, list_number     the list at a side, and its number
 --     head_in            a head, by its numbers
 --     HeadAsk           what is asked for the lesser head of two lists
 --     shown_by           the head as a step shows it
 --     HeadStep, HeadSays    it is the next name of the union, and the lesser head; for any names that the records are
 -- The laws are in proofs/. Assumes nothing: these are definitions.
-use Rattle.std.specs.Prelude.{ℕ, ◌+◌, ◌-◌, ◌≤◌, ◌<◌, ◌≡◌, Bool, true, List, [], ◌∷◌, drop, get_or, length, take}
-use Rattle.words.specs.Words.{Bytes, less, pick, plain, word}
+use Rattle.std.specs.Prelude.{ℕ, ◌+◌, ◌-◌, ◌≤◌, ◌<◌, ◌≡◌, true, List, [], ◌∷◌, drop, get_or, length, take}
+use Rattle.std.specs.declared.cmp.Ordering.{Ordering}
+use Rattle.std.specs.declared.cmp.Ordering.TheVariants.{Equal, Greater, Less}
+use Rattle.words.specs.Words.{Bytes, less, plain, word}
 use Rattle.format.specs.Records.{encode, rising}
 use Rattle.format.specs.Merging.{merged}
 use Rattle.answers.specs.Heads.{Head, lesser_head}
 use Rattle.heads.specs.declared.Next.{Next}
-use Rattle.heads.specs.declared.Lesser.{Lesser}
-use Rattle.heads.specs.declared.Lesser.TheVariants.{Both, First, Second}
+use Rattle.heads.specs.declared.Side.{Side}
+use Rattle.heads.specs.declared.Side.TheVariants.{First, Second}
 
-abbrev pub LesserSays : Bytes → Bytes → Lesser → Type 0
-LesserSays x y First = less (word plain x) (word plain y) ≡ true
-LesserSays x y Second = less (word plain y) (word plain x) ≡ true
-LesserSays x y Both = word plain x ≡ word plain y
+abbrev pub OrderSays : Bytes → Bytes → Ordering → Type 0
+OrderSays x y Less = less (word plain x) (word plain y) ≡ true
+OrderSays x y Greater = less (word plain y) (word plain x) ≡ true
+OrderSays x y Equal = word plain x ≡ word plain y
 
-abbrev pub head_in : Bool → ℕ → ℕ → ℕ → ℕ → Next
-head_in second from size left right = record { second = second; from = from; size = size; left = left; right = right }
+abbrev pub list_at : Side → Bytes → Bytes → Bytes
+list_at First first second = first
+list_at Second first second = second
+
+abbrev pub list_number : Side → ℕ
+list_number First = 1
+list_number Second = 2
+
+abbrev pub head_in : Side → ℕ → ℕ → ℕ → ℕ → Next
+head_in side from size left right = record { side = side; from = from; size = size; left = left; right = right }
 
 pub record RestOf (s : Bytes) (at : ℕ) (xs : List Bytes) : Type 0 where
   pub within : at ≤ length s
@@ -38,7 +49,7 @@ pub record HeadAsk (first : Bytes) (i : ℕ) (second : Bytes) (j : ℕ) : Type 0
 
 -- the head that r tells, as a step shows it: without its length byte
 abbrev pub shown_by : Next → Head
-shown_by r = (pick r.second 2 1, r.from + 1, r.size - 1)
+shown_by r = (list_number r.side, r.from + 1, r.size - 1)
 
 -- `name` comes next, its record stands where r says, which is the lesser head, and the lists go on with others
 pub record HeadStep (first second : Bytes) (i j : ℕ) (xs ys : List Bytes) (r : Next) : Type 0 where
@@ -50,8 +61,8 @@ pub record HeadStep (first second : Bytes) (i j : ℕ) (xs ys : List Bytes) (r :
   pub beside : RestOf second r.right ys-left
   pub some : 0 < r.size
   pub onward : i + j + r.size ≤ r.left + r.right
-  pub fits : r.from + r.size ≤ length (pick r.second second first)
-  pub record_is : take r.size (drop r.from (pick r.second second first)) ≡ encode (name ∷ [])
+  pub fits : r.from + r.size ≤ length (list_at r.side first second)
+  pub record_is : take r.size (drop r.from (list_at r.side first second)) ≡ encode (name ∷ [])
   pub lesser : shown_by r ≡ lesser_head (1, i + 1, length (get_or xs 0 [])) (2, j + 1, length (get_or ys 0 [])) xs ys
 
 abbrev pub HeadSays : Bytes → ℕ → Bytes → ℕ → Next → Type 0

@@ -6,17 +6,37 @@ ghost use Rattle.std.specs.Prelude.{◌≡◌, ◌+◌, ◌<◌, get_or, length}
 ghost use Rattle.format.specs.Alone.{BothRead};
 ghost use Rattle.answers.specs.Heads.{head_of};
 ghost use Rattle.shapes.specs.Heads.{headed};
-ghost use Rattle.heads.specs.Heads.{HeadAsk, HeadSays, LesserSays, head_in};
+ghost use Rattle.heads.specs.Heads.{HeadAsk, HeadSays, OrderSays, head_in, list_number};
 ghost use Rattle.heads.specs.Passing.{ListAsk, PassedTo};
 
 use shapes::Head;
+use std::cmp::Ordering;
 use symbols::Rule;
 
-// The lesser of two heads: whether it stands in the second list, where its record begins and how many bytes that has; and where either
-// list goes on behind it.
+// One of two lists.
+#[derive(Clone, Copy, PartialEq, Eq)]
+pub enum Side {
+    First,
+    Second,
+}
+
+impl Side {
+    // The list's number in a head.
+    fn number(self) -> usize
+        ensures { result ≡ list_number self }
+    {
+        match self {
+            Side::First => 1,
+            Side::Second => 2,
+        }
+    }
+}
+
+// The lesser of two heads: the list that it stands in, where its record begins and how many bytes that has; and where either list goes on
+// behind it.
 #[derive(Clone, Copy)]
 pub struct Next {
-    pub second: bool,
+    pub side: Side,
     pub from: usize,
     pub size: usize,
     pub left: usize,
@@ -24,11 +44,11 @@ pub struct Next {
 }
 
 // A head, by its numbers.
-fn head_in(second: bool, from: usize, size: usize, left: usize, right: usize) -> Next
-    ensures { result ≡ head_in second from size left right }
+fn head_in(side: Side, from: usize, size: usize, left: usize, right: usize) -> Next
+    ensures { result ≡ head_in side from size left right }
 {
     Next {
-        second,
+        side,
         from,
         size,
         left,
@@ -41,7 +61,7 @@ fn record_size(list: &[u8], at: usize) -> usize
     requires { at < length list.now }
     ensures { result ≡ 1 + get_or list.now at 0 }
 {
-    1 + numbers::wide(list[at])
+    1 + usize::from(list[at])
 }
 
 // Where a list goes on behind so many records; at its end, where it has no more. Linear in the records that are passed.
@@ -50,13 +70,11 @@ pub fn pass_records(list: &[u8], count: usize) -> usize
     ensures { PassedTo list.now count result }
 {
     let mut at: usize = 0;
-    let mut left = count;
-    while 0 < left {
+    for _ in 0..count {
         if at == list.len() {
             return at;
         }
         at += record_size(list, at);
-        left -= 1;
     }
     at
 }
@@ -72,27 +90,18 @@ pub fn no_head() -> Head
     }
 }
 
-// Which of two names is the lesser.
-#[derive(Clone, Copy)]
-pub enum Lesser {
-    First,
-    Second,
-    // They are one name.
-    Both,
-}
-
-// The lesser of two names.
-fn lesser_of(x: &[u8], y: &[u8]) -> Lesser
-    ensures { LesserSays x.now y.now result }
+// How two names stand to each other.
+fn order_of(x: &[u8], y: &[u8]) -> Ordering
+    ensures { OrderSays x.now y.now result }
 {
     let shares = symbols::shared_symbols(Rule::Plain, x, y);
     if symbols::is_above(Rule::Plain, x, y, shares) {
-        return Lesser::First;
+        return Ordering::Less;
     }
     if symbols::is_above(Rule::Plain, y, x, shares) {
-        return Lesser::Second;
+        return Ordering::Greater;
     }
-    Lesser::Both
+    Ordering::Equal
 }
 
 // The lesser of the heads at i and at j, in lists that have not both ended; of equal heads the first list's, and both lists go on.
@@ -103,21 +112,21 @@ pub fn next_head(first: &[u8], i: usize, second: &[u8], j: usize) -> Next
     if i == first.len() {
         let size = record_size(second, j);
         let right = j + size;
-        return head_in(true, j, size, i, right);
+        return head_in(Side::Second, j, size, i, right);
     }
     let size = record_size(first, i);
     let left = i + size;
     if j == second.len() {
-        return head_in(false, i, size, left, j);
+        return head_in(Side::First, i, size, left, j);
     }
     let other = record_size(second, j);
     let right = j + other;
     let x = i + 1;
     let y = j + 1;
-    match lesser_of(&first[x..left], &second[y..right]) {
-        Lesser::First => head_in(false, i, size, left, j),
-        Lesser::Second => head_in(true, j, other, i, right),
-        Lesser::Both => head_in(false, i, size, left, right),
+    match order_of(&first[x..left], &second[y..right]) {
+        Ordering::Less => head_in(Side::First, i, size, left, j),
+        Ordering::Greater => head_in(Side::Second, j, other, i, right),
+        Ordering::Equal => head_in(Side::First, i, size, left, right),
     }
 }
 
@@ -134,15 +143,8 @@ pub fn head_judged(first: &[u8], second: &[u8], passed_first: usize, passed_seco
     let next = next_head(first, i, second, j);
     let start = next.from + 1;
     let length = next.size - 1;
-    if next.second {
-        return Head {
-            list: 2,
-            start,
-            length,
-        };
-    }
     Head {
-        list: 1,
+        list: next.side.number(),
         start,
         length,
     }

@@ -1,44 +1,57 @@
 -- Two lists that are judged.
+--     Named, named-bad, named-good     what `map_err` makes of a verdict
 --     judging-first, judging-second, judging-sound     ways out of `judge_both`
 -- Assumes nothing.
-use Prim.Native.Nat.{ℕ}
-use native.Mathlib.Omega.{arith}
-use mathlib.Core.Path.{◌≡◌, refl, sym, ◌∙◌}
-use mathlib.Core.List.{List}
-use Rattle.words.specs.Words.{Bytes}
+use Rattle.std.proofs.Common.{◌≡◌, ℕ, Result, Ok, Err, length, sym, ap, ◌∙◌, refl}
+use Rattle.std.specs.Result.{IsErrAnd, MatchResult}
+use Rattle.words.specs.Words.{Bytes, plain}
 use Rattle.format.specs.Alone.{read_alone}
 use Rattle.format.specs.Outcomes.{given}
-use Rattle.format.specs.Records.{Names, Reading, Refused}
 use Rattle.answers.specs.Merging.{judge_lists}
 use Rattle.answers.proofs.Merging.{judge-one, judge-other, judge-read}
-use Rattle.records.specs.Lists.{verdict_of}
-use Rattle.records.specs.declared.Verdict.{Verdict}
-use Rattle.records.specs.declared.Verdict.TheVariants.{Good, Bad}
+use Rattle.refusals.specs.Refusals.{beside, code_of}
+use Rattle.refusals.specs.declared.Refusal.{Refusal}
+use Rattle.records.specs.Lists.{reading_of, verdict_numbers}
+use Rattle.records.proofs.Verdicts.{ReadsWell, verdict-read, verdict-refused}
+use Rattle.judging.specs.Ends.{bad_list}
+use Rattle.judging.specs.declared.Unread.{Unread}
+use Rattle.judging.specs.declared.Unread.TheVariants.{First, Second}
 
-was-bad : (r : Reading) (code i : ℕ) → Bad code i ≡ verdict_of r → r ≡ Refused code i
-was-bad (Names xs) code i e = let z : ◌≡◌ {A = ℕ} 0 1 = cc in absurd (omega arith)
-was-bad (Refused c k) code i e = cc
+-- a refusal brings its list
+abbrev pub Named : (Refusal → Unread) → Result ℕ Refusal → Result ℕ Unread → Type 0
+Named list v w = MatchResult v (λ x. w ≡ Ok x) (λ e. IsErrAnd w (λ u. u ≡ list e))
 
-record Was (r : Reading) : Type 0 where
-  names : List Bytes
-  is : r ≡ Names names
+record Bad (list : Refusal → Unread) (v : Result ℕ Refusal) (u : Unread) : Type 0 where
+  why : Refusal
+  was : v ≡ Err why
+  is : u ≡ list why
 
-was-good : (r : Reading) (n : ℕ) → Good n ≡ verdict_of r → Was r
-was-good (Names xs) n e = record { names = xs; is = refl }
-was-good (Refused c k) n e = let z : ◌≡◌ {A = ℕ} 0 1 = cc in absurd (omega arith)
+named-bad : (list : Refusal → Unread) (v : Result ℕ Refusal) (w : Result ℕ Unread) (u : Unread) → Named list v w → w ≡ Err u → Bad list v u
+named-bad list (Ok x) w u n e = cc
+named-bad list (Err d) (Ok x) u n e = absurd n
+named-bad list (Err d) (Err f) u n e = let same : f ≡ u = cc in record { why = d; was = refl; is = sym same ∙ n }
 
-module _ (s t : Bytes) {v : Verdict} (p : v ≡ verdict_of (read_alone s)) where
-  pub judging-first : {code i : ℕ} → v ≡ Bad code i → record { code = code; first = i; second = 1 } ≡ judge_lists s t
-  judging-first {code} {i} e = sym (judge-one s t code i (was-bad (read_alone s) code i (sym e ∙ p)))
+named-good : (list : Refusal → Unread) (v : Result ℕ Refusal) (w : Result ℕ Unread) (x : ℕ) → Named list v w → w ≡ Ok x → v ≡ Ok x
+named-good list (Ok y) w x n e = let same : y ≡ x = let z : ◌≡◌ {A = Result ℕ Unread} (Ok y) (Ok x) = sym n ∙ e in cc in ap Ok same
+named-good list (Err d) (Ok y) x n e = absurd n
+named-good list (Err d) (Err f) x n e = cc
 
-  module _ {n : ℕ} (e : v ≡ Good n) {w : Verdict} (q : w ≡ verdict_of (read_alone t)) where
-    first-was : Was (read_alone s)
-    first-was = was-good (read_alone s) n (sym e ∙ p)
+module _ (s t : Bytes) (v : Result ℕ Refusal) (w : Result ℕ Unread) (p : verdict_numbers v ≡ reading_of (read_alone s)) (n : Named First v w) where
+  pub judging-first : (u : Unread) → w ≡ Err u → bad_list u ≡ judge_lists s t
+  judging-first u e =
+      let b = named-bad First v w u n e in
+      ap bad_list b.is ∙ sym (judge-one s t (code_of b.why) (beside b.why) (verdict-refused plain (length s) s b.why (ap verdict_numbers (sym b.was) ∙ p)))
 
-    pub judging-second : {code i : ℕ} → w ≡ Bad code i → record { code = code; first = i; second = 2 } ≡ judge_lists s t
-    judging-second {code} {i} f = sym (judge-other s t first-was.names code i first-was.is (was-bad (read_alone t) code i (sym f ∙ q)))
+  module _ (x : ℕ) (e : w ≡ Ok x) (v' : Result ℕ Refusal) (w' : Result ℕ Unread) (p' : verdict_numbers v' ≡ reading_of (read_alone t)) (n' : Named Second v' w') where
+    first : ReadsWell plain (length s) s x
+    first = verdict-read plain (length s) s (ap verdict_numbers (sym (named-good First v w x n e)) ∙ p)
 
-    pub judging-sound : {m : ℕ} → w ≡ Good m → given 0 0 ≡ judge_lists s t
-    judging-sound {m} f =
-        let second-was = was-good (read_alone t) m (sym f ∙ q) in
-        sym (judge-read {xs = first-was.names} {ys = second-was.names} (record { names = first-was.is }) (record { names = second-was.is }))
+    pub judging-second : (u : Unread) → w' ≡ Err u → bad_list u ≡ judge_lists s t
+    judging-second u f =
+        let b = named-bad Second v' w' u n' f in
+        ap bad_list b.is ∙ sym (judge-other s t first.names (code_of b.why) (beside b.why) first.is (verdict-refused plain (length t) t b.why (ap verdict_numbers (sym b.was) ∙ p')))
+
+    pub judging-sound : (y : ℕ) → w' ≡ Ok y → given 0 0 ≡ judge_lists s t
+    judging-sound y f =
+        let second : ReadsWell plain (length t) t y = verdict-read plain (length t) t (ap verdict_numbers (sym (named-good Second v' w' y n' f)) ∙ p') in
+        sym (judge-read {xs = first.names} {ys = second.names} (record { names = first.is }) (record { names = second.is }))

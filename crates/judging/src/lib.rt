@@ -4,55 +4,31 @@
 ghost use Rattle.std.specs.Prelude.{◌≡◌};
 ghost use Rattle.format.specs.Alone.{read_alone};
 ghost use Rattle.answers.specs.Merging.{judge_lists};
-ghost use Rattle.records.specs.Lists.{verdict_of};
-ghost use Rattle.shapes.specs.Shapes.{answered};
+ghost use Rattle.records.specs.Lists.{reading_of, verdict_numbers};
+ghost use Rattle.judging.specs.Ends.{judged_both};
 
-use records::Verdict;
-use shapes::Answer;
-use symbols::Rule;
+use refusals::Refusal;
+use symbols::PlainRule;
 
-// Reads a list that has no limit of its own, and notes nothing.
-fn judge_alone(list: &[u8]) -> Verdict
-    ensures { result ≡ verdict_of (read_alone list.now) }
-{
-    let mut lens = [0u8; 0];
-    let mut counts = [0u8; 0];
-    let mut shares = [0u8; 0];
-    records::judge(
-        Rule::Plain,
-        list,
-        list.len(),
-        &mut lens,
-        &mut counts,
-        &mut shares,
-    )
+// Which of two lists does not read well, and why.
+#[derive(Clone, Copy)]
+pub enum Unread {
+    First(Refusal),
+    Second(Refusal),
 }
 
-// Whether both lists read well: else refusal 5 or 6, the record's number and the list's, the first list's before the second's.
-pub fn judge_both(first: &[u8], second: &[u8]) -> Answer
-    ensures { answered result ≡ judge_lists first.now second.now }
+// Reads a list that has no limit of its own, and notes nothing.
+fn judge_alone(list: &[u8]) -> Result<usize, Refusal>
+    ensures { verdict_numbers result ≡ reading_of (read_alone list.now) }
 {
-    let one = judge_alone(first);
-    match one {
-        Verdict::Bad(code, number) => Answer {
-            code,
-            first: number,
-            second: 1,
-        },
-        Verdict::Good(_) => {
-            let other = judge_alone(second);
-            match other {
-                Verdict::Bad(code, number) => Answer {
-                    code,
-                    first: number,
-                    second: 2,
-                },
-                Verdict::Good(_) => Answer {
-                    code: 0,
-                    first: 0,
-                    second: 0,
-                },
-            }
-        }
-    }
+    records::judge::<PlainRule>(list, list.len(), &mut [])
+}
+
+// Whether both lists read well: else refusal 5 or 6 with the record's number, of the first list before the second.
+pub fn judge_both(first: &[u8], second: &[u8]) -> Result<(), Unread>
+    ensures { judged_both result ≡ judge_lists first.now second.now }
+{
+    judge_alone(first).map_err(Unread::First)?;
+    judge_alone(second).map_err(Unread::Second)?;
+    Ok(())
 }

@@ -5,27 +5,28 @@
 use Prim.Native.Nat.{ℕ, ◌+◌, ◌≤◌, ◌<◌, zero-le}
 use native.Mathlib.Omega.{arith}
 use mathlib.Core.Path.{◌≡◌, refl, sym, ap, ap₂, ◌∙◌}
-use mathlib.Core.Bool.{Bool, true, false}
 use mathlib.Core.List.{List, [], ◌∷◌, ◌++◌, append_assoc, append-nil}
 use lib.ListN.{drop, length, length-append, length-drop, take}
-use Rattle.words.specs.Words.{Bytes, pick, plain}
+use Rattle.words.specs.Words.{Bytes, plain}
 use Rattle.format.specs.Records.{encode}
 use Rattle.format.specs.Merging.{merged}
 use Rattle.format.specs.Outcomes.{over}
 use Rattle.format.proofs.Records.{encode-append}
 use Rattle.numbers.proofs.Parts.{part_length}
 use Rattle.records.specs.Putting.{RecordPut}
-use Rattle.heads.specs.Heads.{HeadAsk, HeadSays, RestOf, HeadStep}
+use Rattle.heads.specs.Heads.{HeadAsk, HeadSays, RestOf, HeadStep, list_at}
 use Rattle.heads.specs.declared.Next.{Next}
+use Rattle.heads.specs.declared.Side.{Side}
+use Rattle.heads.specs.declared.Side.TheVariants.{First, Second}
 use Rattle.heads.proofs.Heads.{no-records, some_left}
 use Rattle.merge.specs.Joining.{Joined, MergeAsk, MergedInto}
 
 -- the list that a head stands in
-pub in-second : {t : Bool} (first second : Bytes) → t ≡ true → second ≡ pick t second first
-in-second first second e = rw e refl
-
-pub in-first : {t : Bool} (first second : Bytes) → t ≡ false → first ≡ pick t second first
+pub in-first : {v : Side} (first second : Bytes) → v ≡ First → first ≡ list_at v first second
 in-first first second e = rw e refl
+
+pub in-second : {v : Side} (first second : Bytes) → v ≡ Second → second ≡ list_at v first second
+in-second first second e = rw e refl
 
 -- ---- the walk over both lists
 
@@ -71,7 +72,7 @@ module _ {first second room₀ room : Bytes} {i j names bytes : ℕ} (k : Joins 
       joins-bytes = omega (arith, head_step.onward, k.short)
 
       -- the record is in the list that the head says
-      module _ (list : Bytes) (in_List : list ≡ pick r.second second first) where
+      module _ (list : Bytes) (in_List : list ≡ list_at r.side first second) where
         pub head-inside : r.from + r.size ≤ length list
         head-inside = omega (arith, head_step.fits, ap length in_List)
 

@@ -4,10 +4,11 @@
 ghost use Rattle.std.specs.Prelude.{◌≡◌};
 ghost use Rattle.format.specs.Alone.{BothRead};
 ghost use Rattle.answers.specs.Merging.{merge_lists};
-ghost use Rattle.shapes.specs.Shapes.{written};
+ghost use Rattle.shapes.specs.Endings.{wrote};
 ghost use Rattle.merge.specs.Joining.{MergeAsk, MergedInto};
 
-use shapes::Answer;
+use heads::Side;
+use refusals::Refusal;
 
 // How many names a merged list has, and how many bytes its records take.
 #[derive(Clone, Copy)]
@@ -16,7 +17,8 @@ pub struct Tally {
     pub bytes: usize,
 }
 
-// The records of both lists in one row, as far as there is room for them; in an empty room it only counts.
+// The records of both lists in one row, as far as there is room for them; in an empty room it only counts. Either list goes on by as much as
+// its record has, so no index is counted, and the loop is no `for`.
 pub fn merge_into(first: &[u8], second: &[u8], room: &mut [u8]) -> Tally
     requires { MergeAsk first.now second.now }
     ensures { MergedInto first.now second.now room.old room.new result.names result.bytes }
@@ -28,10 +30,9 @@ pub fn merge_into(first: &[u8], second: &[u8], room: &mut [u8]) -> Tally
     while i + j < first.len() + second.len() {
         let next = heads::next_head(first, i, second, j);
         let size = next.size;
-        if next.second {
-            records::put_record(second, next.from, size, room, bytes);
-        } else {
-            records::put_record(first, next.from, size, room, bytes);
+        match next.side {
+            Side::First => records::put_record(first, next.from, size, room, bytes),
+            Side::Second => records::put_record(second, next.from, size, room, bytes),
         }
         i = next.left;
         j = next.right;
@@ -41,24 +42,20 @@ pub fn merge_into(first: &[u8], second: &[u8], room: &mut [u8]) -> Tally
     Tally { names, bytes }
 }
 
-// The union of two lists that read well, at the front of the room. It is counted, in no byte of the room, before the first one is written.
-// Refusals: 7, 4.
-pub fn merge_judged(first: &[u8], second: &[u8], room: &mut [u8]) -> Answer
+// The union of two lists that read well, at the front of the room, and how many bytes it has. It is counted, in no byte of the room, before
+// the first one is written. Refusals: 7, 4.
+pub fn merge_judged(first: &[u8], second: &[u8], room: &mut [u8]) -> Result<usize, Refusal>
     requires { BothRead first.now second.now }
-    ensures { written result room.new ≡ merge_lists first.now second.now room.old }
+    ensures { wrote result room.new ≡ merge_lists first.now second.now room.old }
 {
     let none = 0;
     let tally = merge_into(first, second, &mut room[0..none]);
     if 2000 < tally.names {
-        return shapes::refuse(7, 2000);
+        return Err(Refusal::TooManyNames(2000));
     }
     if room.len() < tally.bytes {
-        return shapes::refuse(4, 0);
+        return Err(Refusal::RoomTooShort);
     }
     let put = merge_into(first, second, room);
-    Answer {
-        code: 0,
-        first: put.bytes,
-        second: 0,
-    }
+    Ok(put.bytes)
 }

@@ -25,7 +25,8 @@ use Rattle.format.specs.Widths.{widest}
 use Rattle.format.proofs.Groups.{row-few, table-root}
 use Rattle.format.proofs.Widths.{widest-one, widest-span}
 use Rattle.format.proofs.Spans.{ranked-rest, ranked-span, ranked-within, span-few, table_more, table_none, table-one, table-run}
-use Rattle.frames.specs.Frames.{depth_in, end_in, frame_size, mark_in, raised, width_in, with_frame}
+use Rattle.frames.specs.declared.Frame.{Frame}
+use Rattle.frames.specs.Frames.{depth_in, end_in, mark_in, raised, width_in, with_frame}
 use Rattle.frames.proofs.Frames.{SameFrame, frame_below, frame-raised, width-below, width-other, width-raised, with-depth, with-end, with-mark, with-width}
 use Rattle.nodes.specs.Open.{Cur, Open, more, none, shares_at, symbol_of}
 
@@ -85,7 +86,7 @@ module _ (ws : Words) (r : Rises ws) where
           rw p (omega (arith, shared-self (nth ws j), less-short (nth ws (pred j)) (nth ws j) (nth-less ws (pred j) j r (omega arith) (omega arith))))
       go (inr k) = l k
 
-  module _ (frames : List ℕ) where
+  module _ (frames : List Frame) where
     -- a row from j on whose first child is the node of names j to c, and then those from c on
     join : (j c d e : ℕ) (rest : List Node) → j < c → c ≤ e → e ≤ length ws → Ranked d (span ws j e) → (suc j < c → d < deep ws j c) → (c < e → shares_at ws c ≡ d)
         → node_table j (at (nth ws j) d) (span ws j c) ++ (row_table c d (span ws c e) ++ rest) ≡ row_table j d (span ws j e) ++ rest
@@ -136,7 +137,7 @@ module _ (ws : Words) (r : Rises ws) where
         more p v q m k a b s down (open-down j z o (omega arith) (omega arith))
 
     -- what is stored in frames from number i on does not touch those below
-    open-other : (others : List ℕ) (i : ℕ) → ((t : ℕ) → t < i → SameFrame frames others t) → ((t : ℕ) → t < i → width_in others t ≡ width_in frames t)
+    open-other : (others : List Frame) (i : ℕ) → ((t : ℕ) → t < i → SameFrame frames others t) → ((t : ℕ) → t < i → width_in others t ≡ width_in frames t)
         → {j t c : ℕ} {rest : List Node} → Open ws frames j t c rest → t < i → Open ws others j t c rest
     open-other others i same wide (none e) l = none e
     open-other others i same wide (more {t = t} p v q m k a b s g o) l =
@@ -238,9 +239,9 @@ module _ (ws : Words) (r : Rises ws) where
               same_numbers x y z w q = rw (x, y, z, w, q) refl
 
       -- on to the name before: a new frame, for a node that name j shares with it and with no frame yet
-      pub cur-push : c < 65536 → mark < 65536 → 0 < j → left ≡ suc (shares_at ws j) → depth_in frames top < left → frame_size * suc (suc top) ≤ length frames
+      pub cur-push : 0 < j → left ≡ suc (shares_at ws j) → depth_in frames top < left → suc top < length frames
           → Open ws (with_frame frames (suc top) left width c mark) (pred j) (suc top) j done
-      cur-push cs ms h e l x =
+      cur-push h e l x =
           let d : ℕ = shares_at ws j in
           let some : j < c = k.some in
           let within : c ≤ length ws = open-within k.open-rows in
@@ -253,15 +254,15 @@ module _ (ws : Words) (r : Rises ws) where
           k.is ∙ ap (λ (i : ℕ). node_table j (symbol_of i (nth ws j)) (span ws j c) ++ k.rest) q
           ∙ ap (λ (i : List Node). node_table j (at (nth ws j) d) (span ws j c) ++ (i ++ k.rest)) (sym (table_none ws d c))
           ∙ join j c d c k.rest some (omega arith) within (ranked-within ws r d j c some within (omega (arith, beyond))) (λ m. omega (arith, k.below m)) (λ m. absurd (lt_irrefl c m)) in
-          let pushed : List ℕ = with_frame frames (suc top) left width c mark in
+          let pushed : List Frame = with_frame frames (suc top) left width c mark in
           subst (Open ws pushed (pred j) (suc top) j) (sym whole)
-          (more (with-depth frames (suc top) left width c mark x ∙ e) (with-width frames (suc top) left width c mark x ∙ k.wide) (with-end frames (suc top) left width c mark x cs)
-          (with-mark frames (suc top) left width c mark x ms ∙ k.behind) (omega (arith, (frame_below frames (suc top) left width c mark top (omega arith)).depth)) some within refl down
+          (more (with-depth frames (suc top) left width c mark x ∙ e) (with-width frames (suc top) left width c mark x ∙ k.wide) (with-end frames (suc top) left width c mark x)
+          (with-mark frames (suc top) left width c mark x ∙ k.behind) (omega (arith, (frame_below frames (suc top) left width c mark top (omega arith)).depth)) some within refl down
           (open-other pushed (suc top) (λ i l. frame_below frames (suc top) left width c mark i l) (λ i l. width-below frames (suc top) left width c mark i l)
           (open-down j h k.open-rows some (omega arith)) (omega arith)))
 
       -- on to the name before, which the top frame's node holds too
-      pub cur-keep : depth_in frames 0 ≡ 0 → 0 < j → left ≡ suc (shares_at ws j) → depth_in frames top ≡ left → frame_size * suc top ≤ length frames
+      pub cur-keep : depth_in frames 0 ≡ 0 → 0 < j → left ≡ suc (shares_at ws j) → depth_in frames top ≡ left → top < length frames
           → Open ws (raised frames top width) (pred j) top j done
       cur-keep z h e l room = go top refl k.open-rows k.is
         where
@@ -276,7 +277,7 @@ module _ (ws : Words) (r : Rises ws) where
               let down : deep ws (pred j) x ≡ d =
               deep-down (pred j) x (omega arith) b ∙ ap (λ (y : ℕ). min (shares_at ws y) (deep ws y x)) back ∙ omega arith in
               let whole : done ≡ row_table j d (span ws j x) ++ rest = row_of d x rest p' (omega arith) i a b s g in
-              let grown : List ℕ = raised frames top width in
+              let grown : List Frame = raised frames top width in
               let same = frame-raised frames top width in
               let wide : width_in grown (suc t) ≡ widest (span ws j x) =
               ap (width_in grown) f ∙ width-raised frames top width room ∙ wider x (ap (λ (y : ℕ). width_in frames y) (sym f) ∙ v) (omega arith) b in

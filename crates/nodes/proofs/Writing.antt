@@ -3,7 +3,8 @@
 --     symbol-root, symbol-under, symbol-shifted     the symbol that leads to a node, by a piece of a name
 --     leaf-put                      the leaf of a name
 --     node-some .. node-put         the node of the top frame
---     Shutting: shutting-start, shutting-more; passing-on, passing-deeper, passing-done     frame after frame
+--     onward-start, onward-more; passing-on, passing-deeper, passing-done     frame after frame
+--     noted-room, noted_size        what is noted of each name
 --     rowing_start .. rowing-all    the walk over all names
 -- Assumes nothing.
 use Prim.Native.Nat.{ℕ, zero, suc, ◌+◌, ◌-◌, ◌*◌, ◌≤◌, ◌<◌, max, zero-le, pred}
@@ -25,9 +26,13 @@ use Rattle.format.proofs.Groups.{table_empty}
 use Rattle.format.proofs.Numbers.{numbers-append, numbers-length}
 use Rattle.format.proofs.Widths.{widest-low}
 use Rattle.records.specs.Lists.{Ready, names, start_of, words}
+use Rattle.records.specs.declared.Note.{Note}
+use Rattle.records.specs.Notes.{lens_of}
+use Rattle.records.proofs.Notes.{lens-at, lens-length}
 use Rattle.records.proofs.Starts.{ready-rises, ready-size, ready-word, start-all, start_fits, start-name, start-next, words-length}
+use Rattle.frames.specs.declared.Frame.{Frame}
 use Rattle.frames.specs.declared.LeftOpen.{LeftOpen}
-use Rattle.frames.specs.Frames.{FramesStand, PushAsk, RaiseAsk, depth_in, end_in, frame_count, frame_size, mark_in, raised, width_in, with_frame}
+use Rattle.frames.specs.Frames.{FramesStand, PushAsk, RaiseAsk, depth_in, end_in, frame_count, mark_in, no_frame, raised, width_in, with_frame}
 use Rattle.frames.proofs.Frames.{framed-raised, framed-with}
 use Rattle.nodes.specs.Open.{Cur, Tail, left_of, none, shares_at, symbol_of}
 use Rattle.nodes.specs.Writing.{Behind, Closing, RecordsDone, LeafPut, NameAsk, NameAt, NamePut, CloseAsk, NodePut, NodesPut, Onward, Passing, PutBack, Rowing}
@@ -75,11 +80,6 @@ symbol-shifted ρ s skip p z h =
 
 -- ---- a name, and the nodes that begin with it
 
--- since the leaf the frames above number t are closed
-pub record Shutting (ρ : Rule) (rest : Bytes) (skip j left : ℕ) (frames : List ℕ) (p : LeftOpen) (room₀ : Bytes) (q : LeftOpen) (room : Bytes) (t : ℕ) : Type 0 where
-  pub same : t ≡ q.top
-  pub onward : Onward ρ rest skip j left frames p room₀ q room
-
 module _ {ρ : Rule} {rest : Bytes} {skip j left : ℕ} where
   module _ {ws : Words} (a : NameAt ρ ws rest skip j left) where
     -- no symbol is asked for that is not lent
@@ -91,7 +91,7 @@ module _ {ρ : Rule} {rest : Bytes} {skip j left : ℕ} where
         ap (λ (x : ℕ). symbol_of x (word ρ rest)) i ∙ ap (λ (x : List ℕ). at x (p - skip)) (sym a.piece)
         ∙ get_or-drop skip (nth ws j) (p - skip) 0 ∙ ap (at (nth ws j)) back
 
-    module _ {frames : List ℕ} where
+    module _ {frames : List Frame} where
       leaf-closing : {top count : ℕ} {room₀ room : Bytes} {sy : ℕ} → Behind ws j frames top count room₀ → PutBack room₀ room count (node_by sy (skip + length rest + 1) j 1 1 (skip + length rest))
           → sy ≡ symbol_of (max left (depth_in frames top)) (nth ws j)
           → Closing ws j left frames (record { top = top; count = count + 1; end = j + 1; mark = count; width = skip + length rest }) room
@@ -132,7 +132,7 @@ module _ {ρ : Rule} {rest : Bytes} {skip j left : ℕ} where
               cur = c;
             }
 
-  module _ {frames : List ℕ} where
+  module _ {frames : List Frame} where
     pub leaf-put : {room₀ room : Bytes} {count sy : ℕ} → PutBack room₀ room count (node_by sy (skip + length rest + 1) j 1 1 (skip + length rest)) → {top : ℕ} → NameAsk ρ rest skip j left frames top count room₀
         → (x p : ℕ) → x ≡ depth_in frames top → p ≡ max left x → sy ≡ symbol_of (p - skip) (word ρ rest)
         → LeafPut ρ rest skip j left frames top count room₀ (record { top = top; count = count + 1; end = j + 1; mark = count; width = skip + length rest }) room
@@ -179,18 +179,15 @@ module _ {ρ : Rule} {rest : Bytes} {skip j left : ℕ} where
 
     -- ---- frame after frame
 
-    pub shutting-start : {top count : ℕ} {room₀ room : Bytes} {p : LeftOpen} → LeafPut ρ rest skip j left frames top count room₀ p room → Shutting ρ rest skip j left frames p room p room top
-    shutting-start l = record { same = sym l.same; onward = record { kept = refl; down = omega arith; closing = λ ws name k. k } }
+    pub onward-start : {room : Bytes} {p : LeftOpen} → Onward ρ rest skip j left frames p room p room
+    onward-start = record { kept = refl; down = omega arith; closing = λ ws name k. k }
 
-    pub shutting-more : {p q r : LeftOpen} {room₀ room new : Bytes} {t : ℕ} → Shutting ρ rest skip j left frames p room₀ q room t
-        → NodePut ρ rest skip j left frames q room r new → Shutting ρ rest skip j left frames p room₀ r new r.top
-    shutting-more k n = record {
-      same = refl;
-      onward = record {
-        kept = n.onward.kept ∙ k.onward.kept;
-        down = omega (arith, n.onward.down, k.onward.down);
-        closing = λ ws name c. n.onward.closing ws name (k.onward.closing ws name c);
-      };
+    pub onward-more : {p q r : LeftOpen} {room₀ room new : Bytes} → Onward ρ rest skip j left frames p room₀ q room
+        → NodePut ρ rest skip j left frames q room r new → Onward ρ rest skip j left frames p room₀ r new
+    onward-more k n = record {
+      kept = n.onward.kept ∙ k.kept;
+      down = omega (arith, n.onward.down, k.down);
+      closing = λ ws name c. n.onward.closing ws name (k.closing ws name c);
     }
 
     pub passing-on : {top count : ℕ} {room₀ room new : Bytes} {p q : LeftOpen} → Passing ρ rest skip j left frames top count room₀ p room → Onward ρ rest skip j left frames p room q new
@@ -201,21 +198,27 @@ module _ {ρ : Rule} {rest : Bytes} {skip j left : ℕ} where
       closing = λ ws name behind. n.closing ws name (k.closing ws name behind);
     }
 
-    module _ {top count : ℕ} {room₀ room : Bytes} {p : LeftOpen} (k : Passing ρ rest skip j left frames top count room₀ p room) {t : ℕ} (e : t ≡ p.top) (x : ℕ) (d : x ≡ depth_in frames t) where
-      top-depth : x ≡ depth_in frames p.top
-      top-depth = d ∙ ap (depth_in frames) e
-
+    module _ {top count : ℕ} {room₀ room : Bytes} {p : LeftOpen} (k : Passing ρ rest skip j left frames top count room₀ p room) (x : ℕ) (d : x ≡ depth_in frames p.top) where
       pub passing-deeper : NameAsk ρ rest skip j left frames top count room₀ → left < x → CloseAsk ρ rest skip j left frames p room
       passing-deeper a h = record {
         framed = k.framed;
-        deeper = omega (arith, top-depth);
+        deeper = omega arith;
         ws = a.ws;
         name = a.name;
         closing = k.closing a.ws a.name a.behind;
       }
 
       pub passing-done : x ≤ left → NamePut ρ rest skip j left frames top count room₀ p room
-      passing-done h = record { passing = k; shallow = omega (arith, top-depth) }
+      passing-done h = record { passing = k; shallow = omega arith }
+
+-- ---- what is noted of each name
+
+module _ {ρ : Rule} {s : Bytes} {n : ℕ} (notes : List Note) {counts shares : List ℕ} (a : Ready ρ s n (lens_of notes) counts shares) where
+  pub noted-room : n ≤ length notes
+  noted-room = omega (arith, a.total, a.noted.lens-room, lens-length notes)
+
+  pub noted_size : (i : ℕ) → i < n → (len : ℕ) → len ≡ (get_or notes i (record { len = 0; count = 0; share = 0 })).len → len ≡ get_or (lens_of notes) i 0
+  noted_size i h len e = e ∙ sym (lens-at notes i (record { len = 0; count = 0; share = 0 }) (omega (arith, noted-room)))
 
 -- ---- the walk over all names, from the last
 
@@ -240,7 +243,7 @@ module _ {ρ : Rule} {s : Bytes} {n : ℕ} {lens counts shares : List ℕ} (a : 
         (ready-size a (suc i) h).1,
       )
 
-  pub rowing_start : (room : Bytes) → Rowing ρ s n room room (replicate (frame_size * frame_count) 0) 0 0 (length s) n
+  pub rowing_start : (room : Bytes) → Rowing ρ s n room room (replicate frame_count no_frame) 0 0 (length s) n
   unfolding node_part all_fields numbers
   rowing_start room = record {
     low = omega arith;
@@ -257,7 +260,7 @@ module _ {ρ : Rule} {s : Bytes} {n : ℕ} {lens counts shares : List ℕ} (a : 
     all = λ e. sym (table_empty (words ρ s) (omega (arith, all_words)));
   }
 
-  module _ {room₀ room : Bytes} {frames : List ℕ} {top count end j : ℕ} (k : Rowing ρ s n room₀ room frames top count end j) where
+  module _ {room₀ room : Bytes} {frames : List Frame} {top count end j : ℕ} (k : Rowing ρ s n room₀ room frames top count end j) where
     module _ (h : 0 < j) (len : ℕ) (size : len ≡ get_or lens (j - 1) 0) where
       abbrev i : ℕ
       i = j - 1
@@ -335,13 +338,12 @@ module _ {ρ : Rule} {s : Bytes} {n : ℕ} {lens counts shares : List ℕ} (a : 
                     omega (arith, ap length (ready-word a x), length-map (get_or (names s) x []) ρ, (ready-size a x (omega (arith, all_words))).1))),
               )
 
-          pub rowing-wide : RaiseAsk frames p.top p.width
-          rowing-wide = record { slots = k.framed.slots; slot = t.passing.framed.slot; width_fits = narrow }
+          pub rowing-wide : RaiseAsk p
+          rowing-wide = record { slot = t.passing.framed.slot; width_fits = narrow }
 
           -- frames deepen, so there are at most as many as depths
-          pub rowing-room : (x : ℕ) → x ≡ depth_in frames p.top → x < left → PushAsk frames left p
+          pub rowing-room : (x : ℕ) → x ≡ depth_in frames p.top → x < left → PushAsk left p
           rowing-room x d g = record {
-            slots = k.framed.slots;
             slot = omega (arith, open-depth (words ρ s) (ready-rises a) frames k.framed.sentinel cur.open-rows, rowing-left);
             depth-fits = omega (arith, rowing-left);
             width_fits = narrow;
@@ -356,9 +358,9 @@ module _ {ρ : Rule} {s : Bytes} {n : ℕ} {lens counts shares : List ℕ} (a : 
               go zero q = absurd (not-suc-le-zero q)
               go (suc m) q = refl
 
-          pub rowing-keep : (x : ℕ) → x ≡ depth_in frames p.top → left ≤ x → (more : List ℕ) → more ≡ raised frames p.top p.width
-              → Rowing ρ s n room₀ new more p.top p.count (end - len - 1) i
-          rowing-keep x d g more e = rw e (record {
+          pub rowing-keep : (x : ℕ) → x ≡ depth_in frames p.top → left ≤ x → (more : List Frame) (onto : ℕ) → more ≡ raised frames p.top p.width → onto ≡ p.top
+              → Rowing ρ s n room₀ new more onto p.count (end - len - 1) i
+          rowing-keep x d g more onto e f = rw (e, f) (record {
             low = omega (arith, k.low);
             here = start_is;
             kept = t.passing.kept ∙ k.kept;
@@ -369,16 +371,16 @@ module _ {ρ : Rule} {s : Bytes} {n : ℕ} {lens counts shares : List ℕ} (a : 
             all = λ q. cur-all (words ρ s) (ready-rises a) frames cur k.framed.sentinel q (z q) t.shallow;
           })
 
-          pub rowing_push : (x : ℕ) → x ≡ depth_in frames p.top → x < left → (more : List ℕ) → more ≡ with_frame frames (p.top + 1) left p.width p.end p.mark
-              → Rowing ρ s n room₀ new more (p.top + 1) p.count (end - len - 1) i
-          rowing_push x d g more e = let slot : p.top + 1 < frame_count = (rowing-room x d g).slot in rw (e, add-one p.top) (record {
+          pub rowing_push : (x : ℕ) → x ≡ depth_in frames p.top → x < left → (more : List Frame) (onto : ℕ) → more ≡ with_frame frames (p.top + 1) left p.width p.end p.mark
+              → onto ≡ p.top + 1 → Rowing ρ s n room₀ new more onto p.count (end - len - 1) i
+          rowing_push x d g more onto e f = let slot : p.top + 1 < frame_count = (rowing-room x d g).slot in rw (e, f, add-one p.top) (record {
             low = omega (arith, k.low);
             here = start_is;
             kept = t.passing.kept ∙ k.kept;
             framed = framed-with left p.width p.end p.mark t.passing.framed (omega arith);
             done = rowing-closing.done;
             written = rowing-closing.written;
-            rows = λ q. cur-push (words ρ s) (ready-rises a) frames cur (rowing-room x d g).end_fits (rowing-room x d g).mark-fits q (left-shares q) (omega arith) (omega (arith, k.framed.slots));
+            rows = λ q. cur-push (words ρ s) (ready-rises a) frames cur q (left-shares q) (omega arith) (omega (arith, k.framed.slots));
             all = λ q. absurd (lt_irrefl 0 (omega (arith, z q)));
           })
 

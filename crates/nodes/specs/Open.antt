@@ -12,6 +12,7 @@ use Rattle.words.specs.Words.{Bytes, Words, at, shared}
 use Rattle.format.specs.Spans.{deep, row_table, node_table, node_part}
 use Rattle.format.specs.Nodes.{Node, node_size}
 use Rattle.format.specs.Widths.{widest}
+use Rattle.frames.specs.declared.Frame.{Frame}
 use Rattle.frames.specs.Frames.{depth_in, end_in, mark_in, width_in}
 
 abbrev pub shares_at : Words → ℕ → ℕ
@@ -28,14 +29,14 @@ symbol_of (suc p) w = at w p
 
 -- ---- the nodes
 
-pub data Open (ws : Words) (frames : List ℕ) (j : ℕ) : ℕ → ℕ → List Node → Type 0 where
+pub data Open (ws : Words) (frames : List Frame) (j : ℕ) : ℕ → ℕ → List Node → Type 0 where
   none : {c : ℕ} → c ≡ length ws → Open ws frames j zero c []
   more : {t c d e : ℕ} {rest : List Node} → depth_in frames (suc t) ≡ suc d → width_in frames (suc t) ≡ widest (span ws c e) → end_in frames (suc t) ≡ e → mark_in frames (suc t) ≡ length rest
       → depth_in frames t < suc d → c < e → e ≤ length ws → shares_at ws c ≡ d → deep ws j e ≡ d → Open ws frames j t e rest
       → Open ws frames j (suc t) c (row_table c d (span ws c e) ++ rest)
 
 -- top is the number of the top frame, left the shifted depth at which name j parts from the name before it
-pub record Cur (ws : Words) (frames : List ℕ) (j left top c mark width : ℕ) (done : List Node) : Type 0 where
+pub record Cur (ws : Words) (frames : List Frame) (j left top c mark width : ℕ) (done : List Node) : Type 0 where
   pub rest : List Node
   pub open-rows : Open ws frames j top c rest
   pub some : j < c

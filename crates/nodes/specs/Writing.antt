@@ -14,6 +14,7 @@ use Rattle.format.specs.Nodes.{Node, table, node_size}
 use Rattle.format.specs.Spans.{node_part}
 use Rattle.records.specs.Lists.{Ready, start_of, words}
 use Rattle.frames.specs.Frames.{FramesStand, depth_in}
+use Rattle.frames.specs.declared.Frame.{Frame}
 use Rattle.frames.specs.declared.LeftOpen.{LeftOpen}
 use Rattle.nodes.specs.Open.{Cur, Open, Tail}
 
@@ -38,43 +39,43 @@ pub record NameAt (ρ : Rule) (ws : Words) (rest : Bytes) (skip j left : ℕ) : 
   pub skipped : skip ≤ pred left
 
 -- The names behind j are written; the top one of the frames that hold j is number `top`.
-pub record Behind (ws : Words) (j : ℕ) (frames : List ℕ) (top count : ℕ) (room : Bytes) : Type 0 where
+pub record Behind (ws : Words) (j : ℕ) (frames : List Frame) (top count : ℕ) (room : Bytes) : Type 0 where
   pub done : List Node
   pub written : RecordsDone (length ws) (suc j) count room done
   pub rows : Open ws frames j top (suc j) done
 
 -- The node of names j to an end is whole, and in front of the frames that are left.
-pub record Closing (ws : Words) (j left : ℕ) (frames : List ℕ) (p : LeftOpen) (room : Bytes) : Type 0 where
+pub record Closing (ws : Words) (j left : ℕ) (frames : List Frame) (p : LeftOpen) (room : Bytes) : Type 0 where
   pub done : List Node
   pub written : RecordsDone (length ws) j p.count room done
   pub cur : Cur ws frames j left p.top p.end p.mark p.width done
 
 -- ---- one name
 
-pub record NameAsk (ρ : Rule) (rest : Bytes) (skip j left : ℕ) (frames : List ℕ) (top count : ℕ) (room : Bytes) : Type 0 where
+pub record NameAsk (ρ : Rule) (rest : Bytes) (skip j left : ℕ) (frames : List Frame) (top count : ℕ) (room : Bytes) : Type 0 where
   pub framed : FramesStand frames top
   pub ws : Words
   pub name : NameAt ρ ws rest skip j left
   pub behind : Behind ws j frames top count room
 
-pub record Passing (ρ : Rule) (rest : Bytes) (skip j left : ℕ) (frames : List ℕ) (top count : ℕ) (room₀ : Bytes) (p : LeftOpen) (room : Bytes) : Type 0 where
+pub record Passing (ρ : Rule) (rest : Bytes) (skip j left : ℕ) (frames : List Frame) (top count : ℕ) (room₀ : Bytes) (p : LeftOpen) (room : Bytes) : Type 0 where
   pub kept : length room ≡ length room₀
   pub framed : FramesStand frames p.top
   pub closing : (ws : Words) → NameAt ρ ws rest skip j left → Behind ws j frames top count room₀ → Closing ws j left frames p room
 
 -- no frame is closed yet
-pub record LeafPut (ρ : Rule) (rest : Bytes) (skip j left : ℕ) (frames : List ℕ) (top count : ℕ) (room₀ : Bytes) (p : LeftOpen) (room : Bytes) : Type 0 where
+pub record LeafPut (ρ : Rule) (rest : Bytes) (skip j left : ℕ) (frames : List Frame) (top count : ℕ) (room₀ : Bytes) (p : LeftOpen) (room : Bytes) : Type 0 where
   pub passing : Passing ρ rest skip j left frames top count room₀ p room
   pub same : p.top ≡ top
 
 -- no frame that is left is deeper than `left`
-pub record NamePut (ρ : Rule) (rest : Bytes) (skip j left : ℕ) (frames : List ℕ) (top count : ℕ) (room₀ : Bytes) (p : LeftOpen) (room : Bytes) : Type 0 where
+pub record NamePut (ρ : Rule) (rest : Bytes) (skip j left : ℕ) (frames : List Frame) (top count : ℕ) (room₀ : Bytes) (p : LeftOpen) (room : Bytes) : Type 0 where
   pub passing : Passing ρ rest skip j left frames top count room₀ p room
   pub shallow : depth_in frames p.top ≤ left
 
 -- ---- the nodes of frames
 
-pub record CloseAsk (ρ : Rule) (rest : Bytes) (skip j left : ℕ) (frames : List ℕ) (p : LeftOpen) (room : Bytes) : Type 0 where
+pub record CloseAsk (ρ : Rule) (rest : Bytes) (skip j left : ℕ) (frames : List Frame) (p : LeftOpen) (room : Bytes) : Type 0 where
   pub framed : FramesStand frames p.top
   pub deeper : left < depth_in frames p.top
   pub ws : Words
@@ -82,12 +83,12 @@ pub record CloseAsk (ρ : Rule) (rest : Bytes) (skip j left : ℕ) (frames : Lis
   pub closing : Closing ws j left frames p room
 
 -- from p on to q
-pub record Onward (ρ : Rule) (rest : Bytes) (skip j left : ℕ) (frames : List ℕ) (p : LeftOpen) (room₀ : Bytes) (q : LeftOpen) (room : Bytes) : Type 0 where
+pub record Onward (ρ : Rule) (rest : Bytes) (skip j left : ℕ) (frames : List Frame) (p : LeftOpen) (room₀ : Bytes) (q : LeftOpen) (room : Bytes) : Type 0 where
   pub kept : length room ≡ length room₀
   pub down : q.top ≤ p.top
   pub closing : (ws : Words) → NameAt ρ ws rest skip j left → Closing ws j left frames p room₀ → Closing ws j left frames q room
 
-pub record NodePut (ρ : Rule) (rest : Bytes) (skip j left : ℕ) (frames : List ℕ) (p : LeftOpen) (room₀ : Bytes) (q : LeftOpen) (room : Bytes) : Type 0 where
+pub record NodePut (ρ : Rule) (rest : Bytes) (skip j left : ℕ) (frames : List Frame) (p : LeftOpen) (room₀ : Bytes) (q : LeftOpen) (room : Bytes) : Type 0 where
   pub onward : Onward ρ rest skip j left frames p room₀ q room
   pub fewer : q.top < p.top
 
@@ -99,7 +100,7 @@ pub record NodesAsk (ρ : Rule) (s : Bytes) (n : ℕ) (lens shares : List ℕ) :
   pub ready : Ready ρ s n lens counts shares
 
 -- The names from j on are written, and the name before j ends at `end`; the frames are those of the nodes that hold it.
-pub record Rowing (ρ : Rule) (s : Bytes) (n : ℕ) (room₀ room : Bytes) (frames : List ℕ) (top count end j : ℕ) : Type 0 where
+pub record Rowing (ρ : Rule) (s : Bytes) (n : ℕ) (room₀ room : Bytes) (frames : List Frame) (top count end j : ℕ) : Type 0 where
   pub low : j ≤ n
   pub here : end ≡ start_of s j
   pub kept : length room ≡ length room₀

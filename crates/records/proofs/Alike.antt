@@ -1,7 +1,6 @@
 -- The symbols that two names share, by the bytes that they share.
 --     shared-both       what two words share is no longer than either
 --     alike-on          bytes that are the same have the same symbols, so symbols are compared behind them
---     part-rest         what is left of a part of a run of bytes
 --     parted-behind     behind all the bytes that they share two names part
 -- Assumes nothing.
 use Prim.Native.Nat.{ℕ, zero, suc, ◌+◌, ◌-◌, ◌≤◌, ◌<◌, min}
@@ -10,10 +9,9 @@ use native.Mathlib.Decide.{ℕ_discrete}
 use native.Mathlib.Omega.{arith}
 use mathlib.Core.Path.{◌≡◌, refl, sym, ap, ap₂, ◌∙◌, subst}
 use mathlib.Core.List.{List, [], ◌∷◌}
-use lib.ListN.{length, length-drop, length-map, length-take, get_or, take, drop}
-use lib.Seq.{drop-drop, get_or-drop, get_or-take, slice, take-take}
+use lib.ListN.{length, length-drop, length-map, length-take, get_or, take}
+use lib.Seq.{get_or-drop, get_or-take, slice}
 use Rattle.words.specs.Words.{Bytes, Rule, shared, word}
-use Rattle.words.proofs.Lists.{drop-take}
 use Rattle.words.proofs.Words.{shared-comm, shared-le, shared-more, shared-other, shared_same, word-front}
 use Rattle.symbols.specs.Parting.{Parted}
 
@@ -48,11 +46,6 @@ alike-on ρ (a ∷ x) (b ∷ y) (suc i) (suc k) h l g = elim (ℕ_discrete a b) 
       shared_same (ρ a) (ρ b) (word ρ x) (word ρ y) (ap ρ e) ∙ ap suc (alike-on ρ x y i k (omega (arith, s)) (le_of_suc-le-suc l) (omega arith)) ∙ omega arith
   | no n ↦ absurd (not-suc-le-zero (subst (λ (m : ℕ). suc i ≤ m) (shared-other a b x y n) h))
 ]
-
-pub part-rest : (s : Bytes) (from size i k : ℕ) → k ≤ size → take (from + k - (from + i)) (drop (from + i) s) ≡ slice i k (take size (drop from s))
-part-rest s from size i k h =
-    let z : from + k - (from + i) ≡ k - i = omega arith in
-    ap₂ take z (sym (drop-drop i from s)) ∙ sym (drop-take i k (drop from s)) ∙ ap (drop i) (sym (take-take k size (drop from s) h))
 
 -- of what is left up to number k, where there is any, byte number i is the first
 module _ (x : Bytes) (i k : ℕ) (some : 0 < length (slice i k x)) where

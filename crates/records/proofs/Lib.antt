@@ -1,4 +1,5 @@
 -- Laws of a list that is read. No contract cites them.
+pub mod Notes
 pub mod Names
 pub mod Alike
 pub mod Above

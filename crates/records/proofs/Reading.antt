@@ -13,23 +13,26 @@ use native.Mathlib.Decide.{ℕ_discrete}
 use native.Mathlib.Numerals.{add-one}
 use native.Mathlib.Omega.{arith}
 use mathlib.Core.Path.{◌≡◌, refl, sym, ap, ap₂, ◌∙◌, subst}
+use Rattle.std.proofs.Common.{Some, None, Ok, Err}
 use mathlib.Core.Bool.{Bool, true, false}
 use mathlib.Core.List.{List, [], ◌∷◌, ◌++◌, append_assoc, append-nil}
 use lib.Dec.{leb, ltb}
-use lib.ListN.{length, get_or, set, drop, length-append, length-drop, length-set, drop_of_length-le, get_or-append}
+use lib.ListN.{length, get_or, set, drop, take, length-append, length-drop, length-set, drop_of_length-le, get_or-append}
 use lib.Seq.{drop-cons, drop-drop, get_or_at, get_or-set_same, get_or-set_other}
 use borrow.Author.Tests.{lt-ltb, le-ltb, le-leb, lt-leb}
 use Rattle.words.specs.Words.{Bytes, Rule, both, less, pick, shared, word}
 use Rattle.words.specs.Rising.{Sure}
 use Rattle.words.proofs.Words.{part_at, shared-more}
-use Rattle.format.specs.Outcomes.{given}
+use Rattle.format.specs.Outcomes.{given, numbered}
 use Rattle.format.specs.Records.{Names, Reading, Refused, after, good_length, read_from, read_list}
 use Rattle.format.proofs.Records.{read-refused, read-skip}
 use Rattle.numbers.proofs.Parts.{part_length}
-use Rattle.records.specs.declared.Verdict.TheVariants.{Good, Bad}
-use Rattle.records.specs.Above.{AboveAsk, part, shared_above}
+use Rattle.refusals.specs.Refusals.{beside, code_of, said}
+use Rattle.refusals.specs.declared.Refusal.{Refusal}
+use Rattle.refusals.specs.declared.Refusal.TheVariants.{BadRecord, NotAbove, TooManyNames}
+use Rattle.records.specs.Above.{part, shared_above}
 use Rattle.records.specs.Lists.{Judged, Noted, names_in, reading_of}
-use Rattle.records.proofs.Above.{above-less, above-not, above-shares, above-short, part-byte}
+use Rattle.records.proofs.Above.{above-less, above-not, above-shares, above-short, lent-part, part-byte}
 use Rattle.records.proofs.Alike.{shared-both}
 
 -- ---- what is noted
@@ -135,11 +138,10 @@ pub record Comparing (ρ : Rule) (s : Bytes) (most : ℕ) (lens counts shares : 
 module _ {ρ : Rule} {s : Bytes} {most : ℕ} {lens counts shares : List ℕ} {o p m n len i : ℕ} where
   -- and in no more
   abbrev pub ComesApart : Comparing ρ s most lens counts shares o p m n len i → Type 0
-  ComesApart k = AboveAsk s p m (o + 1) len i
+  ComesApart k = i ≡ shared (part s p m) (part s (o + 1) len)
 
   -- it is above the last, and has j symbols of it
   pub record NewAbove (k : Comparing ρ s most lens counts shares o p m n len i) (j : ℕ) : Type 0 where
-    pub parted : ComesApart k
     pub alike : j ≡ shared (word ρ (part s p m)) (word ρ (part s (o + 1) len))
     pub above : less (word ρ (part s p m)) (word ρ (part s (o + 1) len)) ≡ true
     pub in-new : j ≤ len
@@ -171,22 +173,22 @@ pub record ReadsOn (ρ : Rule) (s : Bytes) (most : ℕ) (lens₀ counts₀ share
 pub reads-start : (ρ : Rule) → Sure ρ → (s : Bytes) (most : ℕ) (lens counts shares : List ℕ) → length lens ≡ length counts → length lens ≡ length shares → ReadsOn ρ s most lens counts shares lens counts shares 0 0 0 0
 reads-start ρ lw s most lens counts shares a b = record { read = reading-start ρ lw s most lens counts shares a b; lens-kept = refl; counts-kept = refl; shares-kept = refl }
 
-pub good-list : {ρ : Rule} {s : Bytes} {most : ℕ} {lens counts shares : List ℕ} {o p m n : ℕ} → ReadUpTo ρ s most lens counts shares o p m n → o ≡ length s → Judged ρ s most lens counts shares (Good n)
+pub good-list : {ρ : Rule} {s : Bytes} {most : ℕ} {lens counts shares : List ℕ} {o p m n : ℕ} → ReadUpTo ρ s most lens counts shares o p m n → o ≡ length s → Judged ρ s most lens counts shares (Ok n)
 unfolding read_from reading_of
 good-list {ρ} {s} {most} {lens} {counts} {shares} {o} r h =
     let e : read_list ρ most s ≡ Names r.done = r.so_far ∙ rw (drop_of_length-le s {i = o} (omega arith)) (ap Names (append-nil r.done)) in
     record {
       verdict = rw e (ap (λ (n : ℕ). given n 0) (sym r.counted));
-      refuses = λ code i q. absurd (let z : ◌≡◌ {A = ℕ} 0 1 = cc in omega arith);
+      refuses = λ e q. absurd (let z : ◌≡◌ {A = ℕ} 0 1 = cc in omega arith);
       noted = λ b. subst (λ (x : Reading). Noted ρ (names_in x) lens counts shares) (sym e) (r.noted b);
     }
 
-refused : (ρ : Rule) (s : Bytes) (most : ℕ) (lens counts shares : List ℕ) (code n : ℕ) → read_list ρ most s ≡ Refused code n → Judged ρ s most lens counts shares (Bad code n)
+refused : (ρ : Rule) (s : Bytes) (most : ℕ) (lens counts shares : List ℕ) (e : Refusal) → said e ≡ numbered (code_of e) (beside e) → read_list ρ most s ≡ Refused (code_of e) (beside e) → Judged ρ s most lens counts shares (Err e)
 unfolding reading_of
-refused ρ s most lens counts shares code n e = record {
-  verdict = rw e refl;
-  refuses = λ c i q. let same : code ≡ c = cc in omega (arith, read-refused ρ most s code n e);
-  noted = λ b. subst (λ (x : Reading). Noted ρ (names_in x) lens counts shares) (sym e) (noted-none ρ lens counts shares);
+refused ρ s most lens counts shares e h is = record {
+  verdict = rw is h;
+  refuses = λ d q. let same : e ≡ d = cc in omega (arith, ap code_of same, read-refused ρ most s (code_of e) (beside e) is);
+  noted = λ b. subst (λ (x : Reading). Noted ρ (names_in x) lens counts shares) (sym is) (noted-none ρ lens counts shares);
 }
 
 -- question 5, as the reading asks it
@@ -203,22 +205,22 @@ module _ {ρ : Rule} {s : Bytes} {most : ℕ} {lens counts shares : List ℕ} {o
       let opened : drop o s ≡ len ∷ drop (o + 1) s = drop-cons s o 0 r.here ∙ ap₂ (λ (l k : ℕ). l ∷ drop k s) (sym r.byte) (sym (add-one o)) in
       r.read.so_far ∙ rw (opened, ea, eb, ec)
 
-  bad-length : well_sized s o len ≡ false → Judged ρ s most lens counts shares (Bad 5 n)
-  bad-length e = refused ρ s most lens counts shares 5 n (asked false _ _ e refl refl)
+  bad-length : well_sized s o len ≡ false → Judged ρ s most lens counts shares (Err (BadRecord n))
+  bad-length e = refused ρ s most lens counts shares (BadRecord n) refl (asked false _ _ e refl refl)
 
 -- where the list has not ended, and its next length byte is read
 module _ {ρ : Rule} {s : Bytes} {most : ℕ} {lens counts shares : List ℕ} {o p m n len : ℕ} (r : ReadUpTo ρ s most lens counts shares o p m n) (more : o ≡ length s → ⊥) (byte : len ≡ get_or s o 0) where
   pub stands_at : StandsAt ρ s most lens counts shares o p m n len
   stands_at = record { read = r; here = omega (arith, r.within); byte = byte }
 
-  pub no_name : len ≡ 0 → Judged ρ s most lens counts shares (Bad 5 n)
+  pub no_name : len ≡ 0 → Judged ρ s most lens counts shares (Err (BadRecord n))
   no_name e = bad-length stands_at (rw (le-ltb 0 len (omega arith)))
 
-  pub long-name : 200 < len → Judged ρ s most lens counts shares (Bad 5 n)
+  pub long-name : 200 < len → Judged ρ s most lens counts shares (Err (BadRecord n))
   long-name l = bad-length stands_at (rw (lt-ltb 0 len (omega arith), lt-leb len 200 l))
 
   module _ (some : len ≡ 0 → ⊥) (l : len ≤ 200) where
-    pub cut-name : length s - (o + 1) < len → Judged ρ s most lens counts shares (Bad 5 n)
+    pub cut-name : length s - (o + 1) < len → Judged ρ s most lens counts shares (Err (BadRecord n))
     cut-name f = bad-length stands_at (rw (lt-ltb 0 len (omega arith), le-leb len 200 l, length-drop (o + 1) s, lt-leb len (length s - (o + 1)) f))
 
     pub comparing-start : len ≤ length s - (o + 1) → Comparing ρ s most lens counts shares o p m n len 0
@@ -248,13 +250,10 @@ module _ {ρ : Rule} {s : Bytes} {most : ℕ} {lens counts shares : List ℕ} {o
       shared-more (part s p m) (part s (o + 1) len) i k.agree (omega (arith, old-length)) (omega (arith, new-length))
       (part-byte s p m i h ∙ e ∙ sym (part-byte s (o + 1) len i l))
 
-  no_more : i ≡ shared (part s p m) (part s (o + 1) len) → ComesApart k
-  no_more e = record { old-inside = k.stands.read.inside; new-inside = k.whole; common = e }
-
   -- the bytes are compared up to the end of the shorter name
   module _ {shorter : ℕ} (least : shorter ≡ min len m) where
     pub one-ends : i ≡ shorter → ComesApart k
-    one-ends e = no_more (omega (arith, k.agree, shared-both (part s p m) (part s (o + 1) len), old-length, new-length))
+    one-ends e = omega (arith, k.agree, shared-both (part s p m) (part s (o + 1) len), old-length, new-length)
 
     module _ (left : i ≡ shorter → ⊥) where
       old-left : i < m
@@ -264,7 +263,7 @@ module _ {ρ : Rule} {s : Bytes} {most : ℕ} {lens counts shares : List ℕ} {o
       new-left = omega arith
 
       pub bytes-differ : (get_or s (p + i) 0 ≡ get_or s (o + 1 + i) 0 → ⊥) → ComesApart k
-      bytes-differ d = no_more (sym (part_at (part s p m) (part s (o + 1) len) i k.agree (λ e. d (sym (part-byte s p m i old-left) ∙ e ∙ part-byte s (o + 1) len i new-left))))
+      bytes-differ d = sym (part_at (part s p m) (part s (o + 1) len) i k.agree (λ e. d (sym (part-byte s p m i old-left) ∙ e ∙ part-byte s (o + 1) len i new-left)))
 
       pub byte-same : get_or s (p + i) 0 ≡ get_or s (o + 1 + i) 0 → Comparing ρ s most lens counts shares o p m n len (i + 1)
       byte-same e = record {
@@ -277,29 +276,40 @@ module _ {ρ : Rule} {s : Bytes} {most : ℕ} {lens counts shares : List ℕ} {o
         agree = omega (arith, one_more old-left new-left e);
       }
 
--- then it is asked whether it is above the last; j tells it, and how many symbols they share
-module _ {ρ : Rule} {s : Bytes} {most : ℕ} {lens counts shares : List ℕ} {o p m n len i : ℕ} (k : Comparing ρ s most lens counts shares o p m n len i)
-    {j : ℕ} (e : j ≡ shared_above ρ (part s p m) (part s (o + 1) len)) where
-  pub not-above : j ≡ len → Judged ρ s most lens counts shares (Bad 6 n)
-  not-above h =
-      refused ρ s most lens counts shares 6 n
-      (asked k.stands true false _ (sized k) (above-not ρ (part s p m) (part s (o + 1) len) e (omega (arith, new-length k))) refl)
+-- then it is asked whether it is above the last, and how many symbols they share; both are lent
+module _ {ρ : Rule} {s : Bytes} {most : ℕ} {lens counts shares : List ℕ} {o p m n len i : ℕ} (k : Comparing ρ s most lens counts shares o p m n len i) where
+  -- the two names as they are lent
+  abbrev last_lent : Bytes
+  last_lent = take (p + m - p) (drop p s)
 
-  pub new-above : ComesApart k → (j ≡ len → ⊥) → NewAbove k j
-  new-above q h =
+  abbrev new_lent : Bytes
+  new_lent = take (o + 1 + len - (o + 1)) (drop (o + 1) s)
+
+  given_parts : shared_above ρ last_lent new_lent ≡ shared_above ρ (part s p m) (part s (o + 1) len)
+  given_parts = ap₂ (λ (x y : Bytes). shared_above ρ x y) (lent-part s p m) (lent-part s (o + 1) len)
+
+  pub lent_apart : ComesApart k → i ≡ shared (take (p + m - p) (drop p s)) (take (o + 1 + len - (o + 1)) (drop (o + 1) s))
+  lent_apart q = q ∙ sym (ap₂ shared (lent-part s p m) (lent-part s (o + 1) len))
+
+  pub not-above : None ≡ shared_above ρ (take (p + m - p) (drop p s)) (take (o + 1 + len - (o + 1)) (drop (o + 1) s)) → Judged ρ s most lens counts shares (Err (NotAbove n))
+  not-above e =
+      refused ρ s most lens counts shares (NotAbove n) refl
+      (asked k.stands true false _ (sized k) (above-not ρ (part s p m) (part s (o + 1) len) (e ∙ given_parts)) refl)
+
+  pub new-above : {j : ℕ} → Some j ≡ shared_above ρ (take (p + m - p) (drop p s)) (take (o + 1 + len - (o + 1)) (drop (o + 1) s)) → NewAbove k j
+  new-above {j} e =
       let x : Bytes = part s p m in
       let y : Bytes = part s (o + 1) len in
-      let less-long : j ≡ length y → ⊥ = λ z. h (omega (arith, new-length k)) in
+      let is : Some j ≡ shared_above ρ x y = e ∙ given_parts in
       record {
-        parted = q;
-        alike = above-shares ρ x y e less-long;
-        above = above-less ρ x y e less-long;
-        in-new = omega (arith, above-short ρ x y e less-long, new-length k);
+        alike = above-shares ρ x y is;
+        above = above-less ρ x y is;
+        in-new = omega (arith, above-short ρ x y is, new-length k);
       }
 
 module _ {ρ : Rule} {s : Bytes} {most : ℕ} {lens counts shares : List ℕ} {o p m n len i : ℕ} {k : Comparing ρ s most lens counts shares o p m n len i} {j : ℕ} (a : NewAbove k j) where
-  pub too_many : most ≤ n → Judged ρ s most lens counts shares (Bad 7 n)
-  too_many h = refused ρ s most lens counts shares 7 n (asked k.stands true true false (sized k) a.above (le-ltb n most h))
+  pub too_many : most ≤ n → Judged ρ s most lens counts shares (Err (TooManyNames n))
+  too_many h = refused ρ s most lens counts shares (TooManyNames n) refl (asked k.stands true true false (sized k) a.above (le-ltb n most h))
 
   pub list-falls : length s - (o + 1 + len) < length s - o
   list-falls = omega (arith, k.whole)
@@ -335,9 +345,9 @@ module _ {ρ : Rule} {s : Bytes} {most : ℕ} {lens counts shares : List ℕ} {o
   module _ {lens₀ counts₀ shares₀ : List ℕ} (lens-kept : length lens ≡ length lens₀) (counts-kept : length counts ≡ length counts₀) (shares-kept : length shares ≡ length shares₀) (h : n < most) where
     -- the rows as they are then
     module _ {lens' counts' shares' : List ℕ} where
-      pub reads-noted : n < length lens → lens' ≡ set lens n len → counts' ≡ set counts n i → shares' ≡ set shares n j
+      pub reads-noted : ComesApart k → n < length lens → lens' ≡ set lens n len → counts' ≡ set counts n i → shares' ≡ set shares n j
           → ReadsOn ρ s most lens₀ counts₀ shares₀ lens' counts' shares' (o + 1 + len) (o + 1) len (n + 1)
-      reads-noted l new-lens new-counts new-shares =
+      reads-noted parted l new-lens new-counts new-shares =
           let r : ReadUpTo ρ s most lens counts shares o p m n = k.stands.read in
           let x : Bytes = part s (o + 1) len in
           rw (new-lens, new-counts, new-shares) (record {
@@ -345,7 +355,7 @@ module _ {ρ : Rule} {s : Bytes} {most : ℕ} {lens counts shares : List ℕ} {o
                 (length-set lens n len ∙ r.counts-row ∙ sym (length-set counts n i)) (length-set lens n len ∙ r.shares-row ∙ sym (length-set shares n j))
                 (λ b. noted_more r.done x n r.counted len i j (r.noted (omega (arith, length-set lens n len))) l (omega (arith, r.counts-row)) (omega (arith, r.shares-row)) (new-length k)
                 (λ e. omega (arith, k.in-old, r.alone e))
-                (λ c e. a.parted.common ∙ ap (λ (y : Bytes). shared y x) (sym (r.last c e)))
+                (λ c e. parted ∙ ap (λ (y : Bytes). shared y x) (sym (r.last c e)))
                 (λ c e. a.alike ∙ ap (λ (y : Bytes). shared (word ρ y) (word ρ x)) (sym (r.last c e)))) h;
             lens-kept = length-set lens n len ∙ lens-kept;
             counts-kept = length-set counts n i ∙ counts-kept;

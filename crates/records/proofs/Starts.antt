@@ -15,7 +15,7 @@ use Rattle.words.specs.Rising.{Rises, nth}
 use Rattle.words.specs.Words.{Bytes, Rule, word}
 use Rattle.words.proofs.Lists.{all-at}
 use Rattle.words.proofs.Rising.{nth-word}
-use Rattle.format.specs.Records.{encode, sound}
+use Rattle.format.specs.Records.{encode}
 use Rattle.format.proofs.Records.{encode-append, encode-fits, encode-from, encode-name, rising-sizes, sound-rises, sound-rising}
 use Rattle.records.specs.Lists.{Ready, names, start_of, words}
 

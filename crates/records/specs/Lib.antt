@@ -1,3 +1,4 @@
+pub mod Notes
 pub mod Lists
 pub mod Above
 pub mod Putting

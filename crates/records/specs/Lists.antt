@@ -1,27 +1,22 @@
 -- A list that is read: its names, and what is noted of them on the way.
---     verdict_numbers    document 01's numbers for each verdict
---     verdict_of         the verdict of a reading
+--     verdict_numbers    document 01's numbers for each verdict: so many names, or a refusal
 --     reading_of         what the reading of a list gives: how many names, or 5, 6, 7 and the record's number
 --     names, words      the names of a list, whatever rule it is read by, and their words
 --     Noted             each name's length, and how many bytes and how many symbols it shares with the name before
 --     Judged            what judging a list gives
 --     Ready, start_of    a list that reads well, with what was noted; where its records begin
 -- The laws are in proofs/. Assumes nothing: these are definitions.
-use Rattle.std.specs.Prelude.{ℕ, zero, suc, ◌≤◌, ◌<◌, ◌≡◌, List, [], ◌∷◌, map, true, length, get_or, take}
+use Rattle.std.specs.Prelude.{ℕ, zero, suc, ◌≤◌, ◌<◌, ◌≡◌, Result, Ok, Err, List, [], ◌∷◌, map, true, length, get_or, take}
 use Rattle.words.specs.Words.{Bytes, Rule, Words, word, shared}
 use Rattle.words.specs.Rising.{Sure}
 use Rattle.format.specs.Records.{Names, Reading, Refused, encode, read_list, sound}
 use Rattle.format.specs.Outcomes.{Answer, given, numbered}
-use Rattle.records.specs.declared.Verdict.{Verdict}
-use Rattle.records.specs.declared.Verdict.TheVariants.{Good, Bad}
+use Rattle.refusals.specs.Refusals.{code_of, said}
+use Rattle.refusals.specs.declared.Refusal.{Refusal}
 
-abbrev pub verdict_numbers : Verdict → Answer
-verdict_numbers (Good n) = given n 0
-verdict_numbers (Bad code i) = numbered code i
-
-abbrev pub verdict_of : Reading → Verdict
-verdict_of (Names xs) = Good (length xs)
-verdict_of (Refused code i) = Bad code i
+abbrev pub verdict_numbers : Result ℕ Refusal → Answer
+verdict_numbers (Ok n) = given n 0
+verdict_numbers (Err e) = said e
 
 -- the first bad record ends the reading
 unfoldable pub reading_of : Reading → Answer
@@ -56,9 +51,9 @@ pub record Noted (ρ : Rule) (xs : List Bytes) (lens counts shares : List ℕ) :
   pub alike : (i : ℕ) → suc i < length xs → get_or shares (suc i) 0 ≡ shared (word ρ (get_or xs i [])) (word ρ (get_or xs (suc i) []))
 
 -- a list may have at most so many names; they are noted where the rows have a place for as many
-pub record Judged (ρ : Rule) (s : Bytes) (most : ℕ) (lens counts shares : List ℕ) (r : Verdict) : Type 0 where
+pub record Judged (ρ : Rule) (s : Bytes) (most : ℕ) (lens counts shares : List ℕ) (r : Result ℕ Refusal) : Type 0 where
   pub verdict : verdict_numbers r ≡ reading_of (read_list ρ most s)
-  pub refuses : (code i : ℕ) → r ≡ Bad code i → 5 ≤ code
+  pub refuses : (e : Refusal) → r ≡ Err e → 5 ≤ code_of e
   pub noted : most ≤ length lens → Noted ρ (names_in (read_list ρ most s)) lens counts shares
 
 -- a list of n names has been judged

@@ -6,62 +6,49 @@
 #![tactic(auto)]
 
 ghost use Rattle.std.specs.Prelude.{◌≡◌, ◌+◌, ◌≤◌, length};
+ghost use Rattle.words.specs.Words.{shared};
 ghost use Rattle.symbols.specs.Rules.{rule_by};
+ghost use Rattle.records.specs.Above.{shared_above};
 ghost use Rattle.records.specs.Lists.{Judged};
-ghost use Rattle.records.specs.Above.{AboveAsk, part, shared_above};
+ghost use Rattle.records.specs.Notes.{counts_of, lens_of, shares_of};
 ghost use Rattle.records.specs.Putting.{RecordPut};
 
-use symbols::Rule;
+use refusals::Refusal;
+use symbols::{FoldedRule, KnownRule, PlainRule, Rule};
 
-// What the reading of a list gives.
+// What is noted of a name: how many bytes it has, and how many bytes and how many symbols it shares with the name before it.
 #[derive(Clone, Copy)]
-pub enum Verdict {
-    // So many names.
-    Good(usize),
-    // Refusal 5, 6 or 7, and the record's number.
-    Bad(usize, usize),
+pub struct Note {
+    pub len: u8,
+    pub count: u8,
+    pub share: u8,
 }
 
-// How many symbols the name of `len` bytes from `start` on shares with the one of `before` bytes from `prev` on, of which it has i bytes and
-// no more, where it is above it; else its length, which no name that is above another shares.
-fn shared_above(
-    rule: Rule,
-    list: &[u8],
-    prev: usize,
-    before: usize,
-    start: usize,
-    len: usize,
-    i: usize,
-) -> usize
-    requires { AboveAsk list.now prev before start len i }
-    ensures { result ≡ shared_above (rule_by rule) (part list.now prev before) (part list.now start len) }
+// How many symbols a name shares with the last one, of which it has i bytes and no more; none where it is not above it.
+fn shared_above(rule: Rule, last: &[u8], name: &[u8], i: usize) -> Option<usize>
+    requires { i ≡ shared last.now name.now }
+    ensures { result ≡ shared_above (rule_by rule) last.now name.now }
 {
-    let most = numbers::lesser(len, before);
-    let from = prev + i;
-    let to = prev + most;
-    let own = start + i;
-    let end = start + most;
-    let j = i + symbols::shared_on(rule, &list[from..to], &list[own..end]);
+    let most = name.len().min(last.len());
+    let j = i + symbols::shared_on(rule, &last[i..most], &name[i..most]);
     if j == most {
-        return j;
+        return if last.len() < name.len() {
+            Some(j)
+        } else {
+            None
+        };
     }
-    if symbols::is_higher(rule, list[prev + j], list[start + j]) {
-        return j;
+    if symbols::is_higher(rule, last[j], name[j]) {
+        Some(j)
+    } else {
+        None
     }
-    len
 }
 
-// Reads a list that may have `limit` names. The name before stands at `prev` and has `before` bytes: at first there is none.
-pub fn judge(
-    rule: Rule,
-    list: &[u8],
-    limit: usize,
-    lens: &mut [u8],
-    counts: &mut [u8],
-    shares: &mut [u8],
-) -> Verdict
-    requires { (length lens.old ≡ length counts.old) × (length lens.old ≡ length shares.old) }
-    ensures { Judged (rule_by rule) list.now limit lens.new counts.new shares.new result }
+// Reads a list that may have `limit` names: how many it has, or what is wrong with its first bad record. The name before stands at `prev` and
+// has `before` bytes: at first there is none. Both loops are left by their labels, as document 01 has it of this place.
+pub fn judge<R: KnownRule>(list: &[u8], limit: usize, notes: &mut [Note]) -> Result<usize, Refusal>
+    ensures { Judged (rule_by R.rule) list.now limit (lens_of notes.new) (counts_of notes.new) (shares_of notes.new) result }
 {
     let mut at: usize = 0;
     let mut prev: usize = 0;
@@ -69,20 +56,20 @@ pub fn judge(
     let mut n: usize = 0;
     'records: loop {
         if at == list.len() {
-            break 'records Verdict::Good(n);
+            break 'records Ok(n);
         }
-        let len = numbers::wide(list[at]);
+        let len = usize::from(list[at]);
         if len == 0 {
-            break 'records Verdict::Bad(5, n);
+            break 'records Err(Refusal::BadRecord(n));
         }
         if 200 < len {
-            break 'records Verdict::Bad(5, n);
+            break 'records Err(Refusal::BadRecord(n));
         }
         let start = at + 1;
         if list.len() - start < len {
-            break 'records Verdict::Bad(5, n);
+            break 'records Err(Refusal::BadRecord(n));
         }
-        let most = numbers::lesser(len, before);
+        let most = len.min(before);
         let mut i: usize = 0;
         'bytes: loop {
             if i == most {
@@ -93,22 +80,35 @@ pub fn judge(
             }
             i += 1;
         }
-        let j = shared_above(rule, list, prev, before, start, len, i);
-        if j == len {
-            break 'records Verdict::Bad(6, n);
-        }
+        let last = prev + before;
+        let end = start + len;
+        let Some(j) = shared_above(R::rule(), &list[prev..last], &list[start..end], i) else {
+            break 'records Err(Refusal::NotAbove(n));
+        };
         if limit <= n {
-            break 'records Verdict::Bad(7, n);
+            break 'records Err(Refusal::TooManyNames(n));
         }
-        if n < lens.len() {
-            lens[n] = len as u8;
-            counts[n] = i as u8;
-            shares[n] = j as u8;
+        if n < notes.len() {
+            notes[n] = Note {
+                len: len as u8,
+                count: i as u8,
+                share: j as u8,
+            };
         }
         prev = start;
         before = len;
-        at = start + len;
+        at = end;
         n += 1;
+    }
+}
+
+// The same by a rule that is told when it runs. Each arm's loop tests no rule.
+pub fn judge_by(rule: Rule, list: &[u8], limit: usize, notes: &mut [Note]) -> Result<usize, Refusal>
+    ensures { Judged (rule_by rule) list.now limit (lens_of notes.new) (counts_of notes.new) (shares_of notes.new) result }
+{
+    match rule {
+        Rule::Plain => judge::<PlainRule>(list, limit, notes),
+        Rule::Folded => judge::<FoldedRule>(list, limit, notes),
     }
 }
 
