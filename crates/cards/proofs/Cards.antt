@@ -1,33 +1,32 @@
 -- Laws of a worn card's map and of its blocks.
 --     mark-told, told-mark      the mark as bytes, and as two numbers
 --     mapped-trail              a map that makes sense has a trailer that passes
---     mapped-kind, plain-full, not-by-plain, not_plain, is_plain     it is a plain book's
---     not-trailed, trailed, MapRead, map_read, not-met, table-ask, map-climbs, mapped-is     whether a map makes sense, by the code's tests
+--     mapped-kind, not_plain, is_plain     it is a plain book's
+--     not-trailed, trailed, MapRead, map_read, not-met, map-climbs, mapped-is     whether a map makes sense, by the code's tests
 --     mapped-long, mapped-few, mapped-low, mapped-high, mapped-table     what it shows
 --     bound-inner, bound-last   a bound, where the code reads it
 --     StartsClimb: climbing-start, climbing-more, climbing-falls, climbing-done     the loop over the starts
---     block-names, span-is        how many names a block should have; its span
+--     span-is                   a block's span
 --     whole_says                whether it is whole, by what the check of a block says
 --     kept_by, whole_by         block number i then, and back
 --     noted-says                by what was noted of it
---     is-kept, is-dropped, row_kept, row-dropped     what is found of it, and its report row
+--     is-kept, is-dropped, row_kept     what is found of it, and its report row
 -- Assumes nothing.
-use Prim.Native.Nat.{ℕ, zero, suc, ◌+◌, ◌-◌, ◌*◌, ◌<◌, ◌≤◌, min}
+use Prim.Native.Nat.{ℕ, zero, suc, ◌+◌, ◌-◌, ◌*◌, ◌<◌, ◌≤◌}
 use native.Mathlib.Nat.{lt_irrefl}
 use native.Mathlib.Omega.{arith}
 use mathlib.Core.Path.{◌≡◌, refl, sym, ap, ap₂, ◌∙◌, subst}
 use mathlib.Core.Logic.{◌⊎◌, inl, inr}
-use mathlib.Core.Bool.{Bool, true, false, not}
+use mathlib.Core.Bool.{Bool, true, false}
 use mathlib.Core.List.{List, [], ◌∷◌}
 use lib.Dec.{eqb, leb, ltb}
 use lib.ListN.{drop, get_or, length, take}
 use lib.Seq.{take-length}
-use borrow.Author.Tests.{eq-eqb, eqb-true, le-leb, leb-true, lt-ltb, ltb-true, not-false, not-true}
+use borrow.Author.Tests.{eq-eqb, le-leb, leb-true, lt-ltb, ltb-true}
 use Rattle.words.specs.Words.{Bytes, InBytes, both, plain, same}
 use Rattle.words.proofs.Words.{apart, both_true, false≠true, same_refl, same_true}
 use Rattle.format.specs.Book.{number, numbers, told, trailer_size}
-use Rattle.format.specs.Full.{is_full}
-use Rattle.format.specs.Kinds.{BookKind, ColumnBook, FoldedBook, PlainBook, form_of, kind_of, mark_of, record_size}
+use Rattle.format.specs.Kinds.{BookKind, PlainBook, form_of, kind_of, mark_of, record_size}
 use Rattle.format.specs.Nodes.{node_size}
 use Rattle.format.specs.Salvage.{Block, Broken, Whole, block_count, bounds, climbs, from_zero, judged_alone, mapped, spans}
 use Rattle.format.proofs.Numbers.{numbers-are, numbers-told}
@@ -35,12 +34,8 @@ use Rattle.format.proofs.Salvage.{bounds-inner, bounds-last, bounds-long, bounds
 use Rattle.answers.specs.Salvage.{card_blocks, reported}
 use Rattle.answers.proofs.Salvage.{Mapped, block_at, blocks-many, mapped-parts}
 use Rattle.numbers.proofs.Parts.{Held, held_bytes}
-use Rattle.symbols.specs.Rules.{by_kind}
-use Rattle.symbols.proofs.Symbols.{rules-differ}
 use Rattle.kinds.specs.Known.{kind_by, mark_back, mark_front}
 use Rattle.kinds.proofs.Telling.{kind-told}
-use Rattle.symbols.specs.declared.Rule.{Rule as ByRule}
-use Rattle.symbols.specs.declared.Rule.TheVariants.{Folded, Plain}
 use Rattle.trailer.proofs.Telling.{mark-kind}
 use Rattle.trailer.specs.Trailer.{Trail, TrailSays, trailer_in}
 use Rattle.trailer.specs.declared.Trailer.{Trailer}
@@ -111,32 +106,23 @@ no-map : (t : Bool) → (t ≡ true → ⊥) → false ≡ t
 no-map true h = absurd (h refl)
 no-map false h = refl
 
-pub not-trailed : (s : Bytes) → Held s → (r : Bool) → TrailSays s r → not r ≡ true → false ≡ mapped s
-not-trailed s held true says h = absurd (false≠true h)
+pub not-trailed : (s : Bytes) → Held s → (r : Bool) → TrailSays s r → r ≡ false → false ≡ mapped s
+not-trailed s held true says h = absurd (false≠true (sym h))
 not-trailed s held false says h = no-map (mapped s) (λ e. says (mapped-trail (held_bytes s held) (mapped-parts s e)))
 
-pub trailed : (s : Bytes) (r : Bool) → TrailSays s r → not r ≡ false → Trail s
+pub trailed : (s : Bytes) (r : Bool) → TrailSays s r → r ≡ true → Trail s
 trailed s true says h = says
-trailed s false says h = absurd (false≠true (sym h))
-
--- a full book by the plain rule is a plain one
-pub plain-full : (κ : BookKind) (r : ByRule) (full : Bool) → r ≡ by_kind κ → r ≡ Plain → full ≡ is_full κ → PlainSays κ full
-plain-full PlainBook r full e h f = rw f refl
-plain-full FoldedBook r full e h f = absurd (rules-differ (sym e ∙ h))
-plain-full ColumnBook r full e h f = rw f (λ same. false≠true (ap is_full same))
-
-pub not-by-plain : (κ : BookKind) (r : ByRule) → r ≡ by_kind κ → r ≡ Folded → PlainSays κ false
-not-by-plain κ r e h = λ z. rules-differ (sym h ∙ e ∙ ap by_kind z)
+trailed s false says h = absurd (false≠true h)
 
 -- the mark is not a plain book's
-pub not_plain : (s : Bytes) (t : Trailer) → Held s → t ≡ trailer_in s → (r : Bool) → PlainSays (kind_by t.kind) r → not r ≡ true → false ≡ mapped s
-not_plain s t held e true says h = absurd (false≠true h)
+pub not_plain : (s : Bytes) (t : Trailer) → Held s → t ≡ trailer_in s → (r : Bool) → PlainSays (kind_by t.kind) r → r ≡ false → false ≡ mapped s
+not_plain s t held e true says h = absurd (false≠true (sym h))
 not_plain s t held e false says h =
     no-map (mapped s) (λ m. says (ap (λ (x : Trailer). kind_by x.kind) e ∙ kind-told (kind_of s) ∙ mapped-kind (held_bytes s held) (mapped-parts s m)))
 
-pub is_plain : (s : Bytes) (t : Trailer) → t ≡ trailer_in s → (r : Bool) → PlainSays (kind_by t.kind) r → not r ≡ false → kind_of s ≡ PlainBook
+pub is_plain : (s : Bytes) (t : Trailer) → t ≡ trailer_in s → (r : Bool) → PlainSays (kind_by t.kind) r → r ≡ true → kind_of s ≡ PlainBook
 is_plain s t e true says h = sym (ap (λ (x : Trailer). kind_by x.kind) e ∙ kind-told (kind_of s)) ∙ says
-is_plain s t e false says h = absurd (false≠true (sym h))
+is_plain s t e false says h = absurd (false≠true h)
 
 -- the numbers that the code has read
 pub record MapRead (s : Bytes) (table count nodes : ℕ) : Type 0 where
@@ -163,9 +149,6 @@ module _ {s : Bytes} {table count nodes : ℕ} (w : MapRead s table count nodes)
     size : told s 2 + 2 * block_count (told s 0) (told s 1) ≡ told s 3
     size = omega (arith, w.table_is, w.count-is, w.nodes-is)
 
-    pub table-ask : Table s count × (count ≡ block_count (told s 0) (told s 1))
-    table-ask = (record { within = omega (arith, w.trail.total); size = size; upto = omega (arith, w.count-is) }, w.count-is)
-
     pub map-climbs : Held s → {r : Bool} → r ≡ from_zero (bounds s) → r ≡ mapped s
     unfolding mapped
     map-climbs held e =
@@ -173,8 +156,8 @@ module _ {s : Bytes} {table count nodes : ℕ} (w : MapRead s table count nodes)
         rw (le-leb trailer_size (length s) t.long, le-leb (told s 0) 2000 t.few, le-leb 1 (told s 1) t.low, le-leb (told s 1) 64 t.high, eq-eqb (told s 2 + 2 * block_count (told s 0) (told s 1)) (told s 3) size, eq-eqb (told s 3 + 12 * told s 4 + trailer_size) (length s) (omega (arith, t.total, records-plain s w.plain)), eq-eqb (told s 5) (length s) t.whole, told-mark s t.long (held_bytes s held) t.front (t.back ∙ ap mark_back w.plain))
         e
 
-pub mapped-is : (s : Bytes) {m : Bool} → m ≡ mapped s → not m ≡ false → mapped s ≡ true
-mapped-is s {m} e h = sym e ∙ not-false m h
+pub mapped-is : (s : Bytes) {m : Bool} → m ≡ mapped s → m ≡ true → mapped s ≡ true
+mapped-is s {m} e h = sym e ∙ h
 
 -- ---- what a map that makes sense shows
 
@@ -228,9 +211,6 @@ module _ (s : Bytes) {count : ℕ} (ce : count ≡ block_count (told s 0) (told 
   first-is : {at : ℕ} → at ≡ get_or (bounds s) 0 0 → from_zero (bounds s) ≡ both (eqb at 0) (climbs at (drop 1 (bounds s)))
   first-is {at} e = from_first (bounds s) (omega (arith, all-bounds)) ∙ ap (λ (a : ℕ). both (eqb a 0) (climbs a (drop 1 (bounds s)))) (sym e)
 
-  pub climbing-not : {at : ℕ} → at ≡ get_or (bounds s) 0 0 → (at ≡ 0 → ⊥) → false ≡ from_zero (bounds s)
-  climbing-not {at} e away = no-map (from_zero (bounds s)) (λ t. away (eqb-true at 0 (both_true (eqb at 0) (climbs at (drop 1 (bounds s))) (sym (first-is e) ∙ t)).0))
-
   pub climbing-start : {at : ℕ} → at ≡ get_or (bounds s) 0 0 → at ≡ 0 → StartsClimb s count 0 at
   climbing-start {at} e z = record { upto = omega arith; many = all-bounds; others = first-is e ∙ ap (λ (t : Bool). both t (climbs at (drop 1 (bounds s)))) (eq-eqb at 0 z) }
 
@@ -274,9 +254,6 @@ module _ {s : Bytes} {i : ℕ} (ask : CardBlockAsk s i) where
       let names : told s 0 ≡ n = sym (ne ∙ ap (λ (t : Trailer). t.names) e) in
       subst (λ (x : ℕ). i * x < n) block (subst (λ (x : ℕ). i * told s 1 < x) names (count-starts (told s 0) (told s 1) (mapped-low s ask.map) i here))
 
-  pub block-names : {t : Trailer} {n k names : ℕ} → t ≡ trailer_in s → n ≡ t.names → k ≡ t.block → names ≡ min (n - i * k) k → names ≡ names_of_block s i
-  block-names {t} {n} {k} {names} e n-is k-is names-is = names-is ∙ ap₂ (λ (a b : ℕ). min (a - i * b) b) (n-is ∙ ap (λ (t : Trailer). t.names) e) (k-is ∙ ap (λ (t : Trailer). t.block) e)
-
   pub span-is : {start end names : ℕ} → start ≡ get_or (bounds s) i 0 → end ≡ get_or (bounds s) (i + 1) 0 → names ≡ names_of_block s i → SpanIs s i start end names
   span-is {start} {end} {names} se ee ne =
       let p : Mapped s = mapped-parts s ask.map in
@@ -296,9 +273,9 @@ module _ {s : Bytes} {i : ℕ} (ask : CardBlockAsk s i) where
   block-is {start} {end} {names} k = block_at s i ask.within ∙ ap (λ (b : ℕ × Bytes). judged_alone b.0 b.1) k.is
 
 -- whether a block is whole, by what the check of it says
-pub whole_says : (s : Bytes) (start end names : ℕ) → start ≤ end → end ≤ length s → (r : Bool) (name : Bytes) (len : ℕ) → BlockSays plain s start end names r name len → WholeSays s start end names r
-whole_says s start end names o h true name len says = whole_tells names (take (end - start) (drop start s)) _ (run_alone s start end names h _ says)
-whole_says s start end names o h false name len says = broken (judged_alone names (take (end - start) (drop start s))) refl
+pub whole_says : (s : Bytes) (start end names : ℕ) → start ≤ end → end ≤ length s → (r : Bool) (name : Bytes) → BlockSays plain s start end names r name → WholeSays s start end names r
+whole_says s start end names o h true name says = whole_tells names (take (end - start) (drop start s)) _ (run_alone s start end names h _ says)
+whole_says s start end names o h false name says = broken (judged_alone names (take (end - start) (drop start s))) refl
   where
     broken : (b : Block) → judged_alone names (take (end - start) (drop start s)) ≡ b → b ≡ Broken
     broken (Whole xs) e = absurd (says _ (alone-run s start end names h o xs e))
@@ -321,24 +298,21 @@ module _ {s : Bytes} {i : ℕ} (ask : CardBlockAsk s i) where
   noted-says v r e = subst (KeptSays s i) (sym e) (v.all i ask.within)
 
   module _ (r : Bool) (says : KeptSays s i r) where
-    pub is-dropped : not r ≡ true → get_or (card_blocks s) i Broken ≡ Broken
-    is-dropped h = go r says (not-true r h)
+    pub is-dropped : r ≡ false → get_or (card_blocks s) i Broken ≡ Broken
+    is-dropped h = go r says h
       where
         go : (t : Bool) → KeptSays s i t → t ≡ false → get_or (card_blocks s) i Broken ≡ Broken
         go true k e = absurd (false≠true (sym e))
         go false k e = k
 
-    pub row-dropped : not r ≡ true → (0, 0) ≡ reported (get_or (card_blocks s) i Broken)
-    row-dropped h = sym (ap reported (is-dropped h))
-
-    pub is-kept : not r ≡ false → IsWhole s i
-    is-kept h = go r says (not-false r h)
+    pub is-kept : r ≡ true → IsWhole s i
+    is-kept h = go r says h
       where
         go : (t : Bool) → KeptSays s i t → t ≡ true → IsWhole s i
         go true k e = k
         go false k e = absurd (false≠true e)
 
-    pub row_kept : not r ≡ false → {n : ℕ} → n ≡ names_of_block s i → (1, n) ≡ reported (get_or (card_blocks s) i Broken)
+    pub row_kept : r ≡ true → {n : ℕ} → n ≡ names_of_block s i → (1, n) ≡ reported (get_or (card_blocks s) i Broken)
     row_kept h {n} ne =
         let whole = is-kept h in
         let span : get_or (spans s) i (0, []) ≡ (names_of_block s i, _) = span-at s (told s 1) (told s 0) (bounds s) i (omega (arith, here ask, bounds-long s (told s 2) (block_count (told s 0) (told s 1)))) in

@@ -13,7 +13,7 @@ use Rattle.format.specs.Entries.{decode}
 use Rattle.format.specs.Kinds.{BookKind, PlainBook}
 use Rattle.format.specs.Salvage.{Broken, Whole, block_count, judged_alone, mapped, spans}
 use Rattle.answers.specs.Salvage.{card_blocks}
-use Rattle.notes.specs.Notes.{note_size, noted}
+use Rattle.notes.specs.Notes.{noted}
 
 pub record Table (s : Bytes) (i : ℕ) : Type 0 where
   pub within : told s 3 + trailer_size ≤ length s
@@ -54,5 +54,4 @@ KeptSays s i true = IsWhole s i
 KeptSays s i false = get_or (card_blocks s) i Broken ≡ Broken
 
 pub record Verdicts (s : Bytes) (notes : List ℕ) : Type 0 where
-  pub long : length notes ≡ note_size
   pub all : (i : ℕ) → i < length (card_blocks s) → KeptSays s i (noted notes i)

@@ -11,9 +11,11 @@ ghost use Rattle.shapes.specs.Salvage.{kept_row};
 ghost use Rattle.kinds.specs.Known.{kind_by};
 ghost use Rattle.cards.specs.Cards.{CardBlockAsk, PlainSays, SpanIs, Table, Verdicts, WholeAsk, WholeSays, names_of_block};
 
+use entries::Name;
 use kinds::Kind;
+use notes::Notes;
 use shapes::Kept;
-use symbols::Rule;
+use symbols::PlainRule;
 
 // A block's span, and how many names it should have.
 #[derive(Clone, Copy)]
@@ -45,10 +47,8 @@ fn starts_rise(card: &[u8], count: usize) -> bool
     if at != 0 {
         return false;
     }
-    let mut i: usize = 0;
-    while i < count {
-        i += 1;
-        let next = bound(card, i);
+    for i in 0..count {
+        let next = bound(card, i + 1);
         if next <= at {
             return false;
         }
@@ -69,11 +69,7 @@ fn blocks_for(n: usize, k: usize) -> usize
 fn is_plain(kind: Kind) -> bool
     ensures { PlainSays (kind_by kind) result }
 {
-    let rule = kinds::rule_of(kind);
-    match rule {
-        Rule::Plain => kinds::is_full(kind),
-        Rule::Folded => false,
-    }
+    kind == Kind::Plain
 }
 
 // Whether the trailer and the block table make sense.
@@ -88,9 +84,9 @@ pub fn is_mapped(card: &[u8]) -> bool
     if !is_plain(kind) {
         return false;
     }
-    let table = numbers::wide16(t.blocks_at);
-    let count = blocks_for(numbers::wide16(t.names), numbers::wide16(t.block));
-    if table + 2 * count != numbers::wide16(t.nodes_at) {
+    let table = usize::from(t.blocks_at);
+    let count = blocks_for(usize::from(t.names), usize::from(t.block));
+    if table + 2 * count != usize::from(t.nodes_at) {
         return false;
     }
     starts_rise(card, count)
@@ -102,7 +98,7 @@ pub fn block_count(card: &[u8]) -> usize
     ensures { (result ≡ length (card_blocks card.now)) × (result ≤ 2000) }
 {
     let t = trailer::read(card);
-    blocks_for(numbers::wide16(t.names), numbers::wide16(t.block))
+    blocks_for(usize::from(t.names), usize::from(t.block))
 }
 
 // How many names block i should have.
@@ -111,9 +107,9 @@ fn names_in(card: &[u8], i: usize) -> usize
     ensures { result ≡ names_of_block card.now i }
 {
     let t = trailer::read(card);
-    let k = numbers::wide16(t.block);
-    let left = numbers::wide16(t.names) - i * k;
-    numbers::lesser(left, k)
+    let k = usize::from(t.block);
+    let left = usize::from(t.names) - i * k;
+    left.min(k)
 }
 
 // The span of block i.
@@ -130,21 +126,20 @@ pub fn span_of(card: &[u8], i: usize) -> Span
     }
 }
 
-// Whether the entries of a block stand from its start to its end, judged alone. Its names are rebuilt in a lent array.
-pub fn is_whole(card: &[u8], span: Span, name: &mut [u8]) -> bool
-    requires { WholeAsk card.now span.start span.end × (length name.old ≡ 200) }
-    ensures { WholeSays card.now span.start span.end span.names result × (length name.new ≡ 200) }
+// Whether the entries of a block stand from its start to its end, judged alone. Its names are rebuilt in a lent one.
+pub fn is_whole(card: &[u8], span: Span, name: &mut Name) -> bool
+    requires { WholeAsk card.now span.start span.end }
+    ensures { WholeSays card.now span.start span.end span.names result }
 {
-    let last = runs::plain_block(card, span.start, span.end, span.names, name);
-    last.ok
+    runs::block_by::<PlainRule>(card, span.start, span.end, span.names, name)
 }
 
 // The report row of block i, by what was noted of all blocks.
-pub fn row_of(card: &[u8], notes: &[u8], i: usize) -> Kept
+pub fn row_of(card: &[u8], notes: &Notes, i: usize) -> Kept
     requires { CardBlockAsk card.now i × Verdicts card.now notes.now }
     ensures { kept_row result ≡ reported (get_or (card_blocks card.now) i Broken) }
 {
-    if !notes::is_noted(notes, i) {
+    if !notes.has(i) {
         return Kept { kept: 0, names: 0 };
     }
     let names = names_in(card, i);

@@ -2,9 +2,53 @@
 // No list of the names is kept: a name is read from the one before it, into the same array.
 #![tactic(auto)]
 
-ghost use Rattle.std.specs.Prelude.{◌≡◌, ◌+◌, ◌≤◌, length, take};
+ghost use Rattle.std.specs.Prelude.{◌≡◌, ◌+◌, ◌≤◌, List, [], ℕ, length, take};
 ghost use Rattle.streams.specs.Streams.{EntryAt};
-ghost use Rattle.entries.specs.Reading.{NameIs, NameRead, ReadAsk};
+ghost use Rattle.entries.specs.Reading.{NameIs, NextIs, ReadAsk};
+
+use std::marker::Model;
+
+// The name at hand: at most 200 bytes, which each entry that is read turns into the next name. A clause sees the name alone, and not what
+// older names have left behind it.
+#[derive(Drop)]
+pub struct Name {
+    array: [u8; 200],
+    len: usize,
+}
+
+impl Model for Name {
+    ghost Value = { List ℕ };
+
+    ghost view = { λ s. take s.len s.array };
+
+    ghost invariant = { λ s. s.len ≤ 200 };
+}
+
+impl Name {
+    // No name yet: before the first one.
+    pub fn new() -> Self
+        ensures { result ≡ [] }
+    {
+        Name {
+            array: [0; 200],
+            len: 0,
+        }
+    }
+
+    // Its bytes.
+    pub fn bytes(&self) -> &[u8]
+        ensures { (result.now ≡ self.now) × (length self.now ≤ 200) }
+    {
+        &self.array[..self.len]
+    }
+
+    // No name again, as before a block's first one.
+    pub fn clear(&mut self)
+        ensures { self.new ≡ [] }
+    {
+        self.len = 0;
+    }
+}
 
 // Where an entry stands.
 #[derive(Clone, Copy)]
@@ -12,64 +56,45 @@ pub struct Cursor {
     pub at: usize,
 }
 
-// A name that was rebuilt, the place of the next entry, and how many entries were read for it.
-#[derive(Clone, Copy)]
+// A name that was rebuilt, and how many entries were read for it.
+#[derive(Drop)]
 pub struct Entry {
-    pub name: [u8; 200],
-    pub len: usize,
-    pub next: Cursor,
+    pub name: Name,
     pub read: usize,
 }
 
-// How long the name is that was read into a lent array, and the place of the next entry.
-#[derive(Clone, Copy)]
-pub struct Ahead {
-    pub len: usize,
-    pub next: Cursor,
-}
-
 impl Cursor {
-    // Reads the entry at the cursor into a lent name, whose first len bytes are the name before it. What the two share stays where it is,
-    // so a walk needs one array, however many entries it reads.
-    pub fn next(self, book: &[u8], name: &mut [u8], len: usize) -> Ahead
-        requires { EntryAt book.now self.at len × (len ≤ 200) × (length name.old ≡ 200) }
-        ensures { NameRead book.now self.at (take len name.old) result.next.at result.len name.new }
+    // Reads the entry at the cursor into the name before it, and gives the place of the next one. What the two share stays where it is, so a
+    // walk needs one name, however many entries it reads.
+    pub fn read(self, book: &[u8], name: &mut Name) -> Cursor
+        requires { EntryAt book.now self.at (length name.old) }
+        ensures { NextIs book.now self.at name.old result.at name.new }
     {
         let at = self.at;
-        let c = numbers::wide(book[at]);
-        let n = numbers::wide(book[at + 1]);
+        let c = usize::from(book[at]);
+        let n = usize::from(book[at + 1]);
         let from = at + 2;
         let to = from + n;
-        numbers::copy(&book[from..to], &mut name[c..]);
-        Ahead {
-            len: c + n,
-            next: Cursor { at: to },
-        }
+        numbers::copy(&book[from..to], &mut name.array[c..]);
+        name.len = c + n;
+        Cursor { at: to }
     }
 }
 
 // The name of entry number count, counted from 0, of a block whose first entry stands at `start`.
 pub fn name_of(book: &[u8], start: usize, count: usize) -> Entry
     requires { ReadAsk book.now start count }
-    ensures name_is { NameIs book.now start count result.name result.len }
+    ensures name_is { NameIs book.now start count result.name }
     ensures read_value { result.read ≡ count + 1 }
 {
     let mut cur = Cursor { at: start };
-    let mut name = [0u8; 200];
-    let mut len: usize = 0;
-    let mut i: usize = 0;
-    while i < count {
-        let ahead = cur.next(book, &mut name, len);
-        len = ahead.len;
-        cur = ahead.next;
-        i += 1;
+    let mut entry = Entry {
+        name: Name::new(),
+        read: count + 1,
+    };
+    for _ in 0..count {
+        cur = cur.read(book, &mut entry.name);
     }
-    let ahead = cur.next(book, &mut name, len);
-    let next = ahead.next;
-    Entry {
-        name,
-        len: ahead.len,
-        next,
-        read: i + 1,
-    }
+    cur.read(book, &mut entry.name);
+    entry
 }

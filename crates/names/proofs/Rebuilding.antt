@@ -1,34 +1,28 @@
--- A name that is read back and put into a room.
+-- A name that is read back.
 --     position-..       an accepting check lets each position be asked
---     block_none, rest-none     the block of a position where k is 0, and how many names stand before it there
 --     BlockFound, found, place-ask, found-asks, found_name      where the block of a position starts, and what streams from there
---     found-entries     how many entries are read from there on
---     put-short, put_all            the room is too short; it holds the name
 -- Assumes nothing.
-use Prim.Native.Nat.{ℕ, ◌*◌, ◌+◌, ◌-◌, ◌/◌, ◌%◌, ◌<◌, ◌≤◌}
-use native.Mathlib.Nat.{div-add-mod', div-le_self, div-zero, mod-zero}
+use Prim.Native.Nat.{ℕ, ◌*◌, ◌+◌, ◌/◌, ◌%◌, ◌<◌, ◌≤◌}
+use native.Mathlib.Nat.{div-add-mod', div-le_self}
 use native.Mathlib.Omega.{arith}
 use mathlib.Core.Path.{◌≡◌, ◌∙◌, ap, refl, subst, sym}
 use mathlib.Core.List.{List, []}
-use lib.ListN.{drop, get_or, length, length-drop, take}
-use lib.Seq.{get_or-drop, length-take-le}
-use borrow.Author.Tests.{le-leb, lt-leb}
+use lib.ListN.{drop, get_or, length, length-drop}
+use lib.Seq.{get_or-drop}
 use Rattle.words.specs.Words.{Bytes}
 use Rattle.format.proofs.BookKinds.{kind-sure}
 use Rattle.format.specs.Kinds.{kind_of, rule_in}
 use Rattle.format.specs.Book.{number, opened, names_of, told}
-use Rattle.format.specs.Outcomes.{over}
-use Rattle.numbers.proofs.Parts.{Copied, Held, copied}
+use Rattle.numbers.proofs.Parts.{Held}
 use Rattle.streams.specs.Runs.{Rest}
 use Rattle.streams.proofs.Rereading.{block-from}
 use Rattle.streams.proofs.Walks.{has-names}
 use Rattle.entries.specs.Reading.{NameIs, ReadAsk}
 use Rattle.trailer.specs.declared.Trailer.{Trailer}
 use Rattle.accept.specs.Parts.{check_on}
-use Rattle.accept.specs.declared.Checked.{Checked}
-use Rattle.accept.specs.declared.Checked.TheVariants.{Sound}
+use Rattle.std.specs.Prelude.{Option, Some}
 use Rattle.accept.proofs.Judging.{SoundBook, checked-sound}
-use Rattle.names.specs.Names.{Named, PlaceAsk, PositionAsk, Put, entries_to}
+use Rattle.names.specs.Names.{Named, PlaceAsk, PositionAsk}
 
 -- ---- what can be asked
 
@@ -40,25 +34,18 @@ position-sound f h = record {
   within = omega (arith, f.count);
 }
 
-pub position-ask : (b : Bytes) (t : Trailer) (position : ℕ) → Held b → (v : Checked) → v ≡ check_on b (opened b) → v ≡ Sound t
+pub position-ask : (b : Bytes) (t : Trailer) (position : ℕ) → Held b → (v : Option Trailer) → v ≡ check_on b (opened b) → v ≡ Some t
     → (n : ℕ) → n ≡ t.names → position < n → PositionAsk b t position
 position-ask b t position held v s u n ne h = position-sound (checked-sound b t held v s u) (omega arith)
 
 -- ---- where a position's block starts
-
--- a division by 0 gives 0
-pub block_none : (position : ℕ) {k : ℕ} → k ≡ 0 → 0 ≡ position / k
-block_none position e = sym (ap (λ (n : ℕ). position / n) e ∙ div-zero position)
-
-pub rest-none : (position : ℕ) {k : ℕ} → k ≡ 0 → position ≡ position % k
-rest-none position e = sym (ap (λ (n : ℕ). position % n) e ∙ mod-zero position)
 
 pub record BlockFound (b : Bytes) (position table block rest : ℕ) : Type 0 where
   pub room : table + 2 * block + 2 ≤ length b
   pub few : position ≤ 2000
   pub below : block ≤ position
   pub reads : ReadAsk b (number b (table + 2 * block)) rest
-  pub gives : (name : Bytes) (len : ℕ) → NameIs b (number b (table + 2 * block)) rest name len → Named (get_or (names_of b) position []) len name
+  pub gives : (name : Bytes) → NameIs b (number b (table + 2 * block)) rest name → Named (get_or (names_of b) position []) name
 
 found-told : (b : Bytes) (k table position : ℕ) → PlaceAsk b k table position → BlockFound b position (told b 2) (position / k) (position % k)
 found-told b k table position a =
@@ -77,12 +64,11 @@ found-told b k table position a =
       few = omega (arith, within, has.count, p.trail.few);
       below = div-le_self position k;
       reads = record { names = drop (position / k * k) has.names; stream = f.stream; within = u; few = omega (arith, within, has.count, p.trail.few) };
-      gives = λ name len n. record {
+      gives = λ name n. record {
         name-is = n.named (drop (position / k * k) has.names) f.stream u
             ∙ get_or-drop (position / k * k) has.names (position % k) []
             ∙ ap (λ (i : ℕ). get_or has.names i []) d ∙ ap (λ (xs : List Bytes). get_or xs position []) (sym ns);
         room = n.room;
-        size = n.size;
       };
     }
 
@@ -98,28 +84,5 @@ module _ {b : Bytes} {position table block rest start : ℕ} (f : BlockFound b p
   pub found-asks : ReadAsk b start rest
   found-asks = subst (λ (n : ℕ). ReadAsk b n rest) (sym e) f.reads
 
-  pub found_name : (name : Bytes) (len : ℕ) → NameIs b start rest name len → Named (get_or (names_of b) position []) len name
-  found_name name len n = f.gives name len (subst (λ (o : ℕ). NameIs b o rest name len) e n)
-
--- from the block's first entry on
-pub found-entries : {b : Bytes} {k position table rest : ℕ} → PlaceAsk b k table position → rest ≡ position % k → (r : ℕ) → r ≡ rest + 1 → r ≡ entries_to (told b 1) position
-found-entries {b} {k} {position} a f r e = e ∙ omega (arith, f, ap (λ (n : ℕ). position % n) a.block)
-
--- ---- at the front of a room
-
-module _ (x room : Bytes) (len : ℕ) (name : Bytes) (n : Named x len name) where
-  size_is : length x ≡ len
-  size_is = sym (ap length n.name-is) ∙ length-take-le len name (omega (arith, n.size, n.room))
-
-  pub put-short : length room < len → Put x room 0 room
-  put-short h = record { answer = rw (lt-leb (length x) (length room) (omega (arith, size_is))) refl; bytes = rw (lt-leb (length x) (length room) (omega (arith, size_is))) refl }
-
-  -- the name, as the part `&name[0..len]`, was copied into the room
-  pub put_all : (after : Bytes) → len ≤ length room → Copied (take (len - 0) name) room after → Put x room len after
-  put_all after h e =
-      let z : len - 0 ≡ len = omega arith in
-      let front : take (len - 0) name ≡ x = ap (λ (i : ℕ). take i name) z ∙ n.name-is in
-      record {
-        answer = sym size_is ∙ rw (le-leb (length x) (length room) (omega (arith, size_is))) refl;
-        bytes = copied (take (len - 0) name) room after e ∙ ap (λ (y : Bytes). over y room) front ∙ rw (le-leb (length x) (length room) (omega (arith, size_is))) refl;
-      }
+  pub found_name : (name : Bytes) → NameIs b start rest name → Named (get_or (names_of b) position []) name
+  found_name name n = f.gives name (subst (λ (o : ℕ). NameIs b o rest name) e n)

@@ -29,7 +29,7 @@ fn rest_of(k: usize, position: usize) -> usize
 // The name at a position of a book in blocks of k names, of which the block table at `table` tells where they begin.
 pub fn read_at(book: &[u8], k: usize, table: usize, position: usize) -> entries::Entry
     requires { PlaceAsk book.now k table position }
-    ensures named { Named (get_or (names_of book.now) position []) result.len result.name }
+    ensures named { Named (get_or (names_of book.now) position []) result.name }
     ensures read_value { result.read ≡ entries_to (told book.now 1) position }
 {
     let block = block_of(k, position);
@@ -40,25 +40,28 @@ pub fn read_at(book: &[u8], k: usize, table: usize, position: usize) -> entries:
 // The same by what the book's trailer tells.
 pub fn read_name(book: &[u8], t: trailer::Trailer, position: usize) -> entries::Entry
     requires { PositionAsk book.now t position }
-    ensures named { Named (get_or (names_of book.now) position []) result.len result.name }
+    ensures named { Named (get_or (names_of book.now) position []) result.name }
     ensures read_value { result.read ≡ entries_to (told book.now 1) position }
 {
-    let k = numbers::wide16(t.block);
-    let table = numbers::wide16(t.blocks_at);
-    read_at(book, k, table, position)
+    read_at(
+        book,
+        usize::from(t.block),
+        usize::from(t.blocks_at),
+        position,
+    )
 }
 
-// The name at a position at the front of the room, and its length; or 0, and nothing is written, where the room is shorter.
-pub fn put_name(book: &[u8], t: trailer::Trailer, position: usize, room: &mut [u8]) -> usize
+// The name at a position at the front of the room, and its length; where the room is shorter, nothing is written and none is given.
+pub fn put_name(book: &[u8], t: trailer::Trailer, position: usize, room: &mut [u8]) -> Option<usize>
     requires { PositionAsk book.now t position }
     ensures { Put (get_or (names_of book.now) position []) room.old result room.new }
 {
     let entry = read_name(book, t, position);
-    let name = entry.name;
-    let len = entry.len;
+    let name = entry.name.bytes();
+    let len = name.len();
     if room.len() < len {
-        return 0;
+        return None;
     }
-    numbers::copy(&name[0..len], room);
-    len
+    numbers::copy(name, room);
+    Some(len)
 }

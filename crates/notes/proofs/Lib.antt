@@ -1,2 +1,2 @@
 -- Laws of notes. No contract cites them.
-pub mod Notes
+pub mod Noting

@@ -1,13 +1,9 @@
--- Yes or no for each of up to 2,000 numbers, a bit each, in a row of 250 bytes. Numbers are noted in rising order.
---     note_size          how many bytes the row has
+-- Yes or no for each of up to 2,000 numbers, a bit each, in 250 bytes. Numbers are noted in rising order.
 --     noted             whether yes is noted for number i
 --     Noting            nothing is noted from number i on
 --     NoteMade          what noting number i leaves
--- The laws are in proofs/Notes.antt. Assumes nothing: these are definitions.
-use Rattle.std.specs.Prelude.{ℕ, ◌+◌, ◌/◌, ◌%◌, ◌^◌, ◌<◌, ◌≡◌, Bool, true, List, eqb, get_or, length}
-
-abbrev pub note_size : ℕ
-note_size = 250
+-- The laws are in proofs/Noting.antt. Assumes nothing: these are definitions.
+use Rattle.std.specs.Prelude.{ℕ, ◌+◌, ◌/◌, ◌%◌, ◌^◌, ◌<◌, ◌≡◌, Bool, true, List, eqb, get_or}
 
 -- bit i % 8 of byte i / 8
 unfoldable pub noted : List ℕ → ℕ → Bool
@@ -15,7 +11,6 @@ noted notes i = eqb (get_or notes (i / 8) 0 / 2 ^ (i % 8) % 2) 1
 
 -- number i and all above it are no
 pub record Noting (notes : List ℕ) (i : ℕ) : Type 0 where
-  pub long : length notes ≡ note_size
   pub low : get_or notes (i / 8) 0 < 2 ^ (i % 8)
   pub behind : (g : ℕ) → i / 8 < g → get_or notes g 0 ≡ 0
 

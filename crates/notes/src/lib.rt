@@ -1,23 +1,47 @@
-// Yes or no for each of up to 2,000 numbers, in 250 bytes that a caller lends. Numbers are noted in rising order, so a number's bit is 0
-// until it is noted, and adding sets it.
+// Yes or no for each of up to 2,000 numbers, in 250 bytes. Numbers are noted in rising order, so a number's bit is 0 until it is noted, and
+// adding sets it.
 #![tactic(auto)]
 
-ghost use Rattle.std.specs.Prelude.{◌≡◌, ◌<◌, length};
-ghost use Rattle.notes.specs.Notes.{NoteMade, Noting, note_size, noted};
+ghost use Rattle.std.specs.Prelude.{◌≡◌, ◌<◌, List, ℕ};
+ghost use Rattle.notes.specs.Notes.{NoteMade, Noting, noted};
 
-// Notes yes for number i, which is above all that are noted.
-pub fn note(notes: &mut [u8], i: usize)
-    requires { Noting notes.old i × (i < 2000) }
-    ensures { NoteMade notes.old notes.new i }
-{
-    let g = i / 8;
-    notes[g] = notes[g] + (1 << (i % 8));
+use std::marker::Model;
+
+// The notes. A clause sees their bytes, of which `noted` tells what they say of a number.
+#[derive(Drop)]
+pub struct Notes {
+    bytes: [u8; 250],
 }
 
-// Whether yes is noted for number i.
-pub fn is_noted(notes: &[u8], i: usize) -> bool
-    requires { (length notes.now ≡ note_size) × (i < 2000) }
-    ensures { result ≡ noted notes.now i }
-{
-    (notes[i / 8] >> (i % 8)) % 2 == 1
+impl Model for Notes {
+    ghost Value = { List ℕ };
+
+    ghost view = { λ s. s.bytes };
+}
+
+impl Notes {
+    // Notes in which nothing is noted.
+    pub fn new() -> Self
+        ensures { Noting result 0 }
+    {
+        Notes { bytes: [0; 250] }
+    }
+
+    // Notes yes for number i, which is above all that are noted.
+    pub fn note(&mut self, i: usize)
+        requires { Noting self.old i × (i < 2000) }
+        ensures { NoteMade self.old self.new i }
+    {
+        let bytes = &mut self.bytes;
+        bytes[i / 8] += 1 << (i % 8);
+    }
+
+    // Whether yes is noted for number i.
+    pub fn has(&self, i: usize) -> bool
+        requires { i < 2000 }
+        ensures { result ≡ noted self.now i }
+    {
+        let bytes = &self.bytes;
+        (bytes[i / 8] >> (i % 8)) % 2 == 1
+    }
 }

@@ -1,15 +1,16 @@
 -- Laws of the code that judges one block, one for each way through it.
 --     Fitting, entry-.., judged-..     the last tests of an entry, by any rule and by each
---     BlockRead, held-..             the loop over a block, with its buffer
+--     held-..                   the loop over a block
 -- Assumes nothing.
 use Prim.Native.Nat.{ℕ, ◌+◌, ◌-◌, ◌≤◌, ◌<◌}
 use native.Mathlib.Nat.{lt_irrefl}
 use native.Mathlib.Omega.{arith}
 use mathlib.Core.Path.{◌≡◌, refl, sym, ap, ap₂, ◌∙◌, subst}
-use mathlib.Core.Bool.{Bool, true, false, not}
+use mathlib.Core.Bool.{Bool, true, false}
 use mathlib.Core.List.{[]}
-use lib.Dec.{ltb}
+use lib.Dec.{eqb, ltb}
 use lib.ListN.{length, get_or, take, drop, length-take, length-drop, drop_of_length-le}
+use borrow.Author.Tests.{eqb-false, eqb-true}
 use lib.Seq.{get_or-drop, get_or-take, take_all}
 use Rattle.words.specs.Words.{Bytes, Rule, less, plain, word}
 use Rattle.words.specs.Rising.{Sure}
@@ -22,8 +23,8 @@ use Rattle.streams.specs.Streams.{EntryAt, entry_end}
 use Rattle.streams.specs.Runs.{Step}
 use Rattle.streams.proofs.Blocks.{less-empty}
 use Rattle.streams.proofs.Steps.{plain-first}
-use Rattle.streams.proofs.Walks.{Blocked, blocked-apart, blocked-bad, blocked-done, blocked-entry, blocked-more, blocked-start, step_is, step-on}
-use Rattle.entries.specs.Reading.{NameRead}
+use Rattle.streams.proofs.Walks.{Blocked, blocked-apart, blocked-bad, blocked-done, blocked-entry, blocked-more, step_is, step-on}
+use Rattle.entries.specs.Reading.{NextIs}
 use Rattle.runs.specs.Judging.{BlockSays, EntrySays}
 
 -- ---- one entry
@@ -35,6 +36,17 @@ pub record Fitting (b prev : Bytes) (o e : ℕ) : Type 0 where
   pub some : 1 ≤ get_or b (o + 1) 0
   pub shares : get_or b o 0 ≤ length prev
   pub short : get_or b o 0 + get_or b (o + 1) 0 ≤ 200
+
+-- by the tests themselves
+pub fitting-by : (b prev : Bytes) (o e c n : ℕ) → e ≤ length b → c ≡ get_or b o 0 → n ≡ get_or b (o + 1) 0 → 2 ≤ e → o ≤ e - 2 → n ≤ e - 2 - o
+    → (n ≡ 0 → ⊥) → c ≤ length prev → c + n ≤ 200 → Fitting b prev o e
+fitting-by b prev o e c n h ce ne two start end some shares short = record {
+  fits = omega arith;
+  within = h;
+  some = omega arith;
+  shares = omega arith;
+  short = omega arith;
+}
 
 module _ (ρ : Rule) (b prev : Bytes) (o e : ℕ) (k : Fitting b prev o e) where
   pub entry_whole : Sure ρ → length prev ≡ get_or b o 0 → Step ρ b o e prev
@@ -83,44 +95,29 @@ module _ (r : ByRule) (b prev : Bytes) (o e : ℕ) (k : Fitting b prev o e) (c :
 
 -- ---- a block
 
--- what the code says after the part `&name[0..len]`
-says-true : (ρ : Rule) (b : Bytes) (o e : ℕ) (name : Bytes) (len : ℕ) (r : Bool) → not r ≡ false → EntrySays ρ b o e (take (len - 0) name) r → Step ρ b o e (take len name)
-says-true ρ b o e name len true h k = let z : len - 0 ≡ len = omega arith in subst (λ (x : ℕ). Step ρ b o e (take x name)) z k
-says-true ρ b o e name len false h k = absurd (false≠true (sym h))
+-- the rule that the code asked for is known, and the bytes that it took are the name at hand
+pub says-of : (x y : ByRule) (b prev name : Bytes) (o e : ℕ) (r : Bool) → x ≡ y → prev ≡ name → EntrySays (rule_by x) b o e prev r → EntrySays (rule_by y) b o e name r
+says-of x y b prev name o e r p q k = subst (λ (z : ByRule). EntrySays (rule_by z) b o e name r) p (subst (λ (z : Bytes). EntrySays (rule_by x) b o e z r) q k)
 
-says-false : (ρ : Rule) (b : Bytes) (o e : ℕ) (name : Bytes) (len : ℕ) (r : Bool) → not r ≡ true → EntrySays ρ b o e (take (len - 0) name) r → Step ρ b o e (take len name) → ⊥
-says-false ρ b o e name len true h = absurd (false≠true h)
-says-false ρ b o e name len false h = λ k j. let z : len ≡ len - 0 = omega arith in k (subst (λ (x : ℕ). Step ρ b o e (take x name)) z j)
+module _ (ρ : Rule) (b : Bytes) (e o₀ m o : ℕ) (name : Bytes) (left : ℕ) (w : Blocked ρ b e o₀ m o name left) (r : Bool) (says : EntrySays ρ b o e name r) where
+  step-of : r ≡ true → Step ρ b o e name
+  step-of h = let k : EntrySays ρ b o e name true = subst (EntrySays ρ b o e name) h says in k
 
--- the loop over a block, with its buffer
-pub record BlockRead (ρ : Rule) (b : Bytes) (e o₀ m o : ℕ) (name : Bytes) (len left : ℕ) : Type 0 where
-  pub size : length name ≡ 200
-  pub room : len ≤ 200
-  pub blocked : Blocked ρ b e o₀ m o (take len name) left
+  pub held-entry : r ≡ true → EntryAt b o (length name)
+  held-entry h = blocked-entry ρ b e o₀ m o name left w (length name) refl (step-of h)
 
-pub held_start : (ρ : Rule) (b : Bytes) (e o₀ m : ℕ) (name : Bytes) → e ≤ length b → length name ≡ 200 → BlockRead ρ b e o₀ m o₀ name 0 m
-held_start ρ b e o₀ m name h s = record { size = s; room = omega arith; blocked = blocked-start ρ b e o₀ m h }
+  pub held-more : (next : ℕ) (name' : Bytes) (left' : ℕ) → r ≡ true → left ≡ left' + 1 → NextIs b o name next name' → Blocked ρ b e o₀ m next name' left'
+  held-more next name' left' h one k =
+      let z : left - 1 ≡ left' = omega arith in
+      subst (Blocked ρ b e o₀ m next name') z (blocked-more ρ b e o₀ m o name left w next name' (omega arith) (step-of h) k.name-is k.next-is)
 
--- all that the record tells is left to it
-module _ {ρ : Rule} {b : Bytes} {e o₀ m o : ℕ} {name : Bytes} {len left : ℕ} (w : BlockRead ρ b e o₀ m o name len left) where
-  module _ (r : Bool) (says : EntrySays ρ b o e (take (len - 0) name) r) where
-    pub held-entry : not r ≡ false → EntryAt b o len
-    held-entry h =
-        blocked-entry ρ b e o₀ m o (take len name) left w.blocked len (omega (arith, length-take len name, w.size, w.room)) (says-true ρ b o e name len r h says)
+  pub held-bad : r ≡ false → 0 < left → BlockSays ρ b o₀ e m false name
+  held-bad h some = let k : EntrySays ρ b o e name false = subst (EntrySays ρ b o e name) h says in blocked-bad ρ b e o₀ m o name left w some k
 
-    pub held_more : (next : ℕ) (name' : Bytes) (len' : ℕ) → not r ≡ false → 0 < left → NameRead b o (take len name) next len' name'
-        → BlockRead ρ b e o₀ m next name' len' (left - 1)
-    held_more next name' len' h some k = record {
-      size = k.size;
-      room = k.room;
-      blocked = blocked-more ρ b e o₀ m o (take len name) left w.blocked next (take len' name') some (says-true ρ b o e name len r h says) k.name-is k.next-is;
-    }
-
-    pub held-bad : not r ≡ true → 0 < left → BlockSays ρ b o₀ e m false name len
-    held-bad h some = blocked-bad ρ b e o₀ m o (take len name) left w.blocked some (says-false ρ b o e name len r h says)
-
-  pub held-apart : left ≤ 0 → (o ≡ e → ⊥) → BlockSays ρ b o₀ e m false name len
-  held-apart h n = blocked-apart ρ b e o₀ m o (take len name) left w.blocked h n
-
-  pub held-done : left ≤ 0 → o ≡ e → BlockSays ρ b o₀ e m true name len
-  held-done h q = blocked-done ρ b e o₀ m o (take len name) left w.blocked h q
+-- t is what the code found of the place behind the last entry
+pub held-end : (ρ : Rule) (b : Bytes) (e o₀ m o : ℕ) (name : Bytes) (left : ℕ) → Blocked ρ b e o₀ m o name left → left ≤ 0 → BlockSays ρ b o₀ e m (eqb o e) name
+held-end ρ b e o₀ m o name left w h = go (eqb o e) refl
+  where
+    go : (t : Bool) → t ≡ eqb o e → BlockSays ρ b o₀ e m t name
+    go true q = blocked-done ρ b e o₀ m o name left w h (eqb-true o e (sym q))
+    go false q = blocked-apart ρ b e o₀ m o name left w h (eqb-false o e (sym q))

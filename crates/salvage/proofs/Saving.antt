@@ -1,47 +1,47 @@
 -- Laws of the records of a worn card's names in a room.
 --     put-none, put-more        nothing is put; one after the other
---     put_record                one record
+--     record-put, record-none   one record
 --     Saving: saving-start, saving-entry, saving-more, saving-done     the loop over a block's names
 --     block-put, block-left     a block that is whole, and one that is broken
 --     Measuring: measuring-start .. measuring-done     the loop that counts a block's bytes
 --     CountingBlocks: counting-start, counting-ask, counting-whole, counting-broken, counting-done     the loop that judges all blocks
 --     Blocks: blocks_start, blocks-ask, blocks_more, blocks-done     the loop that puts them
---     save-.., not-zero         the ways out
+--     save-..                   the ways out
 -- Assumes nothing.
 use Prim.Native.Nat.{ℕ, suc, ◌+◌, ◌-◌, ◌*◌, ◌≤◌, ◌<◌}
 use native.Mathlib.Nat.{lt_irrefl}
 use native.Mathlib.Numerals.{add-one}
 use native.Mathlib.Omega.{arith}
 use mathlib.Core.Path.{◌≡◌, refl, sym, ap, ap₂, ◌∙◌, subst}
-use mathlib.Core.Bool.{Bool, true, false, not}
+use mathlib.Core.Bool.{Bool, true, false}
 use mathlib.Core.Logic.{◌⊎◌, inl, inr}
-use mathlib.Core.List.{List, [], ◌∷◌, ◌++◌, append_assoc, append-nil, map}
+use mathlib.Core.List.{List, [], ◌∷◌, ◌++◌, append_assoc, append-nil}
 use lib.Dec.{eqb, leb}
-use lib.ListN.{drop, get_or, length, length-append, length-drop, length-take, set, take}
-use lib.Seq.{drop-drop, drop-length, get_or-drop, take_all, take-suc}
-use borrow.Author.Tests.{eq-eqb, le-leb, lt-leb, ne_eqb, not-true}
+use lib.ListN.{drop, get_or, length, length-append, length-drop, length-set, length-take, set, take}
+use lib.Seq.{drop-drop, get_or-drop, take_all, take-suc}
+use borrow.Author.Tests.{eq-eqb, le-leb, lt-leb, ne_eqb}
+use Rattle.std.proofs.lemmas.List.{set_split}
 use Rattle.words.specs.Words.{Bytes, pick}
 use Rattle.words.proofs.Words.{apart}
 use Rattle.format.specs.Book.{joined}
 use Rattle.format.specs.Entries.{decode}
-use Rattle.format.specs.Outcomes.{Answer as Numbers, Written, given, over, refused}
+use Rattle.format.specs.Outcomes.{Written, given, over, refused}
 use Rattle.format.specs.Records.{encode}
 use Rattle.format.specs.Salvage.{Block, Broken, Whole, mapped}
 use Rattle.format.proofs.Records.{encode-append}
 use Rattle.format.proofs.Salvage.{whole-alone}
 use Rattle.answers.specs.Salvage.{card_blocks, records_in, saved_records}
 use Rattle.answers.proofs.Salvage.{saved-more}
-use Rattle.records.specs.Putting.{RecordPut}
+use Rattle.numbers.proofs.Parts.{Copied, copied, lent, lent-front, over-length, part_length}
 use Rattle.streams.proofs.Alone.{alone-stream}
 use Rattle.streams.specs.Streams.{EntryAt, Stream, entry_end, name_at}
-use Rattle.entries.specs.Reading.{NameRead}
+use Rattle.entries.specs.Reading.{NextIs}
 use Rattle.entries.proofs.Reading.{stream-next}
 use Rattle.notes.specs.Notes.{NoteMade, Noting, noted}
-use Rattle.notes.proofs.Notes.{noting-skip}
-use Rattle.cards.specs.Cards.{CardBlockAsk, IsWhole, KeptSays, SpanIs, Verdicts}
+use Rattle.notes.proofs.Noting.{noting-skip}
+use Rattle.cards.specs.Cards.{CardBlockAsk, IsWhole, KeptSays, SpanIs}
 use Rattle.cards.proofs.Cards.{block-is, mapped-is, whole_by}
-use Rattle.salvage.specs.Saving.{BytesPut, CardCount, NamesAsk, NamesPut, RecordsTake, saved_answer, shown_saved, saved_of}
-use Rattle.salvage.specs.declared.Saved.{Saved}
+use Rattle.salvage.specs.Saving.{BytesPut, CardCount, NamesAsk, NamesPut, RecordsTake, saved_of}
 
 -- ---- bytes in a room
 
@@ -55,32 +55,74 @@ put-more {out} {out'} {room₀} {room} {room'} {at} {mid} {end} a b = record {
   put = λ f p xs r e l. b.put (omega (arith, a.kept)) (p ++ out) xs (a.put (omega (arith, b.size)) p xs r e l) (omega (arith, length-append p out, a.size)) (l ∙ sym a.kept) ∙ ap (λ (z : Bytes). over z xs) (append_assoc p out out');
 }
 
-pub put_record : {list room₀ room : Bytes} {from size at : ℕ} (out : Bytes) → take size (drop from list) ≡ out → length out ≡ size → RecordPut list from size room₀ room at → BytesPut out room₀ room at (at + size)
-put_record {list} {room₀} {room} {from} {size} {at} out e l r = record {
-  kept = r.kept;
-  size = omega arith;
-  put = λ f p xs o s k. r.put f p xs o s k ∙ ap (λ (z : Bytes). over (p ++ z) xs) e;
-}
+-- a name's record, its length byte first: r is the room with that byte set, of which all behind it was lent and came back as ys
+module _ (x room ys : Bytes) (at : ℕ) (fits : at + 1 + length x ≤ length room) where
+  abbrev led : Bytes
+  led = set room at (length x)
+
+  led-is : (p xs : Bytes) → room ≡ over p xs → length p ≡ at → length xs ≡ length room → led ≡ over (p ++ (length x ∷ [])) xs
+  led-is p xs e l k =
+      let next : drop (suc at) room ≡ drop 1 (drop at room) = ap (λ (n : ℕ). drop n room) (sym (add-one at)) ∙ sym (drop-drop 1 at room) in
+      set_split room at (length x) (omega arith) ∙ ap (λ (z : Bytes). take at room ++ (length x ∷ z)) next
+      ∙ lent p xs room (length x ∷ []) at 1 e l (omega arith) refl
+
+  led-length : length led ≡ length room
+  led-length = length-set room at (length x)
+
+  module _ (y : Copied x (take (length led - (at + 1)) (drop (at + 1) led)) ys) where
+    abbrev after : Bytes
+    after = take (at + 1) led ++ (ys ++ drop (length led - (at + 1)) (drop (at + 1) led))
+
+    part-size : length (take (length led - (at + 1)) (drop (at + 1) led)) ≡ length led - (at + 1)
+    part-size = part_length led (at + 1) (length led - (at + 1)) (omega (arith, led-length))
+
+    come-back : length ys ≡ length led - (at + 1)
+    come-back = ap length (copied x _ ys y) ∙ over-length x _ (omega (arith, part-size, led-length)) ∙ part-size
+
+    pub record-put : BytesPut (encode (x ∷ [])) room after at (at + 1 + length x)
+    unfolding encode
+    record-put = record {
+      kept = kept-length;
+      size = omega (arith, length-append x []);
+      put = λ f p xs e l k.
+          lent-front (p ++ (length x ∷ [])) x xs led ys (at + 1) (length led - (at + 1)) (led-is p xs e l k) (length-append p (length x ∷ []) ∙ omega arith)
+          (omega (arith, led-length)) (copied x _ ys y) (omega (arith, led-length))
+          ∙ ap (λ (z : Bytes). over z xs) (append_assoc p (length x ∷ []) x ∙ ap (λ (z : Bytes). p ++ (length x ∷ z)) (sym (append-nil x)));
+    }
+      where
+        kept-length : length after ≡ length room
+        kept-length =
+            length-append (take (at + 1) led) (ys ++ drop (length led - (at + 1)) (drop (at + 1) led))
+            ∙ omega (
+              arith,
+              length-append ys (drop (length led - (at + 1)) (drop (at + 1) led)),
+              come-back,
+              led-length,
+              length-take (at + 1) led,
+              length-drop (at + 1) led,
+              length-drop (length led - (at + 1)) (drop (at + 1) led),
+            )
+
+-- where there is no room for it, nothing is put
+pub record-none : (x room : Bytes) (at : ℕ) → length room < at + 1 + length x → BytesPut (encode (x ∷ [])) room room at (at + 1 + length x)
+unfolding encode
+record-none x room at h = record { kept = refl; size = omega (arith, length-append x []); put = λ f p xs e l k. absurd (lt_irrefl (length room) (omega arith)) }
 
 -- ---- a block's names
 
--- i names are saved, the last of them stands behind the length byte, and the cursor stands at the next entry
-pub record Saving (s : Bytes) (start m at : ℕ) (room₀ room : Bytes) (o : ℕ) (line : Bytes) (len end i : ℕ) : Type 0 where
+-- i names are saved, the last of them is at hand, and the cursor stands at the next entry
+pub record Saving (s : Bytes) (start m at : ℕ) (room₀ room : Bytes) (o : ℕ) (name : Bytes) (end i : ℕ) : Type 0 where
   pub ask : NamesAsk s start m
-  pub long : length line ≡ 201
-  pub short : len ≤ 200
   pub upto : i ≤ m
   pub bounded : end ≤ at + 201 * i
   pub kept : length room ≡ length room₀
-  pub others : (xs : List Bytes) → Stream s start [] xs → length xs ≡ m → Stream s o (take len (drop 1 line)) (drop i xs)
+  pub others : (xs : List Bytes) → Stream s start [] xs → length xs ≡ m → Stream s o name (drop i xs)
   pub put : (xs : List Bytes) → Stream s start [] xs → length xs ≡ m → BytesPut (encode (take i xs)) room₀ room at end
 
-pub saving-start : {s : Bytes} {start m at : ℕ} {room line : Bytes} → NamesAsk s start m → length line ≡ 201 → Saving s start m at room room start line 0 at 0
+pub saving-start : {s : Bytes} {start m at : ℕ} {room : Bytes} → NamesAsk s start m → Saving s start m at room room start [] at 0
 unfolding encode
-saving-start {s} {start} {m} {at} {room} {line} ask long = record {
+saving-start {s} {start} {m} {at} {room} ask = record {
   ask = ask;
-  long = long;
-  short = omega arith;
   upto = omega arith;
   bounded = omega arith;
   kept = refl;
@@ -88,90 +130,39 @@ saving-start {s} {start} {m} {at} {room} {line} ask long = record {
   put = λ xs t e. put-none room at;
 }
 
-module _ {s : Bytes} {start m at : ℕ} {room₀ room : Bytes} {o : ℕ} {line : Bytes} {len end i : ℕ} (w : Saving s start m at room₀ room o line len end i) (h : i < m) where
-  behind : length (drop 1 line) ≡ 200
-  behind = omega (arith, length-drop 1 line, w.long)
-
+module _ {s : Bytes} {start m at : ℕ} {room₀ room : Bytes} {o : ℕ} {name : Bytes} {end i : ℕ} (w : Saving s start m at room₀ room o name end i) (h : i < m) where
   next_of : (xs : List Bytes) → Stream s start [] xs → length xs ≡ m
-      → EntryAt s o (length (take len (drop 1 line))) × (name_at s o (take len (drop 1 line)) ≡ get_or (drop i xs) 0 []) × Stream s (entry_end s o) (name_at s o (take len (drop 1 line))) (drop 1 (drop i xs))
-  next_of xs t e = stream-next s o (take len (drop 1 line)) (drop i xs) (omega (arith, length-drop i xs)) (w.others xs t e)
+      → EntryAt s o (length name) × (name_at s o name ≡ get_or (drop i xs) 0 []) × Stream s (entry_end s o) (name_at s o name) (drop 1 (drop i xs))
+  next_of xs t e = stream-next s o name (drop i xs) (omega (arith, length-drop i xs)) (w.others xs t e)
 
-  pub part-long : length (take (length line - 1) (drop 1 line)) ≡ 200
-  part-long = omega (arith, length-take (length line - 1) (drop 1 line), behind, w.long)
+  pub saving-entry : EntryAt s o (length name)
+  saving-entry = (next_of w.ask.names w.ask.stream w.ask.count).0
 
-  pub saving-entry : EntryAt s o len
-  saving-entry =
-      let z : length (take len (drop 1 line)) ≡ len = omega (arith, length-take len (drop 1 line), behind, w.short) in
-      subst (EntryAt s o) z (next_of w.ask.names w.ask.stream w.ask.count).0
+  module _ {next : ℕ} {name' : Bytes} (r : NextIs s o name next name') where
+    named : (xs : List Bytes) → Stream s start [] xs → length xs ≡ m → name' ≡ get_or xs i []
+    named xs t e = let number : i + 0 ≡ i = omega arith in r.name-is ∙ (next_of xs t e).1 ∙ get_or-drop i xs 0 [] ∙ ap (λ (j : ℕ). get_or xs j []) number
 
--- ---- the line that a name is rebuilt in
+    -- `lent` is the name at hand, as it was lent
+    pub saving-more : {room' lent : Bytes} {to : ℕ} → lent ≡ name' → BytesPut (encode (lent ∷ [])) room room' end to → Saving s start m at room₀ room' next name' to (i + 1)
+    unfolding encode
+    saving-more {room'} {lent} {to} is k = record {
+      ask = w.ask;
+      upto = omega arith;
+      bounded = omega (arith, w.bounded, k.size, length-append lent [], ap length is, r.room);
+      kept = k.kept ∙ w.kept;
+      others = λ xs t e. rw (r.name-is, r.next-is, ← drop-drop 1 i xs) (next_of xs t e).2;
+      put = λ xs t e. one_more xs t e;
+    }
+      where
+        one_more : (xs : List Bytes) → Stream s start [] xs → length xs ≡ m → BytesPut (encode (take (i + 1) xs)) room₀ room' at to
+        one_more xs t e =
+            let all : encode (take i xs) ++ encode (get_or xs i [] ∷ []) ≡ encode (take (i + 1) xs) =
+            sym (encode-append (take i xs) (get_or xs i [] ∷ [])) ∙ ap encode (sym (take-suc xs i [] (omega arith)) ∙ ap (λ (n : ℕ). take n xs) (sym (add-one i))) in
+            let one : BytesPut (encode (get_or xs i [] ∷ [])) room room' end to = subst (λ (x : Bytes). BytesPut (encode (x ∷ [])) room room' end to) (is ∙ named xs t e) k in
+            subst (λ (l : Bytes). BytesPut l room₀ room' at to) all (put-more (w.put xs t e) one)
 
--- the part behind the length byte came back as ys, and the length byte is set
-pub line-is : (line ys : Bytes) (x : ℕ) → length line ≡ 201 → set (take 1 line ++ (ys ++ drop (length line - 1) (drop 1 line))) 0 x ≡ x ∷ ys
-line-is [] ys x h = absurd (omega arith)
-line-is (a ∷ l) ys x h =
-    let whole : suc (length l) - 1 ≡ length l = omega arith in
-    ap (λ (z : Bytes). x ∷ (ys ++ z)) (ap (λ (k : ℕ). drop k l) whole ∙ drop-length l) ∙ ap (λ (z : Bytes). x ∷ z) (append-nil ys)
-
-module _ {s : Bytes} {start m at : ℕ} {room₀ room : Bytes} {o : ℕ} {line : Bytes} {len end i : ℕ} (w : Saving s start m at room₀ room o line len end i) (h : i < m)
-    {next len' : ℕ} {ys : Bytes} (r : NameRead s o (take len (take (length line - 1) (drop 1 line))) next len' ys) where
-  abbrev new : Bytes
-  new = set (take 1 line ++ (ys ++ drop (length line - 1) (drop 1 line))) 0 len'
-
-  new_is : new ≡ len' ∷ ys
-  new_is = line-is line ys len' w.long
-
-  -- whatever the length byte is
-  pub new-long : (x : ℕ) → length (set (take 1 line ++ (ys ++ drop (length line - 1) (drop 1 line))) 0 x) ≡ 201
-  new-long x = ap length (line-is line ys x w.long) ∙ omega (arith, r.size)
-
-  pub record-fits : (x : ℕ) → 0 + (len' + 1) ≤ length (set (take 1 line ++ (ys ++ drop (length line - 1) (drop 1 line))) 0 x)
-  record-fits x = omega (arith, new-long x, r.room)
-
-  -- the name that is read
-  name-is : take len' ys ≡ name_at s o (take len (drop 1 line))
-  name-is = r.name-is ∙ ap (λ (l : Bytes). name_at s o (take len l)) (take_all (length line - 1) (drop 1 line) (omega (arith, behind w h, w.long)))
-
-  name-size : length (take len' ys) ≡ len'
-  name-size = omega (arith, length-take len' ys, r.size, r.room)
-
-  record_is : (xs : List Bytes) → Stream s start [] xs → length xs ≡ m → take (len' + 1) (drop 0 new) ≡ encode (get_or xs i [] ∷ [])
-  unfolding encode
-  record_is xs t e =
-      let number : i + 0 ≡ i = omega arith in
-      let named : take len' ys ≡ get_or xs i [] = name-is ∙ (next_of w h xs t e).1 ∙ get_or-drop i xs 0 [] ∙ ap (λ (j : ℕ). get_or xs j []) number in
-      let front : take (suc len') (len' ∷ ys) ≡ length (take len' ys) ∷ (take len' ys ++ []) = ap₂ (λ (n : ℕ) (l : Bytes). n ∷ l) (sym name-size) (sym (append-nil (take len' ys))) in
-      ap₂ (λ (n : ℕ) (l : Bytes). take n l) (add-one len') new_is ∙ front ∙ ap (λ (l : Bytes). length l ∷ (l ++ [])) named
-
-  pub saving-more : {room' : Bytes} → RecordPut new 0 (len' + 1) room room' end → Saving s start m at room₀ room' next new len' (end + (len' + 1)) (i + 1)
-  saving-more {room'} k = record {
-    ask = w.ask;
-    long = new-long len';
-    short = r.room;
-    upto = omega arith;
-    bounded = omega (arith, w.bounded, r.room);
-    kept = k.kept ∙ w.kept;
-    others = λ xs t e. onward xs (next_of w h xs t e).2;
-    put = λ xs t e. one_more xs t e;
-  }
-    where
-      onward : (xs : List Bytes) → Stream s (entry_end s o) (name_at s o (take len (drop 1 line))) (drop 1 (drop i xs)) → Stream s next (take len' (drop 1 new)) (drop (i + 1) xs)
-      onward xs t =
-          let left : drop 1 (drop i xs) ≡ drop (i + 1) xs = drop-drop 1 i xs in
-          let held : name_at s o (take len (drop 1 line)) ≡ take len' (drop 1 new) = sym name-is ∙ ap (λ (l : Bytes). take len' (drop 1 l)) (sym new_is) in
-          subst (λ (n : ℕ). Stream s n (take len' (drop 1 new)) (drop (i + 1) xs)) (sym r.next-is)
-          (subst (λ (l : Bytes). Stream s (entry_end s o) l (drop (i + 1) xs)) held (subst (λ (l : List Bytes). Stream s (entry_end s o) (name_at s o (take len (drop 1 line))) l) left t))
-
-      one_more : (xs : List Bytes) → Stream s start [] xs → length xs ≡ m → BytesPut (encode (take (i + 1) xs)) room₀ room' at (end + (len' + 1))
-      one_more xs t e =
-          let bytes = record_is xs t e in
-          let size : length (encode (get_or xs i [] ∷ [])) ≡ len' + 1 = ap length (sym bytes) ∙ omega (arith, length-take (len' + 1) new, new-long len', r.room) in
-          let all : encode (take i xs) ++ encode (get_or xs i [] ∷ []) ≡ encode (take (i + 1) xs) =
-          sym (encode-append (take i xs) (get_or xs i [] ∷ [])) ∙ ap encode (sym (take-suc xs i [] (omega arith)) ∙ ap (λ (n : ℕ). take n xs) (sym (add-one i))) in
-          subst (λ (l : Bytes). BytesPut l room₀ room' at (end + (len' + 1))) all (put-more (w.put xs t e) (put_record (encode (get_or xs i [] ∷ [])) bytes size k))
-
-pub saving-done : {s : Bytes} {start m at : ℕ} {room₀ room : Bytes} {o : ℕ} {line : Bytes} {len end i : ℕ} → Saving s start m at room₀ room o line len end i → m ≤ i → NamesPut s start m room₀ room at end
-saving-done {s} {start} {m} {at} {room₀} {room} {o} {line} {len} {end} {i} w h = record {
+pub saving-done : {s : Bytes} {start m at : ℕ} {room₀ room : Bytes} {o : ℕ} {name : Bytes} {end i : ℕ} → Saving s start m at room₀ room o name end i → m ≤ i → NamesPut s start m room₀ room at end
+saving-done {s} {start} {m} {at} {room₀} {room} {o} {name} {end} {i} w h = record {
   kept = w.kept;
   bounded = omega (arith, w.bounded, w.upto);
   all = λ xs t e. subst (λ (l : List Bytes). BytesPut (encode l) room₀ room at end) (take_all i xs (omega arith)) (w.put xs t e);
@@ -320,7 +311,7 @@ module _ {s notes : Bytes} {count i size : ℕ} (w : CountingBlocks s notes coun
   pub counting-done : count ≤ i → CardCount s notes size
   counting-done h = record {
     is = w.is ∙ ap (λ (l : List Block). length (saved_records l)) (take_all i (card_blocks s) (omega (arith, w.many)));
-    verdicts = record { long = w.next.long; all = λ j l. w.found j (omega (arith, w.many)) };
+    verdicts = record { all = λ j l. w.found j (omega (arith, w.many)) };
   }
 
 -- ---- all blocks, written
@@ -356,11 +347,11 @@ module _ {s room₀ room : Bytes} {count i end : ℕ} (w : Blocks s room₀ room
 -- ---- ways out of `save_names`
 
 module _ (s : Bytes) (rows : ℕ) (room : Bytes) where
-  pub save-unmapped : {m : Bool} → m ≡ mapped s → not m ≡ true → (a : Saved) → saved_answer a ≡ refused 13 → shown_saved a room ≡ saved_of s rows room
+  pub save-unmapped : {m : Bool} → m ≡ mapped s → m ≡ false → record { answer = refused 13; room = room } ≡ saved_of s rows room
   unfolding saved_of
-  save-unmapped {m} e h a p = rw (sym e ∙ not-true m h) (ap (λ (n : Numbers). record { answer = n; room = room }) p)
+  save-unmapped {m} e h = rw (sym e ∙ h) refl
 
-  module _ {m : Bool} (e : m ≡ mapped s) (h : not m ≡ false) {count : ℕ} (c : count ≡ length (card_blocks s)) where
+  module _ {m : Bool} (e : m ≡ mapped s) (h : m ≡ true) {count : ℕ} (c : count ≡ length (card_blocks s)) where
     -- by what the two tests say
     abbrev tested : Bool → Bool → Written
     tested same fits =
@@ -370,21 +361,17 @@ module _ (s : Bytes) (rows : ℕ) (room : Bytes) where
     unfolding saved_of
     saved-is same fits p q = rw (mapped-is s e h, p, q) refl
 
-    pub save-rows : (rows ≡ count → ⊥) → (a : Saved) → saved_answer a ≡ refused 12 → shown_saved a room ≡ saved_of s rows room
-    save-rows away a p = ap (λ (n : Numbers). record { answer = n; room = room }) p ∙ sym (saved-is false _ (ne_eqb rows (length (card_blocks s)) (λ z. away (z ∙ sym c))) refl)
+    pub save-rows : (rows ≡ count → ⊥) → record { answer = refused 12; room = room } ≡ saved_of s rows room
+    save-rows away = sym (saved-is false _ (ne_eqb rows (length (card_blocks s)) (λ z. away (z ∙ sym c))) refl)
 
     module _ (same : rows ≡ count) {notes : Bytes} {size : ℕ} (k : CardCount s notes size) where
       is_same : eqb rows (length (card_blocks s)) ≡ true
       is_same = eq-eqb rows (length (card_blocks s)) (same ∙ c)
 
-      pub save-short : length room < size → (a : Saved) → saved_answer a ≡ refused 4 → shown_saved a room ≡ saved_of s rows room
-      save-short f a p = ap (λ (n : Numbers). record { answer = n; room = room }) p ∙ sym (saved-is true false is_same (lt-leb (length (saved_records (card_blocks s))) (length room) (omega (arith, k.is))))
+      pub save-short : length room < size → record { answer = refused 4; room = room } ≡ saved_of s rows room
+      save-short f = sym (saved-is true false is_same (lt-leb (length (saved_records (card_blocks s))) (length room) (omega (arith, k.is))))
 
       pub save-put : size ≤ length room → {new : Bytes} {end : ℕ} → BytesPut (saved_records (card_blocks s)) room new 0 end → record { answer = given end 0; room = new } ≡ saved_of s rows room
       save-put f {new} {end} w =
           ap₂ (λ (n : ℕ) (l : Bytes). record { answer = given n 0; room = l }) (omega (arith, w.size)) (w.put (omega (arith, w.size, k.is)) [] room refl (omega arith) refl)
           ∙ sym (saved-is true true is_same (le-leb (length (saved_records (card_blocks s))) (length room) (omega (arith, k.is))))
-
--- a refusal is no 0, whatever is promised of that
-pub not-zero : {s notes : Bytes} (a : Saved) (c : ℕ) → saved_answer a ≡ refused (suc c) → a.code ≡ 0 → Verdicts s notes
-not-zero a c p z = absurd (lt_irrefl 0 (omega (arith, ap (λ (n : Numbers). n.code) p)))

@@ -4,12 +4,14 @@
 --     RecordsTake, CardCount     how many bytes their records take; those of all whole blocks, and what is found of each block is noted
 --     saved_of, saved_answer, shown_saved     what saving the names gives, for a report of so many rows; what the code gave, as document 01's numbers
 -- The laws are in proofs/Saving.antt. Assumes nothing: these are definitions.
-use Rattle.std.specs.Prelude.{ℕ, ◌+◌, ◌*◌, ◌≤◌, ◌≡◌, List, [], ◌++◌, eqb, length}
+use Rattle.std.specs.Prelude.{ℕ, ◌+◌, ◌*◌, ◌≤◌, ◌≡◌, Result, Ok, Err, List, [], ◌++◌, eqb, length}
 use Rattle.words.specs.Words.{Bytes, pick}
-use Rattle.format.specs.Outcomes.{Answer, Written, over, refused, write}
+use Rattle.format.specs.Outcomes.{Answer, Written, given, over, refused, write}
 use Rattle.format.specs.Records.{encode}
 use Rattle.format.specs.Salvage.{mapped}
 use Rattle.answers.specs.Salvage.{card_blocks, saved_records}
+use Rattle.refusals.specs.Refusals.{said}
+use Rattle.refusals.specs.declared.Refusal.{Refusal}
 use Rattle.streams.specs.Streams.{Stream}
 use Rattle.cards.specs.Cards.{Verdicts}
 use Rattle.salvage.specs.declared.Saved.{Saved}
@@ -45,8 +47,9 @@ saved_of s rows room =
     (pick (eqb rows (length bs)) (write (saved_records bs) room) (record { answer = refused 12; room = room }))
     (record { answer = refused 13; room = room })
 
-abbrev pub saved_answer : Saved → Answer
-saved_answer r = record { code = r.code; first = r.size; second = 0 }
+abbrev pub saved_answer : Result Saved Refusal → Answer
+saved_answer (Ok r) = given r.size 0
+saved_answer (Err e) = said e
 
-abbrev pub shown_saved : Saved → Bytes → Written
+abbrev pub shown_saved : Result Saved Refusal → Bytes → Written
 shown_saved r room = record { answer = saved_answer r; room = room }

@@ -2,12 +2,12 @@
 // first name above the last one of the block before it.
 #![tactic(auto)]
 
-ghost use Rattle.std.specs.Prelude.{◌≡◌, ◌+◌, ◌<◌, ◌≤◌, length, take};
+ghost use Rattle.std.specs.Prelude.{◌≡◌, ◌+◌, ◌<◌, ◌≤◌, length};
 ghost use Rattle.streams.specs.Runs.{Frame, end_of};
 ghost use Rattle.symbols.specs.Rules.{rule_by};
 ghost use Rattle.walk.specs.Walking.{NextSays, WalkSays};
 
-use runs::Last;
+use entries::Name;
 use symbols::Rule;
 
 // Where the block ends whose offset stands at `slot`: at the next offset, or, as the last one, where the block table starts.
@@ -21,33 +21,25 @@ fn block_end(book: &[u8], k: usize, blocks: usize, slot: usize, left: usize) -> 
     numbers::number_at(book, slot + 2)
 }
 
-// Whether a block of m names stands from an offset to `end`, its first name above the first `before` bytes of the lent name, whose place
-// its last name takes. So the first name, which its entry has whole, is compared before the block is gone over.
-fn next_block(
-    rule: Rule,
-    book: &[u8],
-    start: usize,
-    end: usize,
-    m: usize,
-    name: &mut [u8],
-    before: usize,
-) -> Last
-    requires { (start + 2 ≤ length book.now) × (end ≤ length book.now) × (0 < m) × (length name.old ≡ 200) × (before ≤ 200) }
-    ensures { (result.len ≤ 200) × (length name.new ≡ 200) × NextSays (rule_by rule) book.now start end m (take before name.old) result.ok name.new result.len }
+// Whether a block of m names stands from an offset to `end`, its first name above the lent one, whose place its last name takes. So the
+// first name, which its entry has whole, is compared before the block is gone over.
+fn next_block(rule: Rule, book: &[u8], start: usize, end: usize, m: usize, name: &mut Name) -> bool
+    requires { (start + 2 ≤ length book.now) × (end ≤ length book.now) × (0 < m) }
+    ensures { NextSays (rule_by rule) book.now start end m name.old result name.new }
 {
     let from = start + 2;
-    let to = from + numbers::wide(book[start + 1]);
+    let to = from + usize::from(book[start + 1]);
     if end < to {
-        return Last { ok: false, len: 0 };
+        return false;
     }
-    if !symbols::is_less(rule, &name[0..before], &book[from..to]) {
-        return Last { ok: false, len: 0 };
+    if !symbols::is_less(rule, name.bytes(), &book[from..to]) {
+        return false;
     }
     runs::check_block(rule, book, start, end, m, name)
 }
 
 // Whether the bytes before `blocks` are the entries of some sound list of n names in blocks of k, and those from there to `nodes` their
-// offsets.
+// offsets. A turn takes a block, and with it as many names from those that are left as the block has.
 pub fn check_entries(
     rule: Rule,
     book: &[u8],
@@ -61,29 +53,26 @@ pub fn check_entries(
 {
     let mut at: usize = 0;
     let mut slot = blocks;
-    let mut i: usize = 0;
-    let mut name = [0u8; 200];
-    let mut len: usize = 0;
-    while i < n {
+    let mut left = n;
+    let mut name = Name::new();
+    while 0 < left {
         if nodes - slot < 2 {
             return false;
         }
         if numbers::number_at(book, slot) != at {
             return false;
         }
-        let end = block_end(book, k, blocks, slot, n - i);
+        let end = block_end(book, k, blocks, slot, left);
         if blocks < end {
             return false;
         }
-        let m = numbers::lesser(n - i, k);
-        let last = next_block(rule, book, at, end, m, &mut name, len);
-        if !last.ok {
+        let m = left.min(k);
+        if !next_block(rule, book, at, end, m, &mut name) {
             return false;
         }
-        len = last.len;
         at = end;
         slot += 2;
-        i += m;
+        left -= m;
     }
     if at != blocks {
         return false;
