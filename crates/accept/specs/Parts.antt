@@ -4,7 +4,7 @@
 --     check_on           what the check gives, by what the bytes open to: what their trailer tells, or nothing
 --     checked_as         document 01's numbers for each case of what the check gives: 0 with the names and the block size, or 2
 -- proofs/Opens.antt shows that these are just the books. Assumes nothing: these are definitions.
-use Rattle.std.specs.Prelude.{◌-◌, ◌≡◌, Bool, false, true, [], length}
+use Rattle.std.specs.Prelude.{◌-◌, ◌≡◌, Bool, false, true, Option, Some, None, [], length}
 use Rattle.words.specs.Words.{Bytes}
 use Rattle.format.specs.Kinds.{rule_in}
 use Rattle.format.specs.Spans.{is_table}
@@ -12,8 +12,7 @@ use Rattle.format.specs.Book.{Book, NoBook, Opened, told, trailer_size}
 use Rattle.format.specs.Outcomes.{Answer, given, refused}
 use Rattle.trailer.specs.Trailer.{Trail, trailer_in}
 use Rattle.streams.specs.Runs.{Has}
-use Rattle.accept.specs.declared.Checked.{Checked}
-use Rattle.accept.specs.declared.Checked.TheVariants.{Sound, Unsound}
+use Rattle.trailer.specs.declared.Trailer.{Trailer}
 
 pub record Framed (b : Bytes) : Type 0 where
   pub trail : Trail b
@@ -31,10 +30,10 @@ abbrev pub PartsSay : Bytes → Bool → Type 0
 PartsSay b true = Parts b
 PartsSay b false = Parts b → ⊥
 
-unfoldable pub check_on : Bytes → Opened → Checked
-check_on b (Book κ k xs) = Sound (trailer_in b)
-check_on b NoBook = Unsound
+unfoldable pub check_on : Bytes → Opened → Option Trailer
+check_on b (Book κ k xs) = Some (trailer_in b)
+check_on b NoBook = None
 
-abbrev pub checked_as : Checked → Answer
-checked_as (Sound t) = given t.names t.block
-checked_as Unsound = refused 2
+abbrev pub checked_as : Option Trailer → Answer
+checked_as (Some t) = given t.names t.block
+checked_as None = refused 2

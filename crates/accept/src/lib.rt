@@ -9,13 +9,7 @@ ghost use Rattle.format.specs.Spans.{is_table};
 ghost use Rattle.accept.specs.Parts.{Framed, FramedSays, PartsSay, check_on, checked_as};
 
 use symbols::Rule;
-
-// A book, and what its trailer tells, which no one need read again; or that the bytes are no book.
-#[derive(Clone, Copy)]
-pub enum Checked {
-    Sound(trailer::Trailer),
-    Unsound,
-}
+use trailer::Trailer;
 
 // Whether the trailer and the entries with their block table stand: what every kind of book has. The walk over the entries is called at two
 // places, one for each rule: so it stays a function, and its name of 200 bytes does not lie below the levels of the node table.
@@ -50,24 +44,21 @@ fn is_table(book: &[u8]) -> bool
 }
 
 // Whether all parts of a book stand. It hands no number on: what it would keep of the trailer while it walks would lie below every level
-// of the node table.
+// of the node table. For the same reason it stays a function: put into its caller, it takes 48 bytes of stack more.
+#[inline(never)]
 pub fn is_book(book: &[u8]) -> bool
     ensures { PartsSay book.now result }
 {
-    if is_framed(book) {
-        is_table(book)
-    } else {
-        false
-    }
+    is_framed(book) && is_table(book)
 }
 
-// Whether bytes are a book; then its trailer is read once for all who go on.
-pub fn check_book(book: &[u8]) -> Checked
+// What the trailer of a book tells, read once for all who go on; nothing where the bytes are no book.
+pub fn check_book(book: &[u8]) -> Option<Trailer>
     ensures { (checked_as result ≡ check_of (opened book.now)) × (result ≡ check_on book.now (opened book.now)) }
 {
     if is_book(book) {
-        Checked::Sound(trailer::read(book))
+        Some(trailer::read(book))
     } else {
-        Checked::Unsound
+        None
     }
 }

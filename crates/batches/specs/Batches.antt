@@ -1,14 +1,10 @@
--- How a batch opens, and what a row asks of that. An answer and a row as document 01's numbers are in the crate shapes.
+-- How a batch opens. An answer and a row as document 01's numbers are in the crate shapes.
 --     takes_rows, opening_of     a batch's rows are taken or not; how it opens: 12, 2, or 0 and how many rows
---     Accepted          the check accepts these bytes, with what their trailer tells
 -- Assumes nothing: these are definitions.
-use Rattle.std.specs.Prelude.{ℕ, Bool, false, true, ◌≡◌, eqb, leb}
-use Rattle.words.specs.Words.{Bytes, both}
-use Rattle.format.specs.Book.{Book, NoBook, Opened, opened}
+use Rattle.std.specs.Prelude.{ℕ, Bool, false, true, eqb, leb}
+use Rattle.words.specs.Words.{both}
+use Rattle.format.specs.Book.{Book, NoBook, Opened}
 use Rattle.format.specs.Outcomes.{Answer, given, refused}
-use Rattle.trailer.specs.declared.Trailer.{Trailer}
-use Rattle.accept.specs.Parts.{check_on}
-use Rattle.accept.specs.declared.Checked.TheVariants.{Sound}
 
 -- at most 64 rows, and a place for each answer
 abbrev pub takes_rows : ℕ → ℕ → Bool
@@ -20,7 +16,3 @@ opening_of rows false NoBook = refused 12
 opening_of rows false (Book κ k xs) = refused 12
 opening_of rows true NoBook = refused 2
 opening_of rows true (Book κ k xs) = given rows 0
-
-pub record Accepted (b : Bytes) : Type 0 where
-  pub trailer : Trailer
-  pub checked : Sound trailer ≡ check_on b (opened b)

@@ -5,55 +5,46 @@
 ghost use Rattle.std.specs.Prelude.{◌≡◌};
 ghost use Rattle.format.specs.Book.{opened};
 ghost use Rattle.answers.specs.Calls.{row_answer};
-ghost use Rattle.shapes.specs.Shapes.{answered, row_of};
-ghost use Rattle.batches.specs.Batches.{Accepted, opening_of, takes_rows};
+ghost use Rattle.shapes.specs.Shapes.{row_of};
+ghost use Rattle.shapes.specs.Endings.{outcome};
+ghost use Rattle.questions.specs.Asking.{Accepted, replied};
+ghost use Rattle.batches.specs.Batches.{opening_of, takes_rows};
 
-use shapes::{Answer, Row};
+use refusals::Refusal;
+use search::{Asked, Reply};
+use shapes::Row;
 
 // Whether a batch of so many rows, with so many places for answers, can be asked of these bytes; then how many rows. Refusals: 12, 2.
-pub fn open_batch(book: &[u8], rows: usize, places: usize) -> Answer
-    ensures { answered result ≡ opening_of rows (takes_rows rows places) (opened book.now) }
+pub fn open_batch(book: &[u8], rows: usize, places: usize) -> Result<usize, Refusal>
+    ensures { outcome result ≡ opening_of rows (takes_rows rows places) (opened book.now) }
 {
     if 64 < rows {
-        return shapes::refuse(12, 0);
+        return Err(Refusal::BadBatch);
     }
     if rows != places {
-        return shapes::refuse(12, 0);
+        return Err(Refusal::BadBatch);
     }
-    let checked = accept::check_book(book);
-    match checked {
-        accept::Checked::Unsound => shapes::refuse(2, 0),
-        accept::Checked::Sound(_) => Answer {
-            code: 0,
-            first: rows,
-            second: 0,
-        },
-    }
+    let Some(_) = accept::check_book(book) else {
+        return Err(Refusal::NoBook);
+    };
+    Ok(rows)
 }
 
-// What a row's question alone would get from a book that the batch's opening has accepted, but for how far it looked. Refusals: 11, 1, 10.
-pub fn answer_row(book: &[u8], questions: &[u8], row: Row) -> Answer
+// What a row's question alone would get from a book that the batch's opening has accepted. Refusals: 11, 1, 10.
+pub fn answer_row(book: &[u8], questions: &[u8], row: Row) -> Result<Reply, Refusal>
     requires { Accepted book.now }
-    ensures { answered result ≡ row_answer (opened book.now) questions.now (row_of row) }
+    ensures { (replied result).answer ≡ row_answer (opened book.now) questions.now (row_of row) }
 {
-    if row.kind == 0 {
-        return shapes::refuse(11, 0);
-    }
-    if 5 < row.kind {
-        return shapes::refuse(11, 0);
-    }
+    let Some(kind) = Asked::from_number(row.kind) else {
+        return Err(Refusal::BadRow);
+    };
     if questions.len() < row.start {
-        return shapes::refuse(11, 0);
+        return Err(Refusal::BadRow);
     }
     if questions.len() - row.start < row.length {
-        return shapes::refuse(11, 0);
+        return Err(Refusal::BadRow);
     }
     let start = row.start;
     let end = start + row.length;
-    let alone = questions::ask(book, row.kind, &questions[start..end]);
-    Answer {
-        code: alone.code,
-        first: alone.first,
-        second: alone.second,
-    }
+    questions::ask(book, kind, &questions[start..end])
 }

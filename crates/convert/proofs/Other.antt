@@ -1,5 +1,4 @@
 -- A book turned into one of another kind, part by part.
---     told-turn         how a table is turned, by the form whose arm was taken
 --     other-parts       two forms of one list's table make books that differ in the table and the mark alone
 --     OtherBook, other-book     what an accepted book tells of the other kind's
 -- Assumes nothing.
@@ -21,15 +20,12 @@ use Rattle.format.proofs.Book.{FitsBy, book-front, book-length, book-opened, boo
 use Rattle.format.proofs.BookKinds.{kind-layout}
 use Rattle.format.proofs.Numbers.{numbers-length}
 use Rattle.numbers.proofs.Parts.{Copied, copied, parts-put, put}
-use Rattle.kinds.specs.Known.{form_by, kind_by}
-use Rattle.kinds.specs.declared.Form.{Form as CodeForm}
-use Rattle.kinds.specs.declared.Kind.{Kind}
 use Rattle.trailer.specs.Trailer.{trailer_in}
 use Rattle.trailer.specs.declared.Trailer.{Trailer}
 use Rattle.turning.specs.Turning.{TurnAsk, turned}
 use Rattle.turning.proofs.Tables.{to-columns as rows-turned, to-rows as columns-turned}
 use Rattle.convert.specs.declared.Turn.{Turn}
-use Rattle.convert.specs.Turns.{OtherAsk, Turns, to-columns, to-rows, turn_for, turn_in}
+use Rattle.convert.specs.Turns.{OtherAsk, Turns, to-columns, to-rows, turn_for}
 
 -- two forms of one list's table
 module _ {f g : Form} {mark other : Bytes} (y : Layout plain f mark) (z : Layout plain g other) (k : ℕ) (xs : List Bytes) where
@@ -74,9 +70,6 @@ module _ {f g : Form} {mark other : Bytes} (y : Layout plain f mark) (z : Layout
         parts-put (entry_part k xs ++ block_part k xs) room r₁ w v n e (e + 16) p₁ l₁ (omega (arith, l₂)) (omega (arith, l₃)) big ∙ ap (λ (i : Bytes). over i room) parts
 
 -- ---- how a table is turned
-
-pub told-turn : (kind : Kind) (m : ℕ) (form arm : CodeForm) → form_by form ≡ form_of (kind_by kind) → form ≡ arm → turn_in (form_by arm) m ≡ turn_for (kind_by kind) m
-told-turn kind m form arm e is = ap (λ (f : CodeForm). turn_in (form_by f) m) (sym is) ∙ ap (λ (f : Form). turn_in f m) e
 
 -- numbers of a table that stands by one form, taken as the other form asks, are the table in that form
 turned-other : {κ μ : BookKind} → Turns κ μ → (b : Bytes) (o : ℕ) (rs : List Node) (m : ℕ) → length rs ≡ m → slice o (o + 12 * m) b ≡ numbers (laid_out (form_of κ) rs)

@@ -7,11 +7,12 @@ ghost use Rattle.format.specs.Book.{book as book_of, names_of};
 ghost use Rattle.format.specs.Outcomes.{over};
 ghost use Rattle.answers.specs.Converting.{converted};
 ghost use Rattle.kinds.specs.Known.{kind_by};
-ghost use Rattle.shapes.specs.Shapes.{written};
-ghost use Rattle.convert.specs.Turns.{OtherAsk, Turns, turn_for, turn_refusal};
+ghost use Rattle.shapes.specs.Endings.{wrote};
+ghost use Rattle.convert.specs.Turns.{OtherAsk, Turns, turn_for};
 
 use kinds::{Form, Kind};
-use shapes::Answer;
+use refusals::Refusal;
+use trailer::Trailer;
 
 // How a table is turned: so many rows of so many numbers, and how far apart the numbers of a row stand.
 #[derive(Clone, Copy)]
@@ -26,8 +27,7 @@ fn turn_to(kind: Kind, m: usize) -> Turn
     requires { m < 65536 }
     ensures { result ≡ turn_for (kind_by kind) m }
 {
-    let form = kinds::form_of(kind);
-    match form {
+    match kind.form() {
         Form::Rows => Turn {
             rows: m,
             inner: 6,
@@ -41,13 +41,15 @@ fn turn_to(kind: Kind, m: usize) -> Turn
     }
 }
 
-// The book of another kind, at the front of the room.
-fn write_other(book: &[u8], t: trailer::Trailer, kind: Kind, room: &mut [u8])
+// The book of another kind, at the front of the room. It stays a function: the compiler would make one of its own for each way, three times as
+// long, and a sixth slower on the way to columns.
+#[inline(never)]
+fn write_other(book: &[u8], t: Trailer, kind: Kind, room: &mut [u8])
     requires { OtherAsk book.now t (kind_by kind) × (length book.now ≤ length room.old) }
     ensures { room.new ≡ over (book_of (kind_by kind) t.block (names_of book.now)) room.old }
 {
-    let nodes = numbers::wide16(t.nodes_at);
-    let m = numbers::wide16(t.nodes);
+    let nodes = usize::from(t.nodes_at);
+    let m = usize::from(t.nodes);
     let total = book.len();
     let end = total - trailer::SIZE;
     let turn = turn_to(kind, m);
@@ -63,9 +65,9 @@ fn write_other(book: &[u8], t: trailer::Trailer, kind: Kind, room: &mut [u8])
     );
     trailer::put_trailer(
         &mut room[end..total],
-        numbers::wide16(t.names),
-        numbers::wide16(t.block),
-        numbers::wide16(t.blocks_at),
+        usize::from(t.names),
+        usize::from(t.block),
+        usize::from(t.blocks_at),
         nodes,
         m,
         total,
@@ -73,41 +75,21 @@ fn write_other(book: &[u8], t: trailer::Trailer, kind: Kind, room: &mut [u8])
     );
 }
 
-// What refuses a sound book of a kind and of so many bytes, where there is room for so many: 2, then 4; 0 where neither does.
-fn refused_by(own: Kind, from: Kind, size: usize, room: usize) -> usize
-    ensures { result ≡ turn_refusal (kind_by own) (kind_by from) size room }
-{
-    let back = kinds::mark_back(own);
-    let wanted = kinds::mark_back(from);
-    if back != wanted {
-        return 2;
-    }
-    if room < size {
-        return 4;
-    }
-    0
-}
-
-// A book of one kind as one of the other, at the front of the room. Refusals: 2, also for a book of another kind; 4.
-pub fn convert(book: &[u8], from: Kind, to: Kind, room: &mut [u8]) -> Answer
+// A book of one kind as one of the other, at the front of the room, and how many bytes it has. Refusals: 2, also for a book of another
+// kind; 4.
+pub fn convert(book: &[u8], from: Kind, to: Kind, room: &mut [u8]) -> Result<usize, Refusal>
     requires { Turns (kind_by from) (kind_by to) }
-    ensures { written result room.new ≡ converted (kind_by from) (kind_by to) book.now room.old }
+    ensures { wrote result room.new ≡ converted (kind_by from) (kind_by to) book.now room.old }
 {
-    let checked = accept::check_book(book);
-    match checked {
-        accept::Checked::Unsound => shapes::refuse(2, 0),
-        accept::Checked::Sound(t) => {
-            let own = t.kind;
-            let refused = refused_by(own, from, book.len(), room.len());
-            if refused != 0 {
-                return shapes::refuse(refused, 0);
-            }
-            write_other(book, t, to, room);
-            Answer {
-                code: 0,
-                first: book.len(),
-                second: 0,
-            }
-        }
+    let Some(t) = accept::check_book(book) else {
+        return Err(Refusal::NoBook);
+    };
+    if t.kind != from {
+        return Err(Refusal::NoBook);
     }
+    if room.len() < book.len() {
+        return Err(Refusal::RoomTooShort);
+    }
+    write_other(book, t, to, room);
+    Ok(book.len())
 }

@@ -1,22 +1,25 @@
 // The check of a node table. It holds no name: the walk over the entries, which comes first, has judged them. What one record says is looked
-// at in `looks`; here is how nodes stand in rows, and the whole table. A node is told by the offset of its first number; the next node
-// stands `stride` bytes further on, and a node's next number `step` bytes.
+// at in `looks`; here is how nodes stand in rows, and the whole table. A node is told by the offset of its first number.
 #![tactic(auto)]
 
 ghost use Rattle.std.specs.Prelude.{◌≡◌};
 ghost use Rattle.standing.specs.Maps.{record_at};
 ghost use Rattle.inspect.specs.Check.{NodeAsk, NodeSays, TableAsk, is_nodes};
 
+use fields::Table;
+
 // The node at an offset, which is no leaf and whose nodes end at `end`; the first one's entry stands at a. Where the entry of its last
 // name stands, and 65,536 times its own offset; or 0, where no node of several names ends there. What led to it and its first name is its
-// row's to ask.
+// row's to ask. As an option of a struct of the two it would go through memory: 160 bytes of stack a level for 128, and 316,380 instructions
+// for 304,603 on 1,800 stations. The table is handed down as its three parts, since a struct goes through memory at every level, too.
 #[cycle(check_node_check_row)]
 fn check_node(book: &[u8], stride: usize, step: usize, o: usize, end: usize, a: usize) -> usize
     requires { NodeAsk book.now stride step o end a }
     ensures { NodeSays book.now stride step o end result }
 {
-    let d = fields::depth(book, o, step);
-    let lo = fields::first(book, o, step);
+    let table = Table { book, stride, step };
+    let d = table.depth(o);
+    let lo = table.first(o);
     check_row(book, stride, step, o, end, lo, d, a)
 }
 
@@ -39,6 +42,7 @@ fn check_row(
     requires { NodeAsk book.now stride step o end a × (lo ≡ (record_at step book.now o).first) × (d ≡ (record_at step book.now o).depth) }
     ensures { NodeSays book.now stride step o end result }
 {
+    let table = Table { book, stride, step };
     let mut first = lo;
     let mut child = o + stride;
     let mut entry = a;
@@ -49,42 +53,42 @@ fn check_row(
     let mut before = entry;
     loop {
         loop {
-            if !looks::is_led_to(book, step, child, first, d, entry) {
+            if !looks::is_led_to(table, child, first, d, entry) {
                 return 0;
             }
-            let mut led = fields::symbol(book, child, step);
-            greatest = numbers::greater(greatest, fields::width(book, child, step));
-            if fields::names(book, child, step) == 1 {
-                if !looks::is_leaf(book, step, child, entry) {
+            let mut led = table.symbol(child);
+            greatest = greatest.max(table.width(child));
+            if table.names(child) == 1 {
+                if !looks::is_leaf(table, child, entry) {
                     return 0;
                 }
                 first += 1;
                 child += stride;
             } else {
-                if !looks::may_be_fork(book, stride, step, o, child, end, d) {
+                if !looks::may_be_fork(table, o, child, end, d) {
                     return 0;
                 }
-                let next = child + fields::nodes(book, child, step) * stride;
+                let next = child + table.nodes(child) * stride;
                 let found = check_node(book, stride, step, child, next, entry);
                 if found == 0 {
                     return 0;
                 }
                 entry = found % 65536;
                 let own = found / 65536;
-                led = fields::symbol(book, own, step);
-                first = fields::first(book, own, step) + fields::names(book, own, step);
-                child = own + fields::nodes(book, own, step) * stride;
+                led = table.symbol(own);
+                first = table.first(own) + table.names(own);
+                child = own + table.nodes(own) * stride;
             }
             if end <= child {
-                if first != fields::first(book, o, step) + fields::names(book, o, step) {
+                if first != table.first(o) + table.names(o) {
                     return 0;
                 }
-                if greatest != fields::width(book, o, step) {
+                if greatest != table.width(o) {
                     return 0;
                 }
                 return entry + 65536 * o;
             }
-            if fields::symbol(book, child, step) == led {
+            if table.symbol(child) == led {
                 return 0;
             }
             before = entry;
@@ -92,7 +96,7 @@ fn check_row(
             if trailer::blocks_at(book) <= entry {
                 return 0;
             }
-            if numbers::wide(book[entry]) != d {
+            if usize::from(book[entry]) != d {
                 break;
             }
         }
@@ -114,24 +118,29 @@ pub fn check_table(book: &[u8], start: usize, end: usize, n: usize) -> bool
     if end - start < fields::SIZE {
         return false;
     }
-    let pace = trailer::pace_of(book);
-    let stride = pace.stride;
-    let step = pace.step;
-    if fields::symbol(book, start, step) != 0 {
+    let table = trailer::table_of(book);
+    if table.symbol(start) != 0 {
         return false;
     }
-    if fields::first(book, start, step) != 0 {
+    if table.first(start) != 0 {
         return false;
     }
-    if fields::names(book, start, step) != n {
+    if table.names(start) != n {
         return false;
     }
-    let nodes = fields::nodes(book, start, step);
+    let nodes = table.nodes(start);
     if start + nodes * fields::SIZE != end {
         return false;
     }
     if n == 1 {
-        return looks::is_leaf(book, step, start, 0);
+        return looks::is_leaf(table, start, 0);
     }
-    check_node(book, stride, step, start, start + nodes * stride, 0) != 0
+    check_node(
+        book,
+        table.stride,
+        table.step,
+        start,
+        start + nodes * table.stride,
+        0,
+    ) != 0
 }

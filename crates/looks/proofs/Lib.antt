@@ -1,3 +1,2 @@
 -- Laws of the looks at a record. No contract cites them.
-pub mod Fields
 pub mod Entry

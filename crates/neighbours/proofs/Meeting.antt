@@ -7,7 +7,7 @@
 --     meet-level, meet-less                       a count that is d, or more, says it
 --     meet-stored                                 by the plain rule each count does, but for 0
 --     meet-just, meet-other, meet-least, meet-fewer     what they share is counted
---     meet-starts, meet-asks, meet-counted, meet-packed     along the block, from a name that is stored whole
+--     meet-starts, meet-asks, meet-counted                  along the block, from a name that is stored whole
 --     whole-own, whole-first                      which name that is
 -- Assumes nothing.
 use Prim.Native.Nat.{ℕ, zero, suc, pred, ◌+◌, ◌-◌, ◌*◌, ◌/◌, ◌%◌, ◌≤◌, ◌<◌}
@@ -32,7 +32,6 @@ use Rattle.symbols.specs.Rules.{by_kind, rule_by}
 use Rattle.symbols.specs.declared.Rule.{Rule as ByRule}
 use Rattle.symbols.specs.declared.Rule.TheVariants.{Plain}
 use Rattle.symbols.proofs.Symbols.{rule-by}
-use Rattle.numbers.proofs.Parts.{packed-high, packed-low}
 use Rattle.streams.specs.Streams.{Here, Known, offset_at, offset_from, rest_at}
 use Rattle.streams.proofs.Here.{Comes, comes, here-fits, here-rises, name-short, words-nth}
 use Rattle.neighbours.specs.Neighbours.{AlongAsk, AlongSays, MeetAsk, Meets, PartSays, StartAsk, shared_before, block_start, whole_before}
@@ -107,19 +106,8 @@ module _ (b : Bytes) (p a i : ℕ) (m : MeetAsk b p a i) where
   unfolding offset_from
   behind = omega (arith, here-rises b 0 i m.some, m.here)
 
-  a-part : (d r : ℕ) → r ≡ a → Meets b a i d → PartSays b a i d r
-  a-part d r e k = record { no_way = λ z. absurd (lt_irrefl 0 (omega (arith, behind))); it-does = λ z. (e, k) }
-
-  -- ---- a place and a count in one number
-
-  near : a < 65536
-  near = omega (arith, meet-reads, m.known.short)
-
-  place : (y : ℕ) → y ≡ a + 65536 * shared_before b i → y % 65536 ≡ a
-  place y ye = ap (λ (n : ℕ). n % 65536) ye ∙ packed-low a (shared_before b i) near
-
-  count : (y : ℕ) → y ≡ a + 65536 * shared_before b i → y / 65536 ≡ shared_before b i
-  count y ye = ap (λ (n : ℕ). n / 65536) ye ∙ packed-high a (shared_before b i) near
+  a-part : (d : ℕ) {r : ℕ} → r ≡ a → Meets b a i d → PartSays b a i d r
+  a-part d e k = record { no_way = λ z. absurd (lt_irrefl 0 (omega (arith, behind))); it-does = λ z. (e, k) }
 
   -- two names share no more than one has
   pub meet-most : shared_before b i ≤ longest
@@ -167,20 +155,20 @@ module _ (b : Bytes) (p a i : ℕ) (m : MeetAsk b p a i) where
       pub meet-stored : (t : ByRule) → t ≡ by_kind (kind_of b) → t ≡ Plain → (c ≡ 0 → ⊥) → (get_or b a 0 ≡ d → ⊥) → PartSays b a i d 0
       meet-stored t te e some other = no_part d (λ q. other (sym ce ∙ stored t te e (omega arith) ∙ q))
 
-      -- ---- or it is counted: y is the entry's place, and 65,536 times what they share
+      -- ---- or it is counted: x is what they share, and r the place that comes back
 
-      module _ (y : ℕ) (ye : y ≡ a + 65536 * shared_before b i) where
-        pub meet-just : c ≡ 0 → y / 65536 ≡ d → PartSays b a i d (y % 65536)
-        meet-just z q = a-part d (y % 65536) (place y ye) (record { low = omega arith; shares = omega (arith, count y ye) })
+      module _ (x : ℕ) (xe : x ≡ shared_before b i) where
+        pub meet-just : {r : ℕ} → r ≡ a → c ≡ 0 → x ≡ d → PartSays b a i d r
+        meet-just re z q = a-part d re (record { low = omega arith; shares = omega arith })
 
-        pub meet-other : (y / 65536 ≡ d → ⊥) → PartSays b a i d 0
-        meet-other q = no_part d (λ e. q (count y ye ∙ e))
+        pub meet-other : (x ≡ d → ⊥) → PartSays b a i d 0
+        meet-other q = no_part d (λ e. q (xe ∙ e))
 
-        pub meet-least : c ≤ d → d ≤ y / 65536 → PartSays b a i d (y % 65536)
-        meet-least l q = a-part d (y % 65536) (place y ye) (record { low = omega arith; shares = omega (arith, count y ye) })
+        pub meet-least : {r : ℕ} → r ≡ a → c ≤ d → d ≤ x → PartSays b a i d r
+        meet-least re l q = a-part d re (record { low = omega arith; shares = omega arith })
 
-        pub meet-fewer : y / 65536 < d → PartSays b a i d 0
-        meet-fewer q = no_part d (λ e. lt_irrefl d (omega (arith, count y ye)))
+        pub meet-fewer : x < d → PartSays b a i d 0
+        meet-fewer q = no_part d (λ e. lt_irrefl d (omega (arith, xe, e)))
 
   -- ---- the names of a block
 
@@ -216,9 +204,6 @@ module _ (b : Bytes) (p a i : ℕ) (m : MeetAsk b p a i) where
   module _ (t r : ByRule) (te : t ≡ by_kind (kind_of b)) (e : t ≡ r) (x : ℕ) (says : AlongSays (rule_by r) b a x) where
     pub meet-counted : x ≡ shared_before b i
     meet-counted = says i m.some m.within m.here ∙ ap (λ (ρ : Rule). shared (word ρ prev) (word ρ name)) (sym (rule-is (kind_of b) t r te e)) ∙ sym meet-is
-
-    pub meet-packed : a + 65536 * x ≡ a + 65536 * shared_before b i
-    meet-packed = ap (λ (n : ℕ). a + 65536 * n) meet-counted
 
 -- ---- which entry is gone along from
 

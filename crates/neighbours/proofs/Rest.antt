@@ -6,14 +6,14 @@
 use Prim.Native.Nat.{ℕ, max, min, ◌+◌, ◌-◌, ◌≤◌, ◌<◌}
 use native.Mathlib.Omega.{arith}
 use mathlib.Core.Path.{◌≡◌, refl, sym, ap, ap₂, ◌∙◌}
-use mathlib.Core.Bool.{Bool, not, true, false}
+use mathlib.Core.Bool.{Bool, true, false}
 use mathlib.Core.List.{List}
 use lib.Dec.{eqb}
 use lib.ListN.{length, get_or, take, drop, length-take, length-drop, length-map}
 use lib.Seq.{drop-drop, get_or-take, get_or-drop, length-take-le}
 use mir.Val.{Fits}
 use mir.Syntax.{w64}
-use borrow.Author.Tests.{eq-eqb, eqb-true, le-ltb, lt-ltb, not-false, not-true}
+use borrow.Author.Tests.{eq-eqb, eqb-true, le-ltb, lt-ltb}
 use Rattle.words.specs.Words.{Bytes, Rule, at, shared, word}
 use Rattle.words.proofs.Lists.{drop-take}
 use Rattle.words.proofs.Words.{false≠true, part_at, shared-le, shared-more, word_at, word-front}
@@ -39,33 +39,31 @@ module _ (ρ : Rule) (b : Bytes) (own end other : ℕ) where
   equal-start k = record { ask = k; within = k.within; upto = omega arith; so_far = omega arith }
 
   module _ (x : ℕ) (e : Equal ρ b own end other x) where
-    pub equal-goes : own + x < end → other + x < length b
-    equal-goes h = e.ask.goes_on x h e.so_far
+    pub equal-goes : x < end - own → other + x < length b
+    equal-goes h = e.ask.goes_on x (omega arith) e.so_far
 
-    pub equal-fits : own + x < end → Fits w64 (other + x)
-    equal-fits h = omega (arith, equal-goes h, e.ask.small)
-
-    part_length : own + x < end → length part ≡ end - own
+    part_length : x < end - own → length part ≡ end - own
     part_length h = length-take-le (end - own) (drop own b) (omega (arith, length-drop own b, e.within))
 
-    own-symbol : own + x < end → at (word ρ part) x ≡ ρ (get_or b (own + x) 0)
+    own-symbol : x < end - own → at (word ρ part) x ≡ ρ (get_or b (own + x) 0)
     own-symbol h = word_at ρ part x (omega (arith, part_length h)) ∙ ap ρ (get_or-take (end - own) (drop own b) x 0 (omega arith) ∙ get_or-drop own b x 0)
 
-    other-symbol : own + x < end → at (word ρ (drop other b)) x ≡ ρ (get_or b (other + x) 0)
+    other-symbol : x < end - own → at (word ρ (drop other b)) x ≡ ρ (get_or b (other + x) 0)
     other-symbol h = word_at ρ (drop other b) x (omega (arith, length-drop other b, equal-goes h)) ∙ ap ρ (get_or-drop other b x 0)
 
-    pub equal-more : own + x < end → (v : Bool) → v ≡ eqb (ρ (get_or b (own + x) 0)) (ρ (get_or b (other + x) 0)) → not v ≡ false → Equal ρ b own end other (x + 1)
-    equal-more h v ve n =
-        let same : at (word ρ part) x ≡ at (word ρ (drop other b)) x = own-symbol h ∙ eqb-true _ _ (sym ve ∙ not-false v n) ∙ sym (other-symbol h) in
-        let more = shared-more (word ρ part) (word ρ (drop other b)) x e.so_far (omega (arith, length-map part ρ, part_length h))
-        (omega (arith, length-map (drop other b) ρ, length-drop other b, equal-goes h)) same in
-        record { ask = e.ask; within = e.within; upto = omega arith; so_far = omega (arith, more) }
+    module _ (h : x < end - own) (v : Bool) (ve : v ≡ eqb (ρ (get_or b (own + x) 0)) (ρ (get_or b (other + x) 0))) where
+      pub equal-more : v ≡ true → Equal ρ b own end other (x + 1)
+      equal-more n =
+          let same : at (word ρ part) x ≡ at (word ρ (drop other b)) x = own-symbol h ∙ eqb-true _ _ (sym ve ∙ n) ∙ sym (other-symbol h) in
+          let more = shared-more (word ρ part) (word ρ (drop other b)) x e.so_far (omega (arith, length-map part ρ, part_length h))
+          (omega (arith, length-map (drop other b) ρ, length-drop other b, equal-goes h)) same in
+          record { ask = e.ask; within = e.within; upto = omega arith; so_far = omega (arith, more) }
 
-    pub equal-parts : own + x < end → (v : Bool) → v ≡ eqb (ρ (get_or b (own + x) 0)) (ρ (get_or b (other + x) 0)) → not v ≡ true → x ≡ shared_parts ρ b own end other
-    equal-parts h v ve n =
-        sym (part_at (word ρ part) (word ρ (drop other b)) x e.so_far (λ q. false≠true (sym (not-true v n) ∙ ve ∙ eq-eqb _ _ (sym (own-symbol h) ∙ q ∙ other-symbol h))))
+      pub equal-parts : v ≡ false → x ≡ shared_parts ρ b own end other
+      equal-parts n =
+          sym (part_at (word ρ part) (word ρ (drop other b)) x e.so_far (λ q. false≠true (sym n ∙ ve ∙ eq-eqb _ _ (sym (own-symbol h) ∙ q ∙ other-symbol h))))
 
-    pub equal-ends : end ≤ own + x → x ≡ shared_parts ρ b own end other
+    pub equal-ends : end - own ≤ x → x ≡ shared_parts ρ b own end other
     equal-ends h =
         omega (arith, e.so_far, e.upto, shared-le (word ρ part) (word ρ (drop other b)), length-map part ρ, length-take (end - own) (drop own b))
 

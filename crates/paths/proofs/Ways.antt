@@ -34,8 +34,7 @@ use Rattle.standing.proofs.Maps.{number-before, number-first, number-on, number_
 use Rattle.descent.proofs.Paths.{halt-end, halt-leaf, halt-other, halt-short, passed-few, passed_on, passed-room, passed-sits, passed_start, taken}
 use Rattle.descent.proofs.Rows.{one_name_lem, one-node, root-sits, seek-end, seek_found, seek-more, seek-some, seek-start}
 use Rattle.paths.specs.Paths.{AtFork, AtNode, DescentSays, SoughtAt, WayOf}
-use Rattle.paths.specs.declared.Way.{Way}
-use Rattle.paths.specs.declared.Way.TheVariants.{Down, Stay}
+use Rattle.std.specs.Prelude.{Option, None, Some}
 
 -- ---- a node by its offset
 
@@ -254,14 +253,14 @@ module _ {b : Bytes} {μ : Map} {q : Bytes} {p : List ℕ} {n o : ℕ} (g : Goin
   pub go-at : AtNode b μ o
   go-at = record { searchable = g.searchable; placed = g.placed; sits = passed-sits (words_in b) g.searchable.rises g.path g.searchable.short }
 
-  pub go-halt : {r : Way} → r ≡ Stay → WayOf b μ (asked_in b q) o r → DescentSays b μ (asked_in b q) p n o
+  pub go-halt : {r : Option ℕ} → r ≡ None → WayOf b μ (asked_in b q) o r → DescentSays b μ (asked_in b q) p n o
   go-halt e w = record {
     placed = g.each;
     ended = g.placed;
     way = record { few = passed-few (words_in b) g.searchable.rises g.path g.searchable.short; path = g.path; halts = rw e at w };
   }
 
-  module _ {c : ℕ} {r : Way} (e : r ≡ Down c) (w : WayOf b μ (asked_in b q) o r) where
+  module _ {c : ℕ} {r : Option ℕ} (e : r ≡ Some c) (w : WayOf b μ (asked_in b q) o r) where
     down : Placed μ c × Taken (words_in b) (asked_in b q) (number_in μ o) (number_in μ c)
     down = rw e at w
 

@@ -1,5 +1,5 @@
 -- What the functions of the way down ask and give. A node is told by its offset; which number it has is the map's to say.
---     table_map              the map of the node table, which starts where the trailer tells, by its other two numbers
+--     table_map, own_map    the map of the node table, which starts where the trailer tells, by its other two numbers; by the struct that has them
 --     AtNode, AtFork        a node; a node of several names
 --     AtRow                 the row of such a node, up to its end, and the part of the book that tells numbers of nodes
 --     SoughtAt              the child that a symbol leads to, or the end of the row
@@ -7,7 +7,7 @@
 --     DescentSays           the nodes that a question passes, by their offsets
 --     OnPath, HighestAt     offsets of nodes, each deeper than the one before; the highest of them that is deep enough
 -- Assumes nothing: these are definitions.
-use Rattle.std.specs.Prelude.{ℕ, suc, ◌+◌, ◌*◌, ◌<◌, ◌≤◌, ◌≡◌, List, map, ◌⊎◌, get_or, length}
+use Rattle.std.specs.Prelude.{ℕ, suc, ◌+◌, ◌*◌, ◌<◌, ◌≤◌, ◌≡◌, List, map, ◌⊎◌, Option, None, Some, get_or, length}
 use Rattle.words.specs.Words.{Bytes}
 use Rattle.format.specs.Kinds.{rule_in}
 use Rattle.descent.specs.Vocabulary.{Descended, Halts, Searchable, Sits, Sought, Taken, node}
@@ -15,11 +15,13 @@ use Rattle.format.specs.Spans.{words_in}
 use Rattle.format.specs.Book.{told}
 use Rattle.standing.specs.Maps.{Map, Placed, Roomy, number_in, record_at}
 use Rattle.fields.specs.Counts.{counts_in}
-use Rattle.paths.specs.declared.Way.{Way}
-use Rattle.paths.specs.declared.Way.TheVariants.{Down, Stay}
+use Rattle.fields.specs.declared.Table.{Table}
 
 abbrev pub table_map : Bytes → ℕ → ℕ → Map
 table_map b stride step = record { start = told b 3; stride = stride; step = step }
+
+abbrev pub own_map : Table → Map
+own_map t = table_map t.book.now t.stride t.step
 
 -- ---- nodes, by their offsets
 
@@ -44,9 +46,10 @@ pub record SoughtAt (b : Bytes) (μ : Map) (o s c : ℕ) : Type 0 where
 
 -- ---- the descent
 
-abbrev pub WayOf : Bytes → Map → List ℕ → ℕ → Way → Type 0
-WayOf b μ q o (Down c) = Placed μ c × Taken (words_in b) q (number_in μ o) (number_in μ c)
-WayOf b μ q o Stay = Halts (words_in b) q (number_in μ o)
+-- to a child, or no further
+abbrev pub WayOf : Bytes → Map → List ℕ → ℕ → Option ℕ → Type 0
+WayOf b μ q o (Some c) = Placed μ c × Taken (words_in b) q (number_in μ o) (number_in μ c)
+WayOf b μ q o None = Halts (words_in b) q (number_in μ o)
 
 -- the first n offsets of p are those of the nodes that q passes, and the last one's is `last`
 pub record DescentSays (b : Bytes) (μ : Map) (q p : List ℕ) (n last : ℕ) : Type 0 where

@@ -1,3 +1,2 @@
--- Laws of how a check ends, and of the questions.
-pub mod Checks
+-- Laws of the questions.
 pub mod Asking

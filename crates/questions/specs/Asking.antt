@@ -1,25 +1,27 @@
--- What the functions ask of each other. An answer as document 01's numbers, and how far the question looked, are in the crate shapes.
---     KindNumber, Asking, Looking     the kind of a question, 1 to 5; that, and that the check accepts these bytes, with what their trailer tells; that, of
---                       a book with names
+-- What the functions ask of each other, and what a question gives.
+--     Accepted, Looking     the check accepts these bytes, with what their trailer tells; that, of a book with names
+--     replied           how a question ended, as document 01's numbers, and how far it looked
 -- Assumes nothing: these are definitions.
-use Rattle.std.specs.Prelude.{ℕ, ◌≤◌, ◌≡◌}
+use Rattle.std.specs.Prelude.{◌≡◌, Some, Result, Ok, Err}
 use Rattle.words.specs.Words.{Bytes}
 use Rattle.format.specs.Book.{opened, told}
-use Rattle.answers.specs.Widths.{last_kind}
+use Rattle.format.specs.Outcomes.{given}
+use Rattle.answers.specs.Counts.{Counted}
 use Rattle.trailer.specs.declared.Trailer.{Trailer}
 use Rattle.accept.specs.Parts.{check_on}
-use Rattle.accept.specs.declared.Checked.TheVariants.{Sound}
+use Rattle.refusals.specs.declared.Refusal.{Refusal}
+use Rattle.search.specs.declared.Reply.{Reply}
+use Rattle.shapes.specs.Endings.{looked_at_nothing}
 
-pub record KindNumber (kind : ℕ) : Type 0 where
-  pub low : 1 ≤ kind
-  pub high : kind ≤ last_kind
-
-pub record Asking (b : Bytes) (kind : ℕ) : Type 0 where
+pub record Accepted (b : Bytes) : Type 0 where
   pub trailer : Trailer
-  pub checked : Sound trailer ≡ check_on b (opened b)
-  pub number : KindNumber kind
+  pub checked : Some trailer ≡ check_on b (opened b)
 
 -- .. of a book with names
-pub record Looking (b : Bytes) (kind : ℕ) : Type 0 where
-  pub asking : Asking b kind
+pub record Looking (b : Bytes) : Type 0 where
+  pub accepted : Accepted b
   pub some : told b 0 ≡ 0 → ⊥
+
+abbrev pub replied : Result Reply Refusal → Counted
+replied (Ok r) = record { answer = given r.first r.second; visits = r.visits; entries = r.entries }
+replied (Err refusal) = looked_at_nothing refusal

@@ -1,18 +1,15 @@
 -- What is noted of the names of a changed book.
---     CommonSays        how many bytes, and how many symbols, two names share
 --     Places, RowSet    three rows have a place for name number j; it is noted there, behind the name prev, and nothing else is
 --     before_of          the name before name number t of some, which stand behind prev
 --     RunAsk            so many names stand behind prev, and the rows have places for them from j on
 --     RunSays, RunPut   they are noted there, and what stood before j is as it was; the last of them is at hand
+--     NoteSet, NoteAsk, NotePut     RowSet, RunAsk and RunPut, of rows that stand in one
 -- The laws are in proofs/. Assumes nothing: these are definitions.
-use Rattle.std.specs.Prelude.{ℕ, zero, suc, ◌+◌, ◌≤◌, ◌<◌, ◌≡◌, List, [], drop, get_or, length, set, take}
+use Rattle.std.specs.Prelude.{ℕ, zero, suc, ◌+◌, ◌≤◌, ◌<◌, ◌≡◌, List, [], drop, get_or, length, set}
 use Rattle.words.specs.Words.{Bytes, Rule, shared, word}
 use Rattle.streams.specs.Streams.{Stream}
-use Rattle.revise.specs.declared.Common.{Common}
-
-pub record CommonSays (ρ : Rule) (before name : Bytes) (r : Common) : Type 0 where
-  pub bytes : r.bytes ≡ shared before name
-  pub symbols : r.symbols ≡ shared (word ρ before) (word ρ name)
+use Rattle.records.specs.Notes.{counts_of, lens_of, shares_of}
+use Rattle.records.specs.declared.Note.{Note}
 
 pub record Places (lens counts shares : List ℕ) (j : ℕ) : Type 0 where
   pub lens-room : j < length lens
@@ -48,9 +45,18 @@ pub record RunSays (ρ : Rule) (prev : Bytes) (zs : List Bytes) (m j : ℕ) (len
   pub shares-told : Told (λ t. shared (word ρ (before_of prev zs t)) (word ρ (get_or zs t []))) m j shares shares'
 
 -- of any names that stand there
-pub record RunPut (ρ : Rule) (b : Bytes) (at : ℕ) (prev : Bytes) (m j : ℕ) (lens counts shares lens' counts' shares' : List ℕ) (next len : ℕ) (name : Bytes) : Type 0 where
-  pub size : length name ≡ 200
-  pub room : len ≤ 200
-  pub onward : (zs : List Bytes) → Stream b at prev zs → m ≤ length zs → Stream b next (take len name) (drop m zs)
-  pub named : (zs : List Bytes) → Stream b at prev zs → m ≤ length zs → take len name ≡ before_of prev zs m
+pub record RunPut (ρ : Rule) (b : Bytes) (at : ℕ) (prev : Bytes) (m j : ℕ) (lens counts shares lens' counts' shares' : List ℕ) (next : ℕ) (name : Bytes) : Type 0 where
+  pub onward : (zs : List Bytes) → Stream b at prev zs → m ≤ length zs → Stream b next name (drop m zs)
+  pub named : (zs : List Bytes) → Stream b at prev zs → m ≤ length zs → name ≡ before_of prev zs m
   pub noted : (zs : List Bytes) → Stream b at prev zs → m ≤ length zs → RunSays ρ prev zs m j lens counts shares lens' counts' shares'
+
+abbrev pub NoteSet : Rule → Bytes → Bytes → ℕ → List Note → List Note → Type 0
+NoteSet ρ prev name j rows rows' =
+    RowSet ρ prev name j (length name) (lens_of rows) (counts_of rows) (shares_of rows) (lens_of rows') (counts_of rows') (shares_of rows')
+
+abbrev pub NoteAsk : Bytes → ℕ → Bytes → ℕ → ℕ → List Note → Type 0
+NoteAsk b at prev m j rows = RunAsk b at prev m j (lens_of rows) (counts_of rows) (shares_of rows)
+
+abbrev pub NotePut : Rule → Bytes → ℕ → Bytes → ℕ → ℕ → List Note → List Note → ℕ → Bytes → Type 0
+NotePut ρ b at prev m j rows rows' next name =
+    RunPut ρ b at prev m j (lens_of rows) (counts_of rows) (shares_of rows) (lens_of rows') (counts_of rows') (shares_of rows') next name

@@ -25,7 +25,7 @@ use Rattle.descent.specs.Vocabulary.{Searchable, Sought, asked, asked_in, from, 
 use Rattle.standing.specs.Maps.{Map, number_in, record_at}
 use Rattle.descent.proofs.Cuts.{exact-here, exact-nowhere, none-wide, range_none, whole-range, whole-width}
 use Rattle.descent.proofs.Rows.{sits-told}
-use Rattle.descent.proofs.Paths.{edge-after, edge-before, fork-child, fork-end, fork-wide, found}
+use Rattle.descent.proofs.Paths.{edge-after, edge-before, fork-child, fork-end, fork-wide}
 use Rattle.format.specs.Spans.{words_in}
 use Rattle.paths.specs.Paths.{AtFork, AtNode, SoughtAt}
 use Rattle.paths.proofs.Ways.{AtOffset, asked-at, asked-length, at_here, here-told, row_before, row_here, row-past}

@@ -1,18 +1,44 @@
 // The five questions, asked of a book that the check has accepted: what was found in its node table (crate `spots`) gives the numbers of
-// each. A node is told by the offset of its first number; the next node stands `stride` bytes further on, and a node's next number `step`
-// bytes.
+// each. A node is told by the offset of its first number.
 #![tactic(auto)]
 
-ghost use Rattle.std.specs.Prelude.{◌≡◌};
+ghost use Rattle.std.specs.Prelude.{MatchOption, ◌<◌, ◌≡◌, ◌≤◌};
 ghost use Rattle.format.specs.Spans.{words_in};
 ghost use Rattle.answers.specs.Questions.{ask, exact, nearest, place, range};
-ghost use Rattle.answers.specs.Widths.{width};
+ghost use Rattle.answers.specs.Widths.{last_kind, width};
 ghost use Rattle.descent.specs.Vocabulary.{asked_in};
-ghost use Rattle.paths.specs.Paths.{table_map};
+ghost use Rattle.paths.specs.Paths.{own_map};
 ghost use Rattle.spots.specs.Spots.{AtSpot, Askable, Looked};
-ghost use Rattle.search.specs.Asks.{KindAsk, pair_of};
+ghost use Rattle.search.specs.Asks.{AnswerAsk, number_of, pair_of, reply_of};
 
-use spots::Spot;
+use fields::Table;
+use spots::{Met, Spot};
+
+// The five kinds of question.
+#[derive(Clone, Copy, PartialEq, Eq)]
+pub enum Asked {
+    Exact,
+    Place,
+    Range,
+    Nearest,
+    Width,
+}
+
+impl Asked {
+    // The kind with a number, 1 to 5 in this order. Other numbers are no kind's.
+    pub fn from_number(number: usize) -> Option<Asked>
+        ensures { MatchOption result (1 ≤ number → last_kind < number) (λ kind. number_of kind ≡ number) }
+    {
+        match number {
+            1 => Some(Asked::Exact),
+            2 => Some(Asked::Place),
+            3 => Some(Asked::Range),
+            4 => Some(Asked::Nearest),
+            5 => Some(Asked::Width),
+            _ => None,
+        }
+    }
+}
 
 // An answer's two numbers, and how far the search looked.
 #[derive(Clone, Copy)]
@@ -23,162 +49,128 @@ pub struct Reply {
     pub entries: usize,
 }
 
+impl Reply {
+    // These two numbers, where that name was reached.
+    fn of(met: Met, first: usize, second: usize) -> Reply
+        ensures { result ≡ reply_of met first second }
+    {
+        Reply {
+            first,
+            second,
+            visits: met.visits,
+            entries: met.entries,
+        }
+    }
+}
+
 // How many names are less than the question, once that node is known. Inside its edge the whole group lies to one side; at its fork the
 // question stands before the first child whose symbol is not below its own, or behind the group.
-fn seat(book: &[u8], stride: usize, step: usize, question: &[u8], spot: Spot) -> usize
-    requires { AtSpot book.now (table_map book.now stride step) question.now spot.node spot.shared spot.symbol }
-    ensures { result ≡ place (asked_in book.now question.now) (words_in book.now) }
+fn seat(table: Table<'_>, question: &[u8], spot: Spot) -> usize
+    requires { AtSpot table.book.now (own_map table) question.now spot.node spot.met.shared spot.met.symbol }
+    ensures { result ≡ place (asked_in table.entry.book.now question.now) (words_in table.entry.book.now) }
 {
     let o = spot.node;
-    let shared = spot.shared;
-    let s = symbols::symbol_at(trailer::rule(book), question, 0, shared);
-    let first = fields::first(book, o, step);
-    let past = first + fields::names(book, o, step);
-    if shared < fields::depth(book, o, step) {
-        if spot.symbol < s {
+    let shared = spot.met.shared;
+    let s = symbols::symbol_at(trailer::rule(table.book), question, 0, shared);
+    let first = table.first(o);
+    let past = first + table.names(o);
+    if shared < table.depth(o) {
+        if spot.met.symbol < s {
             return past;
         }
         return first;
     }
-    let end = o + fields::nodes(book, o, step) * stride;
-    let counts = &book[fields::NODES * step..];
-    let c = paths::seek(book, counts, stride, step, o, end, s);
+    let end = o + table.nodes(o) * table.stride;
+    let c = paths::seek(table, table.part(fields::NODES), o, end, s);
     if c < end {
-        return fields::first(book, c, step);
+        return table.first(c);
     }
     past
 }
 
 // (position, 1) where a name equals the question, else (0, 0).
-fn ask_exact(book: &[u8], stride: usize, step: usize, question: &[u8]) -> Reply
-    requires { Askable book.now stride step }
-    ensures result_value { pair_of result ≡ exact (asked_in book.now question.now) (words_in book.now) }
-    ensures looked { Looked book.now question.now result.visits result.entries }
+fn ask_exact(table: Table<'_>, question: &[u8]) -> Reply
+    requires { Askable table.book.now table.stride table.step }
+    ensures result_value { pair_of result ≡ exact (asked_in table.entry.book.now question.now) (words_in table.entry.book.now) }
+    ensures looked { Looked table.entry.book.now question.now result.visits result.entries }
 {
-    let met = spots::meet(book, stride, step, question);
-    let visits = met.visits;
-    let entries = met.entries;
-    let missed = Reply {
-        first: 0,
-        second: 0,
-        visits,
-        entries,
-    };
+    let met = spots::meet(table, question);
+    let missed = Reply::of(met, 0, 0);
     if met.shared != question.len() {
         return missed;
     }
     if met.shared != met.len {
         return missed;
     }
-    Reply {
-        first: met.position,
-        second: 1,
-        visits,
-        entries,
-    }
+    Reply::of(met, met.position, 1)
 }
 
 // (how many names are less, 0).
-fn ask_place(book: &[u8], stride: usize, step: usize, question: &[u8]) -> Reply
-    requires { Askable book.now stride step }
-    ensures result_value { pair_of result ≡ (place (asked_in book.now question.now) (words_in book.now), 0) }
-    ensures looked { Looked book.now question.now result.visits result.entries }
+fn ask_place(table: Table<'_>, question: &[u8]) -> Reply
+    requires { Askable table.book.now table.stride table.step }
+    ensures result_value { pair_of result ≡ (place (asked_in table.entry.book.now question.now) (words_in table.entry.book.now), 0) }
+    ensures looked { Looked table.entry.book.now question.now result.visits result.entries }
 {
-    let spot = spots::locate(book, stride, step, question);
-    let first = seat(book, stride, step, question, spot);
-    let visits = spot.visits;
-    Reply {
-        first,
-        second: 0,
-        visits,
-        entries: spot.entries,
-    }
+    let spot = spots::locate(table, question);
+    let before = seat(table, question, spot);
+    Reply::of(spot.met, before, 0)
 }
 
 // (the question's place, how many names begin with it).
-fn ask_range(book: &[u8], stride: usize, step: usize, question: &[u8]) -> Reply
-    requires { Askable book.now stride step }
-    ensures result_value { pair_of result ≡ range (asked_in book.now question.now) (words_in book.now) }
-    ensures looked { Looked book.now question.now result.visits result.entries }
+fn ask_range(table: Table<'_>, question: &[u8]) -> Reply
+    requires { Askable table.book.now table.stride table.step }
+    ensures result_value { pair_of result ≡ range (asked_in table.entry.book.now question.now) (words_in table.entry.book.now) }
+    ensures looked { Looked table.entry.book.now question.now result.visits result.entries }
 {
-    let spot = spots::locate(book, stride, step, question);
-    let first = seat(book, stride, step, question, spot);
-    if spot.shared < question.len() {
-        return Reply {
-            first,
-            second: 0,
-            visits: spot.visits,
-            entries: spot.entries,
-        };
+    let spot = spots::locate(table, question);
+    let first = seat(table, question, spot);
+    if spot.met.shared < question.len() {
+        return Reply::of(spot.met, first, 0);
     }
-    let second = fields::names(book, spot.node, step);
-    Reply {
-        first,
-        second,
-        visits: spot.visits,
-        entries: spot.entries,
-    }
+    let second = table.names(spot.node);
+    Reply::of(spot.met, first, second)
 }
 
 // (the position reached, the symbols that its name and the question share).
-fn ask_nearest(book: &[u8], stride: usize, step: usize, question: &[u8]) -> Reply
-    requires { Askable book.now stride step }
-    ensures result_value { pair_of result ≡ nearest (asked_in book.now question.now) (words_in book.now) }
-    ensures looked { Looked book.now question.now result.visits result.entries }
+fn ask_nearest(table: Table<'_>, question: &[u8]) -> Reply
+    requires { Askable table.book.now table.stride table.step }
+    ensures result_value { pair_of result ≡ nearest (asked_in table.entry.book.now question.now) (words_in table.entry.book.now) }
+    ensures looked { Looked table.entry.book.now question.now result.visits result.entries }
 {
-    let met = spots::meet(book, stride, step, question);
-    Reply {
-        first: met.position,
-        second: met.shared,
-        visits: met.visits,
-        entries: met.entries,
-    }
+    let met = spots::meet(table, question);
+    Reply::of(met, met.position, met.shared)
 }
 
 // (the greatest length of the names that begin with the question, 0): of those the node tells it, and no name of the range is read.
-fn ask_width(book: &[u8], stride: usize, step: usize, question: &[u8]) -> Reply
-    requires { Askable book.now stride step }
-    ensures result_value { pair_of result ≡ (width (asked_in book.now question.now) (words_in book.now), 0) }
-    ensures looked { Looked book.now question.now result.visits result.entries }
+fn ask_width(table: Table<'_>, question: &[u8]) -> Reply
+    requires { Askable table.book.now table.stride table.step }
+    ensures result_value { pair_of result ≡ (width (asked_in table.entry.book.now question.now) (words_in table.entry.book.now), 0) }
+    ensures looked { Looked table.entry.book.now question.now result.visits result.entries }
 {
-    let spot = spots::locate(book, stride, step, question);
-    if spot.shared != question.len() {
-        return Reply {
-            first: 0,
-            second: 0,
-            visits: spot.visits,
-            entries: spot.entries,
-        };
+    let spot = spots::locate(table, question);
+    if spot.met.shared != question.len() {
+        return Reply::of(spot.met, 0, 0);
     }
-    Reply {
-        first: fields::width(book, spot.node, step),
-        second: 0,
-        visits: spot.visits,
-        entries: spot.entries,
-    }
+    Reply::of(spot.met, table.width(spot.node), 0)
 }
 
-// A question of a kind by its number, 1 to 5 in this order. Halved first: of five equal tests in a row the compiler would make a table of
-// places to go to.
-pub fn answer(book: &[u8], kind: usize, question: &[u8]) -> Reply
-    requires { KindAsk book.now kind }
-    ensures result_value { pair_of result ≡ ask kind (asked_in book.now question.now) (words_in book.now) }
+// A question of a kind. Two kinds are told from three first: of five equal tests in a row, or of one `match` with five arms, the compiler would
+// make a table of places to go to.
+pub fn answer(book: &[u8], kind: Asked, question: &[u8]) -> Reply
+    requires { AnswerAsk book.now }
+    ensures result_value { pair_of result ≡ ask (number_of kind) (asked_in book.now question.now) (words_in book.now) }
     ensures looked { Looked book.now question.now result.visits result.entries }
 {
-    let pace = trailer::pace_of(book);
-    let stride = pace.stride;
-    let step = pace.step;
-    if kind < 3 {
-        if kind == 1 {
-            return ask_exact(book, stride, step, question);
-        }
-        return ask_place(book, stride, step, question);
+    let table = trailer::table_of(book);
+    if matches!(kind, Asked::Exact | Asked::Place) {
+        return match kind {
+            Asked::Exact => ask_exact(table, question),
+            _ => ask_place(table, question),
+        };
     }
-    if kind == 3 {
-        return ask_range(book, stride, step, question);
+    match kind {
+        Asked::Range => ask_range(table, question),
+        Asked::Nearest => ask_nearest(table, question),
+        _ => ask_width(table, question),
     }
-    if kind == 4 {
-        return ask_nearest(book, stride, step, question);
-    }
-    ask_width(book, stride, step, question)
 }

@@ -1,5 +1,5 @@
 -- The name that is reached, and the node whose names share most.
---     met, near            how the name at a position stands to the question; the same of the name that is reached
+--     met, next, near      how the name at a position stands to the question; its next symbol; the same of the name that is reached
 --     end-..               the last node of the path; the name that is reached; how many nodes were visited
 --     spot                 the highest node that is deep enough is the one with the names that share most
 --     looked               how far the search looked
@@ -12,10 +12,9 @@ use native.Mathlib.Omega.{arith}
 use mathlib.Core.Path.{◌≡◌, ◌∙◌, ap, ap₂, refl, subst, sym}
 use mathlib.Core.Logic.{◌⊎◌}
 use mathlib.Core.List.{List, [], map}
-use lib.ListN.{get_or, length, length-map, take}
-use lib.Seq.{length-take-le}
+use lib.ListN.{get_or, length, length-map}
 use Rattle.words.specs.Rising.{nth}
-use Rattle.words.specs.Words.{Bytes, Rule, at, shared, word}
+use Rattle.words.specs.Words.{Bytes, Rule, Words, at, shared, word}
 use Rattle.words.proofs.Rising.{nth-word}
 use Rattle.format.specs.Kinds.{form_of, kind_of, rule_in}
 use Rattle.symbols.specs.Rules.{by_kind, rule_by}
@@ -28,38 +27,40 @@ use Rattle.standing.specs.Maps.{Map, Placed, map_of, number_in, record_at}
 use Rattle.descent.proofs.Paths.{found, only-reached, passed-deepens, passed-sits, reached-is, visits-are}
 use Rattle.format.specs.Spans.{words_in, words_of}
 use Rattle.format.specs.Book.{names_of, told}
-use Rattle.names.specs.Names.{Named, entries_to}
+use Rattle.names.specs.Names.{entries_to}
 use Rattle.accept.specs.Parts.{Parts}
 use Rattle.standing.proofs.Maps.{map-starts}
 use Rattle.paths.specs.Paths.{DescentSays, HighestAt, OnPath, table_map}
 use Rattle.paths.proofs.Ways.{AtOffset, here-room, here-told, own-rule, path-at}
-use Rattle.spots.specs.Spots.{Askable, AtSpot, Looked, MetSays, NameAsk, NearSays, SpotSays}
+use Rattle.spots.specs.Spots.{Askable, AtSpot, Looked, MetSays, NameAsk, NearSays, NextSays, SpotSays}
 
--- ---- `compare` and `meet`
+-- ---- `compare`
 
--- the front of the array is the name at the position; m symbols of it are the question's
-module _ (b : Bytes) (position : ℕ) (rule : ByRule) (own : rule ≡ by_kind (kind_of b)) {len : ℕ} (q name : Bytes) (n : Named (get_or (names_of b) position []) len name) where
-  name-is : word (rule_by rule) (take (len - 0) name) ≡ nth (words_in b) position
+-- what was read is the name at the position; m symbols of it are the question's
+module _ (b : Bytes) (position : ℕ) (rule : ByRule) (own : rule ≡ by_kind (kind_of b)) (q : Bytes) {name : Bytes} (is : name ≡ get_or (names_of b) position []) where
+  name-is : word (rule_by rule) name ≡ nth (words_in b) position
   unfolding words_of
-  name-is =
-      let z : len - 0 ≡ len = omega arith in
-      ap₂ (λ (ρ : Rule) (i : ℕ). word ρ (take i name)) (own-rule b rule own) z ∙ ap (word (rule_in b)) n.name-is ∙ sym (nth-word (rule_in b) (names_of b) position)
+  name-is = ap₂ word (own-rule b rule own) is ∙ sym (nth-word (rule_in b) (names_of b) position)
 
-  name-size : len ≡ length (nth (words_in b) position)
-  name-size = omega (arith, ap length name-is, length-map (take (len - 0) name) (rule_by rule), length-take-le (len - 0) name (omega (arith, n.room, n.size)))
+  name-size : length name ≡ length (nth (words_in b) position)
+  name-size = sym (length-map name (rule_by rule)) ∙ ap length name-is
 
-  module _ {m : ℕ} (e : m ≡ shared (word (rule_by rule) q) (word (rule_by rule) (take (len - 0) name))) where
+  module _ {m : ℕ} (e : m ≡ shared (word (rule_by rule) q) (word (rule_by rule) name)) where
     both-share : m ≡ shared (asked_in b q) (nth (words_in b) position)
     unfolding asked
     both-share = e ∙ ap₂ shared (ap (λ (ρ : Rule). word ρ q) (own-rule b rule own)) name-is
 
-    pub met : {s : ℕ} → s ≡ at (word (rule_by rule) (take (len - 0) name)) (m - 0) → MetSays (words_in b) (asked_in b q) position m s
-    met f = record { shares = both-share; next = let z : m - 0 ≡ m = omega arith in f ∙ ap₂ at name-is z }
+    pub met : MetSays (words_in b) (asked_in b q) position (length name) m
+    met = record { size = name-size; shares = both-share }
 
-    pub near : Reached (words_in b) (asked_in b q) position → NearSays (words_in b) (asked_in b q) position m len
-    near t = record { there = t; shares = both-share; size = name-size }
+    pub next : {s : ℕ} → s ≡ at (word (rule_by rule) name) (m - 0) → NextSays (words_in b) position m s
+    next f = let z : m - 0 ≡ m = omega arith in f ∙ ap₂ at name-is z
 
--- ---- `reach` and `locate`
+-- it is the name that is reached
+pub near : {ws : Words} {q : List ℕ} {position len m : ℕ} → MetSays ws q position len m → Reached ws q position → NearSays ws q position m len
+near k t = record { there = t; shares = k.shares; size = k.size }
+
+-- ---- `meet` and `locate`
 
 module _ (b q : Bytes) {μ : Map} (s : Searchable (rule_in b) b μ) {p : List ℕ} {n last : ℕ} (t : DescentSays b μ (asked_in b q) p n last) where
   ends : Sits (words_in b) (number_in μ last)
@@ -114,14 +115,14 @@ module _ (b q : Bytes) {μ : Map} (s : Searchable (rule_in b) b μ) {p : List �
       only = λ i h k. only-reached (words_in b) s.rises t.way i h k ∙ sym is;
     }
 
-    pub spot : {m c o : ℕ} → MetSays (words_in b) (asked_in b q) r m c → HighestAt b μ.step p n m o → SpotSays b μ (asked_in b q) o m c
-    spot {m} e h =
+    pub spot : {l m c o : ℕ} → MetSays (words_in b) (asked_in b q) r l m → NextSays (words_in b) r m c → HighestAt b μ.step p n m o → SpotSays b μ (asked_in b q) o m c
+    spot {l} {m} e behind h =
         let g : m ≡ shared (asked_in b q) (nth (words_in b) (reached (asked_in b q) (words_in b))) =
         e.shares ∙ ap (λ (i : ℕ). shared (asked_in b q) (nth (words_in b) i)) is in
         record {
           placed = subst (λ (x : ℕ). Placed μ x) (sym h.is) (t.placed h.index h.within);
           located = record { shares = g; found = found (words_in b) s.rises t.way g (highest h) };
-          next = e.next ∙ ap (λ (i : ℕ). at (nth (words_in b) i) m) is;
+          next = behind ∙ ap (λ (i : ℕ). at (nth (words_in b) i) m) is;
         }
 
 -- the nodes of the way were visited, and the entries up to the name that is reached were read

@@ -1,6 +1,6 @@
 -- What finding a question's place in the node table asks and gives. The way down is `Paths.antt` of `paths`.
 --     NameAsk               the name at a position can be read
---     MetSays               how a name stands to a question
+--     MetSays, NextSays     how a name stands to a question; its next symbol
 --     NearSays              the name that a question reaches, what they share, and its length
 --     SpotSays, AtSpot      the node whose names share most with a question
 --     Askable               what an accepted book with names is to a search, by the map of its node table
@@ -25,10 +25,13 @@ use Rattle.paths.specs.Paths.{table_map}
 abbrev pub NameAsk : Bytes → ℕ → Type 0
 NameAsk b position = PlaceAsk b (told b 1) (told b 2) position
 
--- the name at a position shares m symbols with q, and then comes its symbol s
-pub record MetSays (ws : Words) (q : List ℕ) (position m s : ℕ) : Type 0 where
+-- the name at a position has len symbols, and it shares m with q; s is its symbol behind m
+pub record MetSays (ws : Words) (q : List ℕ) (position len m : ℕ) : Type 0 where
+  pub size : len ≡ length (nth ws position)
   pub shares : m ≡ shared q (nth ws position)
-  pub next : s ≡ at (nth ws position) m
+
+abbrev pub NextSays : Words → ℕ → ℕ → ℕ → Type 0
+NextSays ws position m s = s ≡ at (nth ws position) m
 
 -- the name at a position is the one that q reaches; they share m symbols, and it has len of them
 pub record NearSays (ws : Words) (q : List ℕ) (position m len : ℕ) : Type 0 where

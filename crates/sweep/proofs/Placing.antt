@@ -1,17 +1,16 @@
 -- The walk to the question's place.
 --     Placing               name i is next, at `at`; all before it are less, and the last of them shares m with the question
---     placing-start, placing-fits, placing-few, placing-asks, placing-found, placing-more, placing-done     the loop
+--     placing-start, placing-fits, placing-asks, placing-found, placing-more, placing-done     the loop
 -- Assumes nothing.
 use Prim.Native.Nat.{ℕ, zero, suc, ◌+◌, ◌≤◌, ◌<◌}
-use native.Mathlib.Nat.{lt_irrefl, not-suc-le-zero}
+use native.Mathlib.Nat.{not-suc-le-zero}
 use native.Mathlib.Omega.{arith}
 use mathlib.Core.Path.{◌≡◌, refl, sym, ap, ◌∙◌, subst}
 use mathlib.Core.Bool.{Bool, not, true, false}
 use mathlib.Core.List.{List, []}
 use lib.Dec.{ltb}
 use lib.ListN.{length, get_or, length-map}
-use mir.Val.{Fits}
-use mir.Syntax.{w64}
+use Rattle.std.specs.declared.option.Option.TheVariants.{None, Some}
 use borrow.Author.Tests.{lt-ltb, ltb-false, ltb-true, not-false, not-true}
 use Rattle.words.specs.Rising.{nth}
 use Rattle.words.specs.Words.{Bytes, Words, less, plain, shared, word}
@@ -53,15 +52,8 @@ module _ (b : Bytes) (n : ℕ) (q : Bytes) (at m i : ℕ) (w : Placing b n q at 
   abbrev asked : List ℕ
   asked = word plain q
 
-  pub placing-done : n ≤ i → (s len : ℕ) → SeatSays b q i at s len
-  placing-done h s len =
-      let none : i < length (names_of b) → ⊥ = λ l. lt_irrefl i (omega (arith, w.ask.count)) in
-      record {
-        is = omega (arith, w.low, place-le asked ws, words_count plain b, w.ask.count);
-        here = w.here;
-        shares = λ l. absurd (none l);
-        long = λ l. absurd (none l);
-      }
+  pub placing-done : n ≤ i → SeatSays b q (record { place = n; name = None })
+  placing-done h = record { is = omega (arith, w.low, w.upto, place-le asked ws, words_count plain b, w.ask.count); name = omega (arith, w.ask.count) }
 
   module _ (h : i < n) where
     inside : i < length (names_of b)
@@ -72,9 +64,6 @@ module _ (b : Bytes) (n : ℕ) (q : Bytes) (at m i : ℕ) (w : Placing b n q at 
 
     pub placing-fits : entry_end b at ≤ length b
     placing-fits = come.stands.fits
-
-    pub placing-few : Fits w64 (i + 1)
-    placing-few = omega (arith, w.ask.known.few, w.ask.count)
 
     pub placing-asks : StepAsk b at q m
     placing-asks = record {
@@ -105,12 +94,10 @@ module _ (b : Bytes) (n : ℕ) (q : Bytes) (at m i : ℕ) (w : Placing b n q at 
       by_place : less (nth ws i) asked ≡ ltb i (place asked ws)
       by_place = place_at asked ws w.ask.known.rises i (omega (arith, words_count plain b, inside))
 
-      pub placing-found : not t ≡ true → (len : ℕ) → len ≡ length_at b at → SeatSays b q i at s len
+      pub placing-found : not t ≡ true → (len : ℕ) → len ≡ length_at b at → SeatSays b q (record { place = i; name = Some (record { at = at; shared = s; len = len }) })
       placing-found f len le = record {
         is = omega (arith, w.low, ltb-false i (place asked ws) (sym by_place ∙ sym less-now ∙ not-true t f));
-        here = w.here;
-        shares = λ l. shares-now;
-        long = λ l. le ∙ here-length plain b i at w.ask.known w.here l;
+        name = record { inside = inside; here = w.here; shares = shares-now; long = le ∙ here-length plain b i at w.ask.known w.here inside };
       }
 
       pub placing-more : not t ≡ false → (next : ℕ) → next ≡ entry_end b at → Placing b n q next s (i + 1)

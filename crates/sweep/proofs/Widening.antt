@@ -1,19 +1,17 @@
 -- The walk over the names that begin with the question.
 --     Widening              the names from p, the question's place, up to name i, which is next, at `at`, begin with it, and the greatest
 --                           length of these is `widest`
---     first_fits, first-few, widening-start, widening-fits, widening-few, widening-asks, widening-found, widening-more, widening-done     the loop
+--     first_fits, first-few, widening-start, widening-fits, widening-asks, widening-found, widening-more, widening-done     the loop
 -- Assumes nothing.
 use Prim.Native.Nat.{ℕ, suc, pred, max, ◌+◌, ◌-◌, ◌≤◌, ◌<◌}
 use native.Mathlib.Omega.{arith}
 use mathlib.Core.Path.{◌≡◌, refl, sym, ap, ap₂, ◌∙◌, subst}
 use mathlib.Core.Logic.{◌⊎◌, inl, inr}
-use mathlib.Core.Bool.{Bool, not, true, false}
+use mathlib.Core.Bool.{Bool, true, false}
 use mathlib.Core.List.{List, []}
 use lib.Dec.{eqb, leb, ltb}
 use lib.ListN.{length, get_or, length-map}
-use mir.Val.{Fits}
-use mir.Syntax.{w64}
-use borrow.Author.Tests.{eq-eqb, eqb-true, le-leb, leb-true, lt-ltb, ltb-false, ltb-true, not-false, not-true}
+use borrow.Author.Tests.{eq-eqb, eqb-true, le-leb, leb-true, lt-ltb, ltb-false, ltb-true}
 use Rattle.words.specs.Rising.{nth}
 use Rattle.words.specs.Words.{Bytes, Words, begins, both, plain, shared, word}
 use Rattle.words.proofs.Words.{apart, both_true, shared-comm}
@@ -27,6 +25,7 @@ use Rattle.answers.proofs.Widths.{Wide, width-at, width_some}
 use Rattle.streams.specs.Streams.{Here, entry_end, length_at, prev_of}
 use Rattle.streams.proofs.Here.{Comes, comes, here-fits, here-length, here-next, words_count, words-nth}
 use Rattle.sweep.specs.Sweep.{RangeSays, StepAsk, SweepAsk, WidenAsk, shared_on}
+use Rattle.sweep.specs.declared.Found.{Found}
 use Rattle.sweep.proofs.Counting.{counting-on}
 
 -- word i begins with the question just where it is from the place on and before the range's end
@@ -66,34 +65,34 @@ pub record Widening (b : Bytes) (n : ℕ) (q : Bytes) (p at widest i : ℕ) : Ty
 
 -- ---- the start
 
-module _ (b : Bytes) (n : ℕ) (q : Bytes) (p at m len : ℕ) (k : WidenAsk b n q p at m len) where
-  first-inside : p < length (names_of b)
-  first-inside = omega (arith, k.inside, k.ask.count)
+module _ (b : Bytes) (n : ℕ) (q : Bytes) (p : ℕ) (f : Found) (k : WidenAsk b n q p f) where
+  first-inside : p < n
+  first-inside = omega (arith, k.name.inside, k.ask.count)
 
-  pub first_fits : entry_end b at ≤ length b
-  first_fits = here-fits plain b p at k.ask.known k.seat.here first-inside
+  pub first_fits : entry_end b f.at ≤ length b
+  first_fits = here-fits plain b p f.at k.ask.known k.name.here k.name.inside
 
   pub first-few : p < most_names
-  first-few = omega (arith, first-inside, k.ask.known.few)
+  first-few = omega (arith, k.name.inside, k.ask.known.few)
 
   first-begins : begins (word plain q) (nth (words_of plain b) p) ≡ true
   unfolding begins
   first-begins =
       eq-eqb (shared (word plain q) (nth (words_of plain b) p)) (length (word plain q))
-      (omega (arith, shared-comm (word plain q) (nth (words_of plain b) p), k.seat.shares first-inside, k.whole, length-map q plain))
+      (omega (arith, shared-comm (word plain q) (nth (words_of plain b) p), k.name.shares, k.whole, length-map q plain))
 
-  pub widening-start : (next : ℕ) → next ≡ entry_end b at → Widening b n q p next len (p + 1)
+  pub widening-start : (next : ℕ) → next ≡ entry_end b f.at → Widening b n q p next f.len (p + 1)
   widening-start next ne =
       let one : suc p ≡ p + 1 = omega arith in
-      subst (Widening b n q p next len) one (record {
+      subst (Widening b n q p next f.len) one (record {
         ask = k.ask;
-        is = k.seat.is;
+        is = k.is;
         from = omega arith;
-        upto = k.inside;
-        here = ne ∙ here-next b p at k.seat.here;
-        high = (in-range b q n k.ask p k.inside first-begins).1;
-        low = omega (arith, k.seat.long first-inside, width-at (word plain q) (words_of plain b) p (omega (arith, words_count plain b, first-inside)) first-begins);
-        top = λ j l h. let e : j ≡ p = omega arith in omega (arith, k.seat.long first-inside, ap (λ (x : ℕ). length (nth (words_of plain b) x)) e);
+        upto = first-inside;
+        here = ne ∙ here-next b p f.at k.name.here;
+        high = (in-range b q n k.ask p first-inside first-begins).1;
+        low = omega (arith, k.name.long, width-at (word plain q) (words_of plain b) p (omega (arith, words_count plain b, k.name.inside)) first-begins);
+        top = λ j l h. let e : j ≡ p = omega arith in omega (arith, k.name.long, ap (λ (x : ℕ). length (nth (words_of plain b) x)) e);
       })
 
 -- ---- a turn
@@ -115,8 +114,10 @@ module _ (b : Bytes) (n : ℕ) (q : Bytes) (p at widest i : ℕ) (w : Widening b
           let r = in-range b q n w.ask x.index l x.begun in
           omega (arith, x.is, w.top x.index (omega (arith, w.is, r.0)) (omega (arith, r.1)))
 
-  pub widening-done : n ≤ i → RangeSays b q p (i - p) widest
-  widening-done h = ended (omega (arith, range-le (word plain q) (words_of plain b), words_count plain b, w.ask.count))
+  pub widening-done : n ≤ i → RangeSays b q p (n - p) widest
+  widening-done h =
+      let e : i - p ≡ n - p = omega (arith, w.upto) in
+      subst (λ (m : ℕ). RangeSays b q p m widest) e (ended (omega (arith, range-le (word plain q) (words_of plain b), words_count plain b, w.ask.count)))
 
   module _ (h : i < n) where
     inside : i < length (names_of b)
@@ -127,9 +128,6 @@ module _ (b : Bytes) (n : ℕ) (q : Bytes) (p at widest i : ℕ) (w : Widening b
 
     pub widening-fits : entry_end b at ≤ length b
     widening-fits = come.stands.fits
-
-    pub widening-few : Fits w64 (i + 1)
-    widening-few = omega (arith, inside, w.ask.known.few)
 
     pub widening-asks : StepAsk b at q (length q)
     widening-asks = record { fits = widening-fits; small = w.ask.known.short; upto = omega arith }
@@ -160,14 +158,14 @@ module _ (b : Bytes) (n : ℕ) (q : Bytes) (p at widest i : ℕ) (w : Widening b
           ∙ shared-comm (word plain (get_or (names_of b) i [])) (word plain q) ∙ ap (shared (word plain q)) (sym (words-nth plain b i)) in
           te ∙ ap₂ eqb s (sym (length-map q plain))
 
-      pub widening-found : not t ≡ true → RangeSays b q p (i - p) widest
-      widening-found f = ended (range-ends b q n w.ask i h (omega (arith, w.is, w.from)) (sym begun ∙ not-true t f))
+      pub widening-found : t ≡ false → RangeSays b q p (i - p) widest
+      widening-found f = ended (range-ends b q n w.ask i h (omega (arith, w.is, w.from)) (sym begun ∙ f))
 
-      pub widening-more : not t ≡ false → (len : ℕ) → len ≡ length_at b at → (v : ℕ) → v ≡ max widest len
+      pub widening-more : t ≡ true → (len : ℕ) → len ≡ length_at b at → (v : ℕ) → v ≡ max widest len
           → (next : ℕ) → next ≡ entry_end b at → Widening b n q p next v (i + 1)
       widening-more f len le v ve next ne =
           let one : suc i ≡ i + 1 = omega arith in
-          let g : begins (word plain q) (nth (words_of plain b) i) ≡ true = sym begun ∙ not-false t f in
+          let g : begins (word plain q) (nth (words_of plain b) i) ≡ true = sym begun ∙ f in
           let long : len ≡ length (nth (words_of plain b) i) = le ∙ here-length plain b i at w.ask.known w.here inside in
           subst (Widening b n q p next v) one (record {
             ask = w.ask;

@@ -3,20 +3,21 @@
 --     StepAsk               an entry stands at o, and m is no more than the question has
 --     shared_on, less_on      what the name at o shares with the question, where the name before it shares m; whether it is less, where the
 --                           name before it is
---     SeatSays              the question's place, its entry, what the name there shares and its length
+--     FoundSays             the name at a place: its entry, what it shares with the question, and its length
+--     SeatSays              the question's place, and the name there
 --     WidenAsk              .., and that name begins with the question
 --     RangeSays             the question's place, how many names begin with it, and the greatest length of these
---     pair_of                a reply as two numbers
 -- The laws are in proofs/. Assumes nothing: these are definitions.
-use Rattle.std.specs.Prelude.{ℕ, ◌+◌, ◌≤◌, ◌<◌, ◌≡◌, Bool, true, ltb, drop, get_or, length}
+use Rattle.std.specs.Prelude.{ℕ, ◌+◌, ◌≤◌, ◌<◌, ◌≡◌, Bool, true, ltb, drop, get_or, length, MatchOption}
 use Rattle.words.specs.Rising.{nth}
 use Rattle.words.specs.Words.{Bytes, begins, less, pick, plain, shared, word}
 use Rattle.format.specs.Spans.{words_of}
 use Rattle.format.specs.Book.{longest_book, names_of}
-use Rattle.answers.specs.Questions.{Pair, count, place}
+use Rattle.answers.specs.Questions.{count, place}
 use Rattle.answers.specs.Widths.{width}
 use Rattle.streams.specs.Streams.{Here, Known, entry_end, rest_at}
-use Rattle.sweep.specs.declared.Reply.{Reply}
+use Rattle.sweep.specs.declared.Found.{Found}
+use Rattle.sweep.specs.declared.Seat.{Seat}
 
 pub record SweepAsk (b : Bytes) (n : ℕ) : Type 0 where
   pub known : Known plain b
@@ -34,24 +35,26 @@ shared_on b o q m = pick (ltb m (get_or b o 0)) m (get_or b o 0 + shared (word p
 abbrev pub less_on : Bytes → ℕ → Bytes → ℕ → Bool
 less_on b o q m = pick (ltb m (get_or b o 0)) true (less (word plain (rest_at b o)) (word plain (drop (get_or b o 0) q)))
 
--- p is the question's place, and at is where entry number p stands, or where the entries end
-pub record SeatSays (b q : Bytes) (p at m len : ℕ) : Type 0 where
-  pub is : p ≡ place (word plain q) (words_of plain b)
-  pub here : Here b p at
-  pub shares : p < length (names_of b) → m ≡ shared (nth (words_of plain b) p) (word plain q)
-  pub long : p < length (names_of b) → len ≡ length (nth (words_of plain b) p)
+-- name number p
+pub record FoundSays (b q : Bytes) (p : ℕ) (f : Found) : Type 0 where
+  pub inside : p < length (names_of b)
+  pub here : Here b p f.at
+  pub shares : f.shared ≡ shared (nth (words_of plain b) p) (word plain q)
+  pub long : f.len ≡ length (nth (words_of plain b) p)
 
--- that name begins with the question
-pub record WidenAsk (b : Bytes) (n : ℕ) (q : Bytes) (p at m len : ℕ) : Type 0 where
+-- where the place is no name's, all names are less
+pub record SeatSays (b q : Bytes) (s : Seat) : Type 0 where
+  pub is : s.place ≡ place (word plain q) (words_of plain b)
+  pub name : MatchOption s.name (length (names_of b) ≤ s.place) (FoundSays b q s.place)
+
+-- the name at the question's place, p, begins with the question
+pub record WidenAsk (b : Bytes) (n : ℕ) (q : Bytes) (p : ℕ) (f : Found) : Type 0 where
   pub ask : SweepAsk b n
-  pub seat : SeatSays b q p at m len
-  pub inside : p < n
-  pub whole : m ≡ length q
+  pub is : p ≡ place (word plain q) (words_of plain b)
+  pub name : FoundSays b q p f
+  pub whole : f.shared ≡ length q
 
 pub record RangeSays (b q : Bytes) (p names widest : ℕ) : Type 0 where
   pub is : p ≡ place (word plain q) (words_of plain b)
   pub many : names ≡ count (begins (word plain q)) (words_of plain b)
   pub wide : widest ≡ width (word plain q) (words_of plain b)
-
-abbrev pub pair_of : Reply → Pair
-pair_of r = (r.first, r.second)

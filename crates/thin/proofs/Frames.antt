@@ -3,7 +3,7 @@
 --     frames-top                the deepest of some forks
 --     Closing, closing-..       the loop of `close`: how it begins, what a turn leaves, and how it ends
 -- Assumes nothing.
-use Prim.Native.Nat.{ℕ, suc, ◌-◌, ◌≤◌, ◌<◌}
+use Prim.Native.Nat.{ℕ, suc, ◌+◌, ◌-◌, ◌≤◌, ◌<◌}
 use native.Mathlib.Nat.{lt_irrefl}
 use native.Mathlib.Omega.{arith}
 use mathlib.Core.Path.{◌≡◌, ◌∙◌, ap, refl, subst, sym}
@@ -48,7 +48,6 @@ pub record Closing (b question ds cs ps : Bytes) (forks c limit t first reach : 
   pub fewer : t ≤ forks
   pub left : Open (word plain question) (words_by b) (frames_in ds cs ps t) first (suc c) reach
   pub wide : Wide (words_by b) limit first (suc c)
-  pub small : (first < 65536) × (reach < 65536)
 
 module _ {b question name ds cs ps : Bytes} {forks c limit : ℕ} (a : CloseAsk b question name ds cs ps forks c limit) where
   pub closing-first : Closing b question ds cs ps forks c limit forks c c
@@ -58,18 +57,29 @@ module _ {b question name ds cs ps : Bytes} {forks c limit : ℕ} (a : CloseAsk 
         fewer = omega arith;
         left = open-leaf (word plain question) (words_by b) s.rises s.edge s.inside s.within;
         wide = λ e is. leaf-under (word plain question) (words_by b) s.rises (omega (arith, a.low));
-        small = (s.small, s.small);
       }
 
   module _ {t first reach : ℕ} (k : Closing b question ds cs ps forks c limit t first reach) where
-    pub closing-none : t ≡ 0 → CloseSays b question ds cs ps forks c limit (record { forks = t; first = first; reach = reach })
+    pub closing-none : t ≡ 0 → CloseSays b question ds cs ps forks c limit (record { forks = 0; first = first; reach = reach })
     unfolding frames_in
-    closing-none e = record { fewer = k.fewer; left = k.left; lower = subst (λ (n : ℕ). Lower (frames_in ds cs ps n) limit) (sym e) tt; wide = k.wide; small = k.small }
+    closing-none e = subst (λ (n : ℕ). CloseSays b question ds cs ps forks c limit (record { forks = n; first = first; reach = reach })) e (record {
+      fewer = k.fewer;
+      left = k.left;
+      lower = subst (λ (n : ℕ). Lower (frames_in ds cs ps n) limit) (sym e) tt;
+      wide = k.wide;
+    })
 
     module _ {top d : ℕ} (e : t ≡ suc top) (de : d ≡ get_or ds top 0) where
-      pub closing-left : d < limit → CloseSays b question ds cs ps forks c limit (record { forks = t; first = first; reach = reach })
+      pub closing-left : d < limit → CloseSays b question ds cs ps forks c limit (record { forks = top + 1; first = first; reach = reach })
       unfolding frames_in
-      closing-left h = record { fewer = k.fewer; left = k.left; lower = subst (λ (n : ℕ). Lower (frames_in ds cs ps n) limit) (sym e) (omega arith); wide = k.wide; small = k.small }
+      closing-left h =
+          let one : t ≡ top + 1 = omega (arith, e) in
+          subst (λ (n : ℕ). CloseSays b question ds cs ps forks c limit (record { forks = n; first = first; reach = reach })) one (record {
+            fewer = k.fewer;
+            left = k.left;
+            lower = subst (λ (n : ℕ). Lower (frames_in ds cs ps n) limit) (sym e) (omega arith);
+            wide = k.wide;
+          })
 
       here : Open (word plain question) (words_by b) (frame_at ds cs ps top ∷ frames_in ds cs ps top) first (suc c) reach
       here = subst (λ (fs : List Frame). Open (word plain question) (words_by b) fs first (suc c) reach) (frames-top ds cs ps e) k.left
@@ -80,21 +90,20 @@ module _ {b question name ds cs ps : Bytes} {forks c limit : ℕ} (a : CloseAsk 
           ap (λ (x : List ℕ). at x d) a.standing.name-is
           ∙ subst (λ (n : ℕ). at (nth (words_by b) c) n ≡ at (nth (words_by b) first) n) (sym de) (here.inside c (omega (arith, here.some)) (omega arith)).1
 
-      module _ (h : limit ≤ d) {x : ℕ} (xe : x ≡ get_or cs top 0) (xs : x < 65536) where
-        on : {r : ℕ} → r < 65536 → Open (word plain question) (words_by b) (frames_in ds cs ps top) (get_or cs top 0) (suc c) r → Closing b question ds cs ps forks c limit top x r
-        on {r} l o = record {
+      module _ (h : limit ≤ d) {x : ℕ} (xe : x ≡ get_or cs top 0) where
+        on : {r : ℕ} → Open (word plain question) (words_by b) (frames_in ds cs ps top) (get_or cs top 0) (suc c) r → Closing b question ds cs ps forks c limit top x r
+        on {r} o = record {
           fewer = omega (arith, k.fewer);
           left = subst (λ (n : ℕ). Open (word plain question) (words_by b) (frames_in ds cs ps top) n (suc c) r) (sym xe) o;
           wide = λ i is. subst (λ (n : ℕ). Under (words_by b) i n (suc c)) (sym xe) (open-wide (word plain question) (words_by b) a.standing.rises here (omega arith));
-          small = (xs, l);
         }
 
-        pub closing-on : {p r : ℕ} → p ≡ get_or ps top 0 → p < 65536 → Ends (word plain question) (word plain name) d reach p r → Closing b question ds cs ps forks c limit top x r
-        closing-on {p} {r} pe pl (in-it f is) =
+        pub closing-on : {p r : ℕ} → p ≡ get_or ps top 0 → Ends (word plain question) (word plain name) d reach p r → Closing b question ds cs ps forks c limit top x r
+        closing-on {p} {r} pe (in-it f is) =
             subst (λ (n : ℕ). Closing b question ds cs ps forks c limit top x n) (sym is)
-            (on k.small.1 (close-in (word plain question) (words_by b) a.standing.rises here
+            (on (close-in (word plain question) (words_by b) a.standing.rises here
             (subst (Fits (word plain question) (nth (words_by b) first)) de (record { long = f.long; same = sym same ∙ f.same }))))
-        closing-on {p} {r} pe pl (not_in f is) =
+        closing-on {p} {r} pe (not_in f is) =
             subst (λ (n : ℕ). Closing b question ds cs ps forks c limit top x n) (sym (is ∙ pe))
-            (on (omega (arith, pe)) (close-by (word plain question) (words_by b) a.standing.rises here
+            (on (close-by (word plain question) (words_by b) a.standing.rises here
             (λ g. let i = subst (Fits (word plain question) (nth (words_by b) first)) (sym de) g in f (record { long = i.long; same = same ∙ i.same }))))

@@ -1,9 +1,8 @@
 -- One name more comes in.
---     top-none, top-says, top-is, top-not     whether the deepest fork has a depth
+--     top-none, top-says, top-is              whether the deepest fork has a depth
 --     frames-kept, frames-count     forks keep their numbers where others are stored; how many they are
 --     grow-close                what the forks that end ask
 --     grow-child, grow-push     what has ended is a child of the deepest fork, or of a fork that opens
---     ends-small                a number of two bytes
 -- Assumes nothing.
 use Prim.Native.Nat.{ℕ, pred, suc, zero, ◌+◌, ◌-◌, ◌≤◌, ◌<◌}
 use native.Mathlib.Nat.{lt_irrefl}
@@ -17,7 +16,7 @@ use lib.Seq.{get_or-set_other, get_or-set_same}
 use borrow.Author.Tests.{eqb-false, eqb-true}
 use Rattle.words.specs.Words.{Bytes, at, plain, shared, word}
 use Rattle.words.specs.Rising.{nth}
-use Rattle.words.proofs.Words.{false≠true, shared-comm, shared-le}
+use Rattle.words.proofs.Words.{shared-comm, shared-le}
 use Rattle.thin.specs.Edges.{Edge, Fits, Frame, Inside, Lower, Open}
 use Rattle.thin.specs.Frames.{CloseAsk, CloseSays, Ends, GrowAsk, GrowSays, TopSays, frames_in, in-it, not_in, place_count, words_by}
 use Rattle.thin.specs.declared.Closed.{Closed}
@@ -38,13 +37,9 @@ top-says ds t h n d de = go (eqb d h) refl
     go true e = (omega (arith, n), ap (λ (i : ℕ). get_or ds i 0) (sym there) ∙ sym de ∙ eqb-true d h e)
     go false e = λ l i. eqb-false d h e (de ∙ ap (λ (j : ℕ). get_or ds j 0) there ∙ i)
 
--- .. as it was tested
-pub top-is : (ds : List ℕ) (t h : ℕ) (r : Bool) → r ≡ true → TopSays ds t h r → (1 ≤ t) × (get_or ds (t - 1) 0 ≡ h)
-top-is ds t h true e s = let there : t - 1 ≡ pred t = omega arith in (omega (arith, s.0), ap (λ (i : ℕ). get_or ds i 0) there ∙ s.1)
-top-is ds t h false e s = absurd (false≠true e)
-
-pub top-not : (ds : List ℕ) (t h : ℕ) (r : Bool) → r ≡ false → TopSays ds t h r → TopSays ds t h false
-top-not ds t h r e s = subst (TopSays ds t h) e s
+-- .. where it has
+pub top-is : (ds : List ℕ) (t h : ℕ) → TopSays ds t h true → (1 ≤ t) × (get_or ds (t - 1) 0 ≡ h)
+top-is ds t h s = let there : t - 1 ≡ pred t = omega arith in (omega (arith, s.0), ap (λ (i : ℕ). get_or ds i 0) there ∙ s.1)
 
 -- ---- the rows
 
@@ -67,10 +62,6 @@ frames-count ds cs ps zero = refl
 frames-count ds cs ps (suc t) = ap suc (frames-count ds cs ps t)
 
 -- ---- `grow`
-
-pub ends-small : {q x : List ℕ} {d child before r : ℕ} → child < 65536 → before < 65536 → Ends q x d child before r → r < 65536
-ends-small c b (in-it f is) = omega arith
-ends-small c b (not_in f is) = omega arith
 
 module _ {b question name ds cs ps : Bytes} {forks c h : ℕ} (a : GrowAsk b question name ds cs ps forks c h) where
   abbrev q : List ℕ

@@ -3,3 +3,4 @@ pub mod Edges
 pub mod Frames
 pub mod Growing
 pub mod Reaching
+pub mod Forks

@@ -60,7 +60,6 @@ pub record CloseSays (b question ds cs ps : Bytes) (forks c limit : ℕ) (r : Cl
   pub left : Open (word plain question) (words_by b) (frames_in ds cs ps r.forks) r.first (suc c) r.reach
   pub lower : Lower (frames_in ds cs ps r.forks) limit
   pub wide : Wide (words_by b) limit r.first (suc c)
-  pub small : (r.first < 65536) × (r.reach < 65536)
 
 abbrev pub TopSays : List ℕ → ℕ → ℕ → Bool → Type 0
 TopSays ds t h true = (0 < t) × (get_or ds (pred t) 0 ≡ h)

@@ -4,24 +4,40 @@
 #![tactic(auto)]
 
 ghost use Rattle.std.specs.Prelude.{◌≤◌, length, ◌≡◌};
-ghost use Rattle.words.specs.Words.{plain, shared, word};
+ghost use Rattle.words.specs.Words.{plain, word};
 ghost use Rattle.answers.specs.Questions.{reached};
-ghost use Rattle.streams.specs.Streams.{EntryAt, name_at};
-ghost use Rattle.thin.specs.Frames.{CloseAsk, CloseSays, Ends, GrowAsk, GrowSays, ReachAsk, TopSays, words_by};
+ghost use Rattle.thin.specs.Frames.{Ends, ReachAsk, TopSays, words_by};
+ghost use Rattle.thin.specs.Forks.{CloseIn, ClosedIn, GrowIn, GrownIn, depths_of};
 
+use entries::{Cursor, Name};
 use symbols::Rule;
+
+// An open fork: its depth, its first name, and the name where the question ends in its finished children.
+#[derive(Clone, Copy)]
+pub struct Fork {
+    depth: u8,
+    first: u16,
+    reach: u16,
+}
 
 // What is left when forks have ended: how many are still open; the first name of what ended last, and where the question ends in it.
 #[derive(Clone, Copy)]
 pub struct Closed {
-    pub forks: usize,
-    pub first: usize,
-    pub reach: usize,
+    forks: usize,
+    first: u16,
+    reach: u16,
+}
+
+// The right edge: the forks that are open, the deepest last. No two have the same depth, so there is a place for each depth.
+#[derive(Drop)]
+pub struct RightEdge {
+    forks: [Fork; 200],
+    count: usize,
 }
 
 // Where the question ends in a fork of that depth: in its open child, where the name at hand, which is of that child, goes the question's way
 // there; else where it did before.
-fn ends(question: &[u8], name: &[u8], d: usize, child: usize, before: usize) -> usize
+fn ends(question: &[u8], name: &[u8], d: usize, child: u16, before: u16) -> u16
     ensures { Ends (word plain question.now) (word plain name.now) d child before result }
 {
     if question.len() < d {
@@ -34,101 +50,83 @@ fn ends(question: &[u8], name: &[u8], d: usize, child: usize, before: usize) -> 
     child
 }
 
-// The forks whose depth is not below `limit` end with the last name, which is at hand: the deepest first, each with its open child.
-fn close(
-    book: &[u8],
-    question: &[u8],
-    name: &[u8],
-    depths: &[u8],
-    firsts: &[u16],
-    reaches: &[u16],
-    forks: usize,
-    last: usize,
-    limit: usize,
-) -> Closed
-    requires { CloseAsk book.now question.now name.now depths.now firsts.now reaches.now forks last limit }
-    ensures { CloseSays book.now question.now depths.now firsts.now reaches.now forks last limit result }
-{
-    let mut t = forks;
-    let mut first = last;
-    let mut reach = last;
-    while 0 < t {
-        let top = t - 1;
-        let d = numbers::wide(depths[top]);
-        if d < limit {
-            return Closed {
-                forks: t,
-                first,
-                reach,
-            };
+impl RightEdge {
+    // No fork is open yet.
+    fn new() -> Self
+        ensures { (result.count ≡ 0) × (length result.forks ≡ 200) }
+    {
+        let none = Fork {
+            depth: 0,
+            first: 0,
+            reach: 0,
+        };
+        RightEdge {
+            forks: [none; 200],
+            count: 0,
         }
-        let before = numbers::wide16(reaches[top]);
-        reach = ends(question, name, d, reach, before);
-        first = numbers::wide16(firsts[top]);
-        t = top;
     }
-    Closed {
-        forks: t,
-        first,
-        reach,
-    }
-}
 
-// Whether there is an open fork, and the deepest of t has depth h.
-fn is_deepest(depths: &[u8], t: usize, h: usize) -> bool
-    requires { t ≤ length depths.now }
-    ensures { TopSays depths.now t h result }
-{
-    if t == 0 {
-        return false;
+    // The forks whose depth is not below `limit` end with the last name, which is at hand: the deepest first, each with its open child. The book is
+    // handed down for what is promised of its names alone.
+    fn close(&self, book: &[u8], question: &[u8], name: &[u8], last: u16, limit: usize) -> Closed
+        requires { CloseIn book.now question.now name.now self.now last limit }
+        ensures { ClosedIn book.now question.now self.now last limit result }
+    {
+        let mut first = last;
+        let mut reach = last;
+        for top in (0..self.count).rev() {
+            let fork = self.forks[top];
+            let d = usize::from(fork.depth);
+            if d < limit {
+                return Closed {
+                    forks: top + 1,
+                    first,
+                    reach,
+                };
+            }
+            reach = ends(question, name, d, reach, fork.reach);
+            first = fork.first;
+        }
+        Closed {
+            forks: 0,
+            first,
+            reach,
+        }
     }
-    numbers::wide(depths[t - 1]) == h
-}
 
-// The name behind the one at hand comes in, which shares h symbols with it: forks that are deeper end, and what has ended is a child of the fork of
-// depth h, which is the deepest one that is left, or is opened. How many are open then.
-fn grow(
-    book: &[u8],
-    question: &[u8],
-    name: &[u8],
-    depths: &mut [u8],
-    firsts: &mut [u16],
-    reaches: &mut [u16],
-    forks: usize,
-    last: usize,
-    h: usize,
-) -> usize
-    requires { GrowAsk book.now question.now name.now depths.old firsts.old reaches.old forks last h }
-    ensures { GrowSays book.now question.now depths.new firsts.new reaches.new last result }
-{
-    let limit = h + 1;
-    let ended = close(
-        book, question, name, depths, firsts, reaches, forks, last, limit,
-    );
-    let t = ended.forks;
-    if is_deepest(depths, t, h) {
-        let top = t - 1;
-        let before = numbers::wide16(reaches[top]);
-        reaches[top] = ends(question, name, h, ended.reach, before) as u16;
-        return t;
+    // Whether there is an open fork, and the deepest one has depth h. By hand, and not by `last` and `is_some_and`: what the closure says of a fork
+    // is not seen where its answer is promised.
+    fn is_deepest(&self, h: usize) -> bool
+        requires { self.now.count ≤ length self.now.forks }
+        ensures { TopSays (depths_of self.now.forks) self.now.count h result }
+    {
+        if self.count == 0 {
+            return false;
+        }
+        usize::from(self.forks[self.count - 1].depth) == h
     }
-    let first = ended.first;
-    depths[t] = h as u8;
-    firsts[t] = first as u16;
-    reaches[t] = ends(question, name, h, ended.reach, first) as u16;
-    t + 1
-}
 
-// What the name at hand shares with the next one, whose entry stands at an offset: what the entry counts, and what its rest goes on with. A block's
-// first name counts none, and has all of it in its rest.
-fn shared_ahead(book: &[u8], at: usize, name: &[u8]) -> usize
-    requires { EntryAt book.now at (length name.now) }
-    ensures { result ≡ shared (word plain name.now) (word plain (name_at book.now at name.now)) }
-{
-    let c = numbers::wide(book[at]);
-    let from = at + 2;
-    let to = from + numbers::wide(book[at + 1]);
-    c + symbols::shared_symbols(Rule::Plain, &name[c..], &book[from..to])
+    // The name behind the one at hand comes in, which shares h symbols with it: forks that are deeper end, and what has ended is a child of the
+    // fork of depth h, which is the deepest one that is left, or is opened.
+    fn grow(&mut self, book: &[u8], question: &[u8], name: &[u8], last: u16, h: usize)
+        requires { GrowIn book.now question.now name.now self.old last h }
+        ensures { GrownIn book.now question.now self.new last }
+    {
+        let ended = self.close(book, question, name, last, h + 1);
+        self.count = ended.forks;
+        if self.is_deepest(h) {
+            let top = ended.forks - 1;
+            let before = self.forks[top].reach;
+            self.forks[top].reach = ends(question, name, h, ended.reach, before);
+            return;
+        }
+        self.forks[ended.forks] = Fork {
+            depth: h as u8,
+            first: ended.first,
+            reach: ends(question, name, h, ended.reach, ended.first),
+        };
+        self.count = ended.forks + 1;
+    }
 }
 
 // The position that a question reaches in the tree of the names, of which there are n, and one at least. Each entry is read once.
@@ -136,44 +134,15 @@ pub fn reach(book: &[u8], n: usize, question: &[u8]) -> usize
     requires { ReachAsk book.now n }
     ensures { result ≡ reached (word plain question.now) (words_by book.now) }
 {
-    let mut depths = [0u8; 200];
-    let mut firsts = [0u16; 200];
-    let mut reaches = [0u16; 200];
-    let mut name = [0u8; 200];
-    let mut forks: usize = 0;
-    let front = entries::Cursor { at: 0 };
-    let whole = front.next(book, &mut name, 0);
-    let mut len = whole.len;
-    let mut cur = whole.next;
-    let mut i: usize = 1;
-    while i < n {
-        let h = shared_ahead(book, cur.at, &name[0..len]);
-        forks = grow(
-            book,
-            question,
-            &name[0..len],
-            &mut depths,
-            &mut firsts,
-            &mut reaches,
-            forks,
-            i - 1,
-            h,
-        );
-        let ahead = cur.next(book, &mut name, len);
-        len = ahead.len;
-        cur = ahead.next;
-        i += 1;
+    let mut edge = RightEdge::new();
+    let mut name = Name::new();
+    let front = Cursor { at: 0 };
+    let mut cur = front.read(book, &mut name);
+    for i in 1..n {
+        let h = neighbours::shared_ahead(Rule::Plain, book, cur.at, name.bytes());
+        edge.grow(book, question, name.bytes(), (i - 1) as u16, h);
+        cur = cur.read(book, &mut name);
     }
-    let ended = close(
-        book,
-        question,
-        &name[0..len],
-        &depths,
-        &firsts,
-        &reaches,
-        forks,
-        i - 1,
-        0,
-    );
-    ended.reach
+    let ended = edge.close(book, question, name.bytes(), (n - 1) as u16, 0);
+    usize::from(ended.reach)
 }
