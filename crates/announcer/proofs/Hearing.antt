@@ -1,6 +1,6 @@
 -- What one batch of three rows tells of a book and a text.
 --     none, asked       an answer row before it; its rows
---     hears             what stands in its answer rows afterwards
+--     hears, hears-nothing      what stands in its answer rows afterwards; where the bytes are no book
 -- Assumes nothing.
 use Prim.Native.Nat.{ℕ, ◌≤◌}
 use native.Mathlib.Nat.{lt_irrefl}
@@ -40,30 +40,31 @@ module _ (s text : Bytes) where
   whole : (kind : ℕ) → question kind s (take (length text) text) ≡ question kind s text
   whole kind = ap (question kind s) (take-length text)
 
-  pub hears : (a : Answer) (zs : List Answer) → batched a zs ≡ batch s text (map row_of (asked (length text))) (map answered (replicate 3 none))
-      → Hears s text (record { code = a.code; names = (get_or zs 0 none).second; exact = get_or zs 1 none; range = get_or zs 2 none })
+  pub hears : (a : Answer) (zs : List Answer) → batched a zs ≡ batch s text (map row_of (asked (length text))) (map answered (replicate 3 none)) → a.code ≡ 0
+      → Hears s text (record { names = (get_or zs 0 none).second; exact = get_or zs 1 none; range = get_or zs 2 none })
   unfolding batch batch_of check check_of
-  hears a zs e = go (opened s) refl e
+  hears a zs e z = go (opened s) refl e
     where
       -- the answer rows, read as numbers
       at : (i : ℕ) (b : Batched) → batched a zs ≡ b → answered (get_or zs i none) ≡ get_or b.rows i (answered none)
       at i b f = sym (get_or-map answered zs i none) ∙ ap (λ (x : Batched). get_or x.rows i (answered none)) f
 
       go : (o : Opened) → opened s ≡ o → batched a zs ≡ batch_of text (map row_of (asked (length text))) (map answered (replicate 3 none)) o
-          → Hears s text (record { code = a.code; names = (get_or zs 0 none).second; exact = get_or zs 1 none; range = get_or zs 2 none })
-      go NoBook p f =
-          let code : a.code ≡ 2 = ap (λ (b : Batched). b.answer.code) f in
-          let no : a.code ≡ 0 → ⊥ = λ z. lt_irrefl 0 (omega arith) in
-          record {
-            told = record { code = code ∙ sym (ap (λ (o : Opened). (check_of o).code) p); names = λ z. absurd (no z) };
-            exact = λ z. absurd (no z);
-            range = λ z. absurd (no z);
-          }
+          → Hears s text (record { names = (get_or zs 0 none).second; exact = get_or zs 1 none; range = get_or zs 2 none })
+      go NoBook p f = let code : a.code ≡ 2 = ap (λ (b : Batched). b.answer.code) f in absurd (lt_irrefl 0 (omega arith))
       go (Book κ k xs) p f =
           let sound : (check s).code ≡ 0 = ap (λ (o : Opened). (check_of o).code) p in
           let every : (get_or zs 0 none).second ≡ (question 3 s []).second = ap (λ (n : Numbers). n.second) (at 0 _ f ∙ gets _ p 3 0 (omega arith) (omega arith) (omega arith)) in
           record {
-            told = record { code = ap (λ (b : Batched). b.answer.code) f ∙ sym sound; names = λ z. every ∙ whole-range s sound };
-            exact = λ z. at 1 _ f ∙ gets _ p 1 (length text) (omega arith) (omega arith) (omega arith) ∙ whole 1;
-            range = λ z. at 2 _ f ∙ gets _ p 3 (length text) (omega arith) (omega arith) (omega arith) ∙ whole 3;
+            told = record { sound = sound; names = every ∙ whole-range s sound };
+            exact = at 1 _ f ∙ gets _ p 1 (length text) (omega arith) (omega arith) (omega arith) ∙ whole 1;
+            range = at 2 _ f ∙ gets _ p 3 (length text) (omega arith) (omega arith) (omega arith) ∙ whole 3;
           }
+
+  pub hears-nothing : (a : Answer) (zs : List Answer) → batched a zs ≡ batch s text (map row_of (asked (length text))) (map answered (replicate 3 none)) → (a.code ≡ 0 → ⊥) → (check s).code ≡ 0 → ⊥
+  unfolding batch batch_of check check_of
+  hears-nothing a zs e n = go (opened s) e
+    where
+      go : (o : Opened) → batched a zs ≡ batch_of text (map row_of (asked (length text))) (map answered (replicate 3 none)) o → (check_of o).code ≡ 0 → ⊥
+      go NoBook f z = lt_irrefl 0 (omega arith)
+      go (Book κ k xs) f z = n (ap (λ (b : Batched). b.answer.code) f)

@@ -5,8 +5,9 @@
 --     said-refused, said-accepts, said-answered      the same three, by what `open_batch` says of its answer
 -- Assumes nothing.
 use Prim.Native.Nat.{ℕ}
+use native.Mathlib.Nat.{lt_irrefl}
 use native.Mathlib.Omega.{arith}
-use mathlib.Core.Path.{◌≡◌, ◌∙◌, ap, ap₂, refl, subst, sym}
+use mathlib.Core.Path.{◌≡◌, ◌∙◌, ap, ap₂, refl, sym}
 use mathlib.Core.Bool.{Bool, false, true}
 use mathlib.Core.List.{List, map, map-map}
 use lib.Dec.{eqb, leb}
@@ -23,7 +24,11 @@ use Rattle.shapes.specs.Shapes.{answered, row_of, batched}
 use Rattle.shapes.specs.declared.Answer.{Answer}
 use Rattle.shapes.specs.declared.Row.{Row}
 use Rattle.shapes.proofs.Shapes.{answer_of}
-use Rattle.batches.specs.Batches.{Accepted, opening_of, takes_rows}
+use Rattle.refusals.specs.Refusals.{said}
+use Rattle.refusals.specs.declared.Refusal.{Refusal}
+use Rattle.refusals.proofs.Codes.{refusal-some}
+use Rattle.questions.specs.Asking.{Accepted}
+use Rattle.batches.specs.Batches.{opening_of, takes_rows}
 use Rattle.book.proofs.Filling.{filled, filled-all}
 
 -- ---- the rows
@@ -98,17 +103,22 @@ module _ (b buffer : Bytes) (rows : List Row) (old : List Answer) where
       go true NoBook q e = absurd (omega (arith, e))
       go true (Book κ k xs) q e = ap₂ (λ (n : ℕ) (l : List Numbers). record { answer = given n 0; rows = l }) (sym (length-map rows row_of)) (answers (Book κ k xs) q)
 
-  -- ---- the same, by what `open_batch` says of its answer r
+  -- ---- the same, by what `open_batch` says
 
-  module _ (r : Answer) (said : answered r ≡ opening_of (length rows) (takes_rows (length rows) (length old)) (opened b)) where
-    opens-so : r ≡ opening b rows old
-    opens-so = ap answer_of said
+  pub said-refused : (e : Refusal) → said e ≡ opening_of (length rows) (takes_rows (length rows) (length old)) (opened b) → {r : Answer} → answered r ≡ said e → batched r old ≡ outcome
+  said-refused e is {r} f =
+      let opens-so : r ≡ opening b rows old = ap answer_of (f ∙ is) in
+      let some : (opening b rows old).code ≡ 0 → ⊥ = λ z. lt_irrefl 0 (omega (arith, refusal-some e, ap (λ (a : Numbers). a.code) is)) in
+      ap (λ (a : Answer). batched a old) opens-so ∙ batch-refused some
 
-    pub said-refused : (r.code ≡ 0 → ⊥) → batched r old ≡ outcome
-    said-refused = subst (λ (a : Answer). (a.code ≡ 0 → ⊥) → batched a old ≡ outcome) (sym opens-so) batch-refused
+  module _ {n : ℕ} (is : given n 0 ≡ opening_of (length rows) (takes_rows (length rows) (length old)) (opened b)) where
+    taken : (opening b rows old).code ≡ 0
+    taken = sym (ap (λ (a : Numbers). a.code) is)
 
-    pub said-accepts : r.code ≡ 0 → Accepted b × (length rows ≡ length old)
-    said-accepts = subst (λ (a : Answer). a.code ≡ 0 → Accepted b × (length rows ≡ length old)) (sym opens-so) opening-accepts
+    pub said-accepts : Accepted b × (length rows ≡ length old)
+    said-accepts = opening-accepts taken
 
-    pub said-answered : r.code ≡ 0 → batched r (filled (turned b buffer rows) old (length rows)) ≡ outcome
-    said-answered = subst (λ (a : Answer). a.code ≡ 0 → batched a (filled (turned b buffer rows) old (length rows)) ≡ outcome) (sym opens-so) batch-answered
+    pub said-answered : {r : Answer} → answered r ≡ given n 0 → batched r (filled (turned b buffer rows) old (length rows)) ≡ outcome
+    said-answered {r} f =
+        let opens-so : r ≡ opening b rows old = ap answer_of (f ∙ is) in
+        ap (λ (a : Answer). batched a (filled (turned b buffer rows) old (length rows))) opens-so ∙ batch-answered taken

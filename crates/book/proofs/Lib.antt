@@ -6,3 +6,4 @@ pub mod Salvaging
 pub mod Merging
 pub mod Walking
 pub mod Front
+pub mod Arms

@@ -1,6 +1,6 @@
 -- How the calls over two lists end, by the ways that they go.
 --     judged-read       judging has shown that both lists read well
---     merge-refused, head-refused     it has refused one of them
+--     bad-some, merge-refused, head-refused     it has refused one of them, which has a number
 --     step-second, step-first, step-within, step-fits     the part that a head names: in the second list, in the first; it is there
 -- Assumes nothing.
 use Prim.Native.Nat.{ℕ, ◌+◌, ◌-◌, ◌^◌, ◌≤◌, ◌<◌}
@@ -16,7 +16,12 @@ use mir.Val.{Fits}
 use Rattle.words.specs.Words.{Bytes, pick, plain}
 use Rattle.format.specs.Alone.{BothRead}
 use Rattle.format.specs.Merging.{merged}
-use Rattle.format.specs.Outcomes.{Answer as Numbers}
+use native.Mathlib.Nat.{lt_irrefl}
+use Rattle.format.specs.Outcomes.{Answer as Numbers, given}
+use Rattle.judging.specs.Ends.{bad_list}
+use Rattle.judging.specs.declared.Unread.{Unread}
+use Rattle.judging.specs.declared.Unread.TheVariants.{First as InFirst, Second as InSecond}
+use Rattle.refusals.proofs.Codes.{refusal-some}
 use Rattle.answers.specs.Heads.{Head as Place, head_of, part_of}
 use Rattle.answers.specs.Merging.{judge_lists, merge_lists, put_names}
 use Rattle.answers.proofs.Heads.{head-bad, head-within, list_of}
@@ -26,22 +31,27 @@ use Rattle.shapes.specs.Shapes.{answered, written}
 use Rattle.shapes.specs.declared.Answer.{Answer}
 use Rattle.shapes.specs.declared.Head.{Head}
 
-module _ (s t : Bytes) {r : Answer} (e : answered r ≡ judge_lists s t) where
-  code_is : r.code ≡ (judge_lists s t).code
-  code_is = ap (λ (a : Numbers). a.code) e
+-- what `judge_both` says of a list that is refused
+bad-some : (u : Unread) → (bad_list u).code ≡ 0 → ⊥
+bad-some (InFirst e) z = lt_irrefl 0 (omega (arith, refusal-some e))
+bad-some (InSecond e) z = lt_irrefl 0 (omega (arith, refusal-some e))
 
-  pub judged-read : r.code ≡ 0 → BothRead s t
-  judged-read z = judged-sound s t (sym code_is ∙ z)
+module _ (s t : Bytes) where
+  pub judged-read : given 0 0 ≡ judge_lists s t → BothRead s t
+  judged-read e = judged-sound s t (sym (ap (λ (a : Numbers). a.code) e))
 
-  module _ (n : r.code ≡ 0 → ⊥) where
-    pub merge-refused : (room : Bytes) → written r room ≡ merge_lists s t room
+  module _ (u : Unread) (e : bad_list u ≡ judge_lists s t) where
+    refused : (judge_lists s t).code ≡ 0 → ⊥
+    refused z = bad-some u (ap (λ (a : Numbers). a.code) e ∙ z)
+
+    pub merge-refused : (room : Bytes) {r : Answer} → answered r ≡ bad_list u → written r room ≡ merge_lists s t room
     unfolding merge_lists
-    merge-refused room =
-        ap (λ (a : Numbers). record { answer = a; room = room }) e
-        ∙ sym (judged-bad s t (λ z. n (code_is ∙ z)) (λ a. record { answer = a; room = room }) (λ xs ys. put_names room (merged plain xs ys)))
+    merge-refused room f =
+        ap (λ (a : Numbers). record { answer = a; room = room }) (f ∙ e)
+        ∙ sym (judged-bad s t refused (λ a. record { answer = a; room = room }) (λ xs ys. put_names room (merged plain xs ys)))
 
     pub head-refused : (i j : ℕ) {h : Place} → h ≡ (1, 0, 0) → h ≡ head_of s t i j
-    head-refused i j f = f ∙ sym (head-bad s t i j (λ z. n (code_is ∙ z)))
+    head-refused i j f = f ∙ sym (head-bad s t i j refused)
 
 -- ---- the part that a head names
 

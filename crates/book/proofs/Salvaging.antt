@@ -11,17 +11,23 @@ use lib.Dec.{eqb, leb}
 use lib.ListN.{get_or-map, get_or, length, length-map}
 use borrow.Author.Tests.{eq-eqb, eqb-true}
 use Rattle.words.specs.Words.{Bytes, pick}
-use Rattle.format.specs.Outcomes.{Written, given, over, refused}
+use Rattle.format.specs.Outcomes.{Answer as Numbers, Written, given, over, refused}
 use Rattle.format.specs.Salvage.{Block, Broken, mapped}
 use Rattle.answers.specs.Salvage.{Salvaged, card_blocks, reported, salvage, saved_records}
 use Rattle.answers.proofs.Salvage.{salvage-by, salvage_by}
-use Rattle.shapes.specs.Shapes.{written}
+use native.Mathlib.Nat.{lt_irrefl}
+use Rattle.std.proofs.Common.{Ok, Err}
+use Rattle.refusals.specs.Refusals.{said}
+use Rattle.refusals.specs.declared.Refusal.{Refusal}
+use Rattle.refusals.proofs.Codes.{refusal-some}
+use Rattle.shapes.specs.Shapes.{answered}
 use Rattle.shapes.specs.Salvage.{kept_row, salvaged}
 use Rattle.shapes.proofs.Salvage.{kept_of}
 use Rattle.shapes.specs.declared.Answer.{Answer}
 use Rattle.shapes.specs.declared.Kept.{Kept}
 use Rattle.cards.specs.Cards.{CardBlockAsk}
-use Rattle.salvage.specs.Saving.{saved_of}
+use Rattle.salvage.specs.Saving.{saved_of, shown_saved}
+use Rattle.salvage.specs.declared.Saved.{Saved}
 use Rattle.book.proofs.Filling.{filled, filled-all}
 
 abbrev pub turned_block : Bytes → ℕ → Kept
@@ -52,47 +58,52 @@ module _ (s room : Bytes) (old : List Kept) where
   unfolding saved_of
   saved-is m e f p q r = rw (p, q, r) refl
 
-  module _ (a : Answer) (after : Bytes) (said : written a after ≡ saved_of s (length old) room) where
-    had : (m e f : Bool) → mapped s ≡ m → as_many ≡ e → fits ≡ f → written a after ≡ saves m e f
-    had m e f p q r = said ∙ saved-is m e f p q r
+  module _ {w : Written} (said-so : w ≡ saved_of s (length old) room) where
+    had : (m e f : Bool) → mapped s ≡ m → as_many ≡ e → fits ≡ f → w ≡ saves m e f
+    had m e f p q r = said-so ∙ saved-is m e f p q r
 
-    pub salvage-refused : (a.code ≡ 0 → ⊥) → salvaged a after old ≡ salvage s room (map kept_row old)
-    salvage-refused ne = go (mapped s) as_many fits refl refl refl
+    refused-so : (w.answer.code ≡ 0 → ⊥) → leaves w (map kept_row old) ≡ salvage s room (map kept_row old)
+    refused-so ne = go (mapped s) as_many fits refl refl refl
       where
-        go : (m e f : Bool) → mapped s ≡ m → as_many ≡ e → fits ≡ f → salvaged a after old ≡ salvage s room (map kept_row old)
+        go : (m e f : Bool) → mapped s ≡ m → as_many ≡ e → fits ≡ f → leaves w (map kept_row old) ≡ salvage s room (map kept_row old)
         go false e f p q r = ap (λ (w : Written). leaves w (map kept_row old)) (had false e f p q r) ∙ sym (outcome-is false e f p q r)
         go true false f p q r = ap (λ (w : Written). leaves w (map kept_row old)) (had true false f p q r) ∙ sym (outcome-is true false f p q r)
         go true true false p q r = ap (λ (w : Written). leaves w (map kept_row old)) (had true true false p q r) ∙ sym (outcome-is true true false p q r)
         go true true true p q r = absurd (ne (ap (λ (w : Written). w.answer.code) (had true true true p q r)))
 
-    module _ (z : a.code ≡ 0) where
-      -- a refusal has another code
-      nonzero : (w : Written) → written a after ≡ w → (w.answer.code ≡ 0 → ⊥) → ⊥
-      nonzero w e h = h (sym (ap (λ (v : Written). v.answer.code) e) ∙ z)
+  pub salvage-refused : (e : Refusal) {after : Bytes} → shown_saved (Err e) after ≡ saved_of s (length old) room → {a : Answer} → answered a ≡ said e
+      → salvaged a after old ≡ salvage s room (map kept_row old)
+  salvage-refused e {after} is f =
+      ap (λ (x : Numbers). record { answer = x; room = after; rows = map kept_row old }) f ∙ refused-so is (λ z. lt_irrefl 0 (omega (arith, refusal-some e)))
 
-      pub salvage-accepts : (mapped s ≡ true) × (length old ≡ length (card_blocks s)) × (fits ≡ true)
-      salvage-accepts = go (mapped s) as_many fits refl refl refl
-        where
-          go : (m e f : Bool) → mapped s ≡ m → as_many ≡ e → fits ≡ f → (mapped s ≡ true) × (length old ≡ length (card_blocks s)) × (fits ≡ true)
-          go false e f p q r = absurd (nonzero _ (had false e f p q r) (λ h. omega arith))
-          go true false f p q r = absurd (nonzero _ (had true false f p q r) (λ h. omega arith))
-          go true true false p q r = absurd (nonzero _ (had true true false p q r) (λ h. omega arith))
-          go true true true p q r = (p, eqb-true (length old) (length (card_blocks s)) q, r)
+  module _ (saved : Saved) {after : Bytes} (is : shown_saved (Ok saved) after ≡ saved_of s (length old) room) where
+    -- a refusal has another code
+    nonzero : (w : Written) → shown_saved (Ok saved) after ≡ w → (w.answer.code ≡ 0 → ⊥) → ⊥
+    nonzero w e h = h (sym (ap (λ (v : Written). v.answer.code) e))
 
-      pub salvage-asks : (i : ℕ) → i < length old → CardBlockAsk s i
-      salvage-asks i h = record { map = salvage-accepts.0; within = omega (arith, salvage-accepts.1) }
+    pub salvage-accepts : (mapped s ≡ true) × (length old ≡ length (card_blocks s)) × (fits ≡ true)
+    salvage-accepts = go (mapped s) as_many fits refl refl refl
+      where
+        go : (m e f : Bool) → mapped s ≡ m → as_many ≡ e → fits ≡ f → (mapped s ≡ true) × (length old ≡ length (card_blocks s)) × (fits ≡ true)
+        go false e f p q r = absurd (nonzero _ (had is false e f p q r) (λ h. omega arith))
+        go true false f p q r = absurd (nonzero _ (had is true false f p q r) (λ h. omega arith))
+        go true true false p q r = absurd (nonzero _ (had is true true false p q r) (λ h. omega arith))
+        go true true true p q r = (p, eqb-true (length old) (length (card_blocks s)) q, r)
 
-      rows_are : filled (turned_block s) old (length old) ≡ map (λ (b : Block). kept_of (reported b)) (card_blocks s)
-      rows_are =
-          let new : List Kept = map (λ (b : Block). kept_of (reported b)) (card_blocks s) in
-          let long : length new ≡ length old = length-map (card_blocks s) (λ (b : Block). kept_of (reported b)) ∙ sym salvage-accepts.1 in
-          ap (filled (turned_block s) old) (sym long) ∙ filled-all (turned_block s) old (kept_of (reported Broken)) new long (λ i lt. sym (get_or-map (λ (b : Block). kept_of (reported b)) (card_blocks s) i Broken))
+    pub salvage-asks : (i : ℕ) → i < length old → CardBlockAsk s i
+    salvage-asks i h = record { map = salvage-accepts.0; within = omega (arith, salvage-accepts.1) }
 
-      pub salvage-done : salvaged a after (filled (turned_block s) old (length old)) ≡ salvage s room (map kept_row old)
-      salvage-done =
-          let p = salvage-accepts.0 in
-          let q : as_many ≡ true = eq-eqb (length old) (length (card_blocks s)) salvage-accepts.1 in
-          let r = salvage-accepts.2 in
-          ap (λ (w : Written). leaves w (map kept_row (filled (turned_block s) old (length old)))) (had true true true p q r)
-          ∙ ap (leaves (saves true true true)) (ap (map kept_row) rows_are ∙ map-map kept_row (λ (b : Block). kept_of (reported b)) (card_blocks s))
-          ∙ sym (outcome-is true true true p q r)
+    rows_are : filled (turned_block s) old (length old) ≡ map (λ (b : Block). kept_of (reported b)) (card_blocks s)
+    rows_are =
+        let new : List Kept = map (λ (b : Block). kept_of (reported b)) (card_blocks s) in
+        let long : length new ≡ length old = length-map (card_blocks s) (λ (b : Block). kept_of (reported b)) ∙ sym salvage-accepts.1 in
+        ap (filled (turned_block s) old) (sym long) ∙ filled-all (turned_block s) old (kept_of (reported Broken)) new long (λ i lt. sym (get_or-map (λ (b : Block). kept_of (reported b)) (card_blocks s) i Broken))
+
+    pub salvage-done : salvaged (record { code = 0; first = saved.size; second = 0 }) after (filled (turned_block s) old (length old)) ≡ salvage s room (map kept_row old)
+    salvage-done =
+        let p = salvage-accepts.0 in
+        let q : as_many ≡ true = eq-eqb (length old) (length (card_blocks s)) salvage-accepts.1 in
+        let r = salvage-accepts.2 in
+        ap (λ (w : Written). leaves w (map kept_row (filled (turned_block s) old (length old)))) (had is true true true p q r)
+        ∙ ap (leaves (saves true true true)) (ap (map kept_row) rows_are ∙ map-map kept_row (λ (b : Block). kept_of (reported b)) (card_blocks s))
+        ∙ sym (outcome-is true true true p q r)

@@ -14,22 +14,28 @@ ghost use Rattle.answers.specs.Salvage.{salvage as salvage_of};
 ghost use Rattle.shapes.specs.Heads.{headed, lent_part};
 ghost use Rattle.shapes.specs.Salvage.{kept_row, salvaged};
 ghost use Rattle.shapes.specs.Shapes.{answered, batched, counted, row_of, written};
+ghost use Rattle.shapes.specs.Endings.{wrote};
+ghost use Rattle.judging.specs.Ends.{bad_list};
+ghost use Rattle.questions.specs.Asking.{replied};
 
+use judging::Unread;
 use kinds::Kind;
+use refusals::Refusal;
+use search::{Asked, Reply};
 pub use shapes::{Answer, Counted, Head, Kept, Row};
 
 // Builds the book of a list with blocks of so many names, at the front of the room. Refusals: 8; record by record 5, 6, 7; 9; 4.
 pub fn book_build(list: &[u8], block: usize, room: &mut [u8]) -> Answer
     ensures { written result room.new ≡ build PlainBook list.now block room.old }
 {
-    build::build_list(Kind::Plain, list, block, room)
+    Answer::from(build::build_list(Kind::Plain, list, block, room))
 }
 
 // Builds the folded book, in which capital and small letters are one symbol: 6 is also given for names that are equal once folded.
 pub fn book_build_folded(list: &[u8], block: usize, room: &mut [u8]) -> Answer
     ensures { written result room.new ≡ build FoldedBook list.now block room.old }
 {
-    build::build_list(Kind::Folded, list, block, room)
+    Answer::from(build::build_list(Kind::Folded, list, block, room))
 }
 
 // The book by columns of a plain book: the same names in blocks of the same size, and the node table field by field. Refusals: 2, also for a
@@ -37,52 +43,66 @@ pub fn book_build_folded(list: &[u8], block: usize, room: &mut [u8]) -> Answer
 pub fn book_to_columns(book: &[u8], room: &mut [u8]) -> Answer
     ensures { written result room.new ≡ converted PlainBook ColumnBook book.now room.old }
 {
-    convert::convert(book, Kind::Plain, Kind::Columns, room)
+    Answer::from(convert::convert(book, Kind::Plain, Kind::Columns, room))
 }
 
 // The plain book of a book by columns. Refusals: 2, also for a book of another kind than by columns; 4.
 pub fn book_from_columns(book: &[u8], room: &mut [u8]) -> Answer
     ensures { written result room.new ≡ converted ColumnBook PlainBook book.now room.old }
 {
-    convert::convert(book, Kind::Columns, Kind::Plain, room)
+    Answer::from(convert::convert(book, Kind::Columns, Kind::Plain, room))
 }
 
 // Whether bytes are a book: then how many names it has, in blocks of how many. Refusal: 2.
 pub fn book_check(book: &[u8]) -> Answer
     ensures { answered result ≡ check book.now }
 {
-    if !accept::is_book(book) {
-        return shapes::refuse(2, 0);
-    }
-    let t = trailer::read(book);
+    let Some(t) = accept::check_book(book) else {
+        return Answer::from(Refusal::NoBook);
+    };
     Answer {
         code: 0,
-        first: numbers::wide16(t.names),
-        second: numbers::wide16(t.block),
+        first: usize::from(t.names),
+        second: usize::from(t.block),
     }
+}
+
+// The name at a position of a book, at the front of the room, and how many bytes it has.
+fn read_name(book: &[u8], position: usize, room: &mut [u8]) -> Result<usize, Refusal>
+    ensures { wrote result room.new ≡ read_back book.now position room.old }
+{
+    let Some(t) = accept::check_book(book) else {
+        return Err(Refusal::NoBook);
+    };
+    if usize::from(t.names) <= position {
+        return Err(Refusal::NoSuchPosition(0));
+    }
+    let Some(len) = names::put_name(book, t, position, room) else {
+        return Err(Refusal::RoomTooShort);
+    };
+    Ok(len)
 }
 
 // The name at a position of a book, at the front of the room. Refusals: 2, 3, 4.
 pub fn book_read(book: &[u8], position: usize, room: &mut [u8]) -> Answer
     ensures { written result room.new ≡ read_back book.now position room.old }
 {
-    let checked = accept::check_book(book);
-    match checked {
-        accept::Checked::Unsound => shapes::refuse(2, 0),
-        accept::Checked::Sound(t) => {
-            if numbers::wide16(t.names) <= position {
-                return shapes::refuse(3, 0);
-            }
-            let len = names::put_name(book, t, position, room);
-            if len == 0 {
-                return shapes::refuse(4, 0);
-            }
-            Answer {
-                code: 0,
-                first: len,
-                second: 0,
-            }
-        }
+    Answer::from(read_name(book, position, room))
+}
+
+// How a question ended, as a call's numbers.
+fn counted_of(ending: Result<Reply, Refusal>) -> Counted
+    ensures { counted result ≡ replied ending }
+{
+    match ending {
+        Ok(reply) => Counted {
+            code: 0,
+            first: reply.first,
+            second: reply.second,
+            visits: reply.visits,
+            entries: reply.entries,
+        },
+        Err(refusal) => Counted::from(refusal),
     }
 }
 
@@ -90,35 +110,49 @@ pub fn book_read(book: &[u8], position: usize, room: &mut [u8]) -> Answer
 pub fn book_exact(book: &[u8], question: &[u8]) -> Counted
     ensures { counted result ≡ counted_question 1 book.now question.now }
 {
-    questions::ask_alone(book, 1, question)
+    counted_of(questions::ask_alone(book, Asked::Exact, question))
 }
 
 // How many names are less than the question. Refusals: 2, 1.
 pub fn book_place(book: &[u8], question: &[u8]) -> Counted
     ensures { counted result ≡ counted_question 2 book.now question.now }
 {
-    questions::ask_alone(book, 2, question)
+    counted_of(questions::ask_alone(book, Asked::Place, question))
 }
 
 // The question's place, and how many names begin with it. Refusals: 2, 1.
 pub fn book_range(book: &[u8], question: &[u8]) -> Counted
     ensures { counted result ≡ counted_question 3 book.now question.now }
 {
-    questions::ask_alone(book, 3, question)
+    counted_of(questions::ask_alone(book, Asked::Range, question))
 }
 
 // The position of a name that is as near as any, and what can be lit of the leading bytes that it shares with the question. Refusals: 2, 1, 10.
 pub fn book_nearest(book: &[u8], question: &[u8]) -> Counted
     ensures { counted result ≡ counted_question 4 book.now question.now }
 {
-    questions::ask_alone(book, 4, question)
+    counted_of(questions::ask_alone(book, Asked::Nearest, question))
 }
 
 // The greatest length of the names that begin with the question; 0 where none does. Refusals: 2, 1.
 pub fn book_width(book: &[u8], question: &[u8]) -> Counted
     ensures { counted result ≡ counted_question 5 book.now question.now }
 {
-    questions::ask_alone(book, 5, question)
+    counted_of(questions::ask_alone(book, Asked::Width, question))
+}
+
+// How a row's question ended, as the row's numbers, which do not tell how far it looked.
+fn answer_of(ending: Result<Reply, Refusal>) -> Answer
+    ensures { answered result ≡ (replied ending).answer }
+{
+    match ending {
+        Ok(reply) => Answer {
+            code: 0,
+            first: reply.first,
+            second: reply.second,
+        },
+        Err(refusal) => Answer::from(refusal),
+    }
 }
 
 // As many answers as rows, each what its row's question alone would get. Refusals: 12, 2; for each row 11, 1, 10, and the others go on.
@@ -126,43 +160,64 @@ pub fn book_batch(book: &[u8], questions: &[u8], rows: &[Row], answers: &mut [An
     ensures { batched result answers.new ≡ batch book.now questions.now (map row_of rows.now) (map answered answers.old) }
 {
     let opening = batches::open_batch(book, rows.len(), answers.len());
-    if opening.code != 0 {
-        return opening;
+    if let Err(refusal) = opening {
+        return Answer::from(refusal);
     }
-    let mut i = 0;
-    while i < rows.len() {
-        answers[i] = batches::answer_row(book, questions, rows[i]);
-        i += 1;
+    for (i, row) in rows.iter().enumerate() {
+        answers[i] = answer_of(batches::answer_row(book, questions, *row));
     }
-    opening
+    Answer::from(opening)
+}
+
+// Which of two lists does not read well, as a call's numbers: why, with the record's number, and the list's.
+fn unread_answer(unread: Unread) -> Answer
+    ensures { answered result ≡ bad_list unread }
+{
+    match unread {
+        Unread::First(refusal) => Answer {
+            code: refusal.code(),
+            first: refusal.beside(),
+            second: 1,
+        },
+        Unread::Second(refusal) => Answer {
+            code: refusal.code(),
+            first: refusal.beside(),
+            second: 2,
+        },
+    }
 }
 
 // Whether two lists can be merged: both read well. Refusals, with the record's number and the list's: 5, 6 of the first, then of the second.
 pub fn list_judge(first: &[u8], second: &[u8]) -> Answer
     ensures { answered result ≡ judge_lists first.now second.now }
 {
-    judging::judge_both(first, second)
+    match judging::judge_both(first, second) {
+        Ok(()) => Answer {
+            code: 0,
+            first: 0,
+            second: 0,
+        },
+        Err(unread) => unread_answer(unread),
+    }
 }
 
 // The names of two lists in one, a name in both once, at the front of the room. Refusals: 5, 6 of either list; 7; 4.
 pub fn list_merge(first: &[u8], second: &[u8], room: &mut [u8]) -> Answer
     ensures { written result room.new ≡ merge_lists first.now second.now room.old }
 {
-    let judged = judging::judge_both(first, second);
-    if judged.code != 0 {
-        return judged;
+    if let Err(unread) = judging::judge_both(first, second) {
+        return unread_answer(unread);
     }
-    merge::merge_judged(first, second, room)
+    Answer::from(merge::merge_judged(first, second, room))
 }
 
 // The lesser of the heads of two lists, of which so many records have been passed, by its list and its place there. Linear in both lists.
 pub fn list_head(first: &[u8], second: &[u8], passed_first: usize, passed_second: usize) -> Head
     ensures { headed result ≡ head_of first.now second.now passed_first passed_second }
 {
-    let judged = judging::judge_both(first, second);
-    if judged.code != 0 {
+    let Ok(()) = judging::judge_both(first, second) else {
         return heads::no_head();
-    }
+    };
     heads::head_judged(first, second, passed_first, passed_second)
 }
 
@@ -190,20 +245,16 @@ pub fn list_step<'a>(
 pub fn book_salvage(data: &[u8], room: &mut [u8], report: &mut [Kept]) -> Answer
     ensures { salvaged result room.new report.new ≡ salvage_of «data».now room.old (map kept_row report.old) }
 {
-    let saved = salvage::save_names(data, report.len(), room);
-    let notes = saved.notes;
-    let answer = Answer {
-        code: saved.code,
+    let saved = match salvage::save_names(data, report.len(), room) {
+        Ok(saved) => saved,
+        Err(refusal) => return Answer::from(refusal),
+    };
+    for (i, row) in report.iter_mut().enumerate() {
+        *row = cards::row_of(data, &saved.notes, i);
+    }
+    Answer {
+        code: 0,
         first: saved.size,
         second: 0,
-    };
-    if answer.code != 0 {
-        return answer;
     }
-    let mut i = 0;
-    while i < report.len() {
-        report[i] = cards::row_of(data, &notes, i);
-        i += 1;
-    }
-    answer
 }
