@@ -1,82 +1,51 @@
 // The walk over a file of cases, the same for all calls. Nothing is taken on trust: whatever the file holds, the program is safe and ends.
-ghost use Rattle.std.specs.Prelude.{◌<◌, length, IfOk};
-ghost use Rattle.cases.specs.Places.{CasePlaced};
+ghost use Rattle.std.specs.Prelude.{◌≡◌, length, IfSome};
+ghost use Rattle.std.specs.Io.{ReadsAtMost};
+ghost use Rattle.cases.specs.Places.{CaseTaken};
 
-use crate::places::Place;
-use crate::{asking, batching, building, bytes, checking, merging, places, reading};
-use std::io;
+use crate::parts::Parts;
 use std::io::Write;
 use std::rt::Files;
+use std::{fs, io};
 
-// What the cases of a file call.
-#[derive(Clone, Copy)]
-pub enum Call {
-    Build,
-    BuildFolded,
-    Check,
-    Read,
-    Ask,
-    Batch,
-    Merge,
+// What a set of cases calls.
+pub trait Case<'a>: Sized {
+    // Cuts the next case off. One that is cut off is none, and what is before it the last.
+    fn read(parts: &mut Parts<'a>) -> Option<Self>
+        ensures { IfSome result (λ _. CaseTaken parts.old parts.new) };
+
+    // Makes the calls, and prints the case's line.
+    fn print<W: Write>(self, out: &mut W, number: usize) -> io::Result<()>;
 }
 
-// Runs the case behind another.
-fn run_one<W: Write>(
-    out: &mut W,
-    call: Call,
-    number: usize,
-    file: &[u8],
-    before: Place,
-) -> io::Result<Place>
-    requires { CasePlaced file.now before × (before.next < length file.now) }
-    ensures { IfOk result (λ place. CasePlaced file.now place × (before.next < place.next)) }
+// Reads a file as far as there is space, and gives the number of bytes read.
+fn load<R: Files>(rt: &R, path: &str, space: &mut [u8]) -> io::Result<usize>
+    ensures read { ReadsAtMost result space.new }
+    ensures kept { length space.new ≡ length space.old }
 {
-    match call {
-        Call::Build => {
-            let next = building::run_one(out, false, number, file, before.next)?;
-            Ok(places::without_book(before, next))
-        }
-        Call::BuildFolded => {
-            let next = building::run_one(out, true, number, file, before.next)?;
-            Ok(places::without_book(before, next))
-        }
-        Call::Check => {
-            let next = checking::run_one(out, number, file, before.next)?;
-            Ok(places::without_book(before, next))
-        }
-        Call::Read => reading::run_one(out, number, file, before),
-        Call::Ask => asking::run_one(out, number, file, before),
-        Call::Batch => batching::run_one(out, number, file, before),
-        Call::Merge => {
-            let next = merging::run_one(out, number, file, before.next)?;
-            Ok(places::without_book(before, next))
-        }
-    }
+    let mut file = fs::open(rt, path)?;
+    input::read_full(&mut file, space)
 }
 
-// Runs the cases one after the other.
-fn run_all<W: Write>(out: &mut W, call: Call, file: &[u8]) -> io::Result<()> {
-    let mut place = Place {
-        start: 0,
-        end: 0,
-        next: 0,
-    };
-    let mut number: usize = 0;
-    while place.next < file.len() {
-        place = run_one(out, call, number, file, place)?;
-        number += 1;
+// Runs the cases one after the other. Each takes at least a byte, so there are no more cases than bytes.
+fn run_all<'a, C: Case<'a>, W: Write>(out: &mut W, file: &'a [u8]) -> io::Result<()> {
+    let mut parts = Parts::of(file);
+    for number in 0..file.len() {
+        let Some(case) = C::read(&mut parts) else {
+            break;
+        };
+        case.print(out, number)?;
     }
     Ok(())
 }
 
 // Prints the lines of all cases of a file. It is read into the space.
-pub fn run<R: Files, W: Write>(
+pub fn run<'a, C: Case<'a>, R: Files, W: Write>(
     rt: &R,
     out: &mut W,
-    call: Call,
     path: &str,
-    space: &mut [u8],
+    space: &'a mut [u8],
 ) -> io::Result<()> {
-    let size = bytes::load(rt, path, space)?;
-    run_all(out, call, &space[..size])
+    let size = load(rt, path, space)?;
+    run_all::<C, W>(out, &space[..size])
 }

@@ -5,33 +5,40 @@
 mod asking;
 mod batching;
 mod building;
-mod bytes;
 mod checking;
 mod files;
-mod lines;
 mod merging;
-mod places;
+mod parts;
 mod reading;
+mod rooms;
+mod sums;
+mod told;
 
-use crate::files::Call;
+use asking::Asking;
+use batching::Batching;
+use building::{Folded, Plain};
+use checking::Checking;
+use files::run;
+use merging::Merging;
+use reading::Reading;
 use std::io;
 use std::io::Write;
 use std::rt::Files;
 
 // Each set of cases, read into the same space.
-fn run_sets<R: Files, W: Write>(rt: &R, out: &mut W, file: &mut [u8]) -> io::Result<()> {
-    files::run(rt, out, Call::Build, "build.cases", file)?;
-    files::run(rt, out, Call::Check, "check.cases", file)?;
-    files::run(rt, out, Call::Read, "read.cases", file)?;
-    files::run(rt, out, Call::Ask, "ask.cases", file)?;
-    files::run(rt, out, Call::Ask, "dearest.cases", file)?;
-    files::run(rt, out, Call::Batch, "batch.cases", file)?;
-    files::run(rt, out, Call::Merge, "merge.cases", file)?;
-    files::run(rt, out, Call::BuildFolded, "folded_build.cases", file)?;
-    files::run(rt, out, Call::Check, "folded_check.cases", file)?;
-    files::run(rt, out, Call::Read, "folded_read.cases", file)?;
-    files::run(rt, out, Call::Ask, "folded_ask.cases", file)?;
-    files::run(rt, out, Call::Batch, "folded_batch.cases", file)
+fn run_sets<R: Files, W: Write>(rt: &R, out: &mut W, space: &mut [u8]) -> io::Result<()> {
+    run::<Plain, R, W>(rt, out, "build.cases", space)?;
+    run::<Checking, R, W>(rt, out, "check.cases", space)?;
+    run::<Reading, R, W>(rt, out, "read.cases", space)?;
+    run::<Asking, R, W>(rt, out, "ask.cases", space)?;
+    run::<Asking, R, W>(rt, out, "dearest.cases", space)?;
+    run::<Batching, R, W>(rt, out, "batch.cases", space)?;
+    run::<Merging, R, W>(rt, out, "merge.cases", space)?;
+    run::<Folded, R, W>(rt, out, "folded_build.cases", space)?;
+    run::<Checking, R, W>(rt, out, "folded_check.cases", space)?;
+    run::<Reading, R, W>(rt, out, "folded_read.cases", space)?;
+    run::<Asking, R, W>(rt, out, "folded_ask.cases", space)?;
+    run::<Batching, R, W>(rt, out, "folded_batch.cases", space)
 }
 
 // The longest file of cases has less than 600,000 bytes. What is past them would not be read, and its lines would be missed. The check does

@@ -1,79 +1,64 @@
 // The cases of the calls over two lists, all four of them in each case. A case is a head and then the lists: of the head, 4 bytes have the
 // first list's length, 4 the room's, 8 and 8 how many records of the first and of the second list have been passed, and 4 the second
 // list's length.
-ghost use Rattle.std.specs.Prelude.{◌<◌, ◌≤◌, length, IfOk};
+ghost use Rattle.std.specs.Prelude.{◌≤◌};
 
-use crate::{bytes, lines};
+use crate::files::Case;
+use crate::parts::Parts;
+use crate::rooms;
+use crate::sums::Sums;
+use crate::told::{Told, Written};
 use std::io;
 use std::io::Write;
 
-const HEAD: usize = 28;
-
 const LONGEST_ROOM: usize = 70000;
 
-// How many records of either list have been passed.
+// Two lists, how many records of either have been passed, and how many bytes the room has.
 #[derive(Clone, Copy)]
-struct Passed {
-    first: usize,
-    second: usize,
+pub struct Merging<'a> {
+    first: &'a [u8],
+    second: &'a [u8],
+    passed_first: usize,
+    passed_second: usize,
+    room: usize,
+    ghost fits: { room ≤ 70000 },
 }
 
-// Merges in a room that is filled, judges, steps, and prints the case's line.
-fn print_merge<W: Write>(
-    out: &mut W,
-    number: usize,
-    first: &[u8],
-    second: &[u8],
-    passed: Passed,
-    room: &mut [u8],
-) -> io::Result<()> {
-    bytes::fill(room);
-    let answer = book::list_merge(first, second, room);
-    lines::begin_room(out, number, answer, room)?;
-    let judged = book::list_judge(first, second);
-    lines::add_answer(out, judged)?;
-    let head = book::list_head(first, second, passed.first, passed.second);
-    lines::add_head(out, head)?;
-    let part = book::list_step(first, second, passed.first, passed.second);
-    lines::add_checksum(out, part)?;
-    lines::end(out)
-}
+impl<'a> Case<'a> for Merging<'a> {
+    // A case that has too long a room is none.
+    fn read(parts: &mut Parts<'a>) -> Option<Self> {
+        let size = parts.four()?;
+        let room = parts.four_up_to(LONGEST_ROOM)?;
+        let passed_first = parts.eight()?;
+        let passed_second = parts.eight()?;
+        let other = parts.four()?;
+        let first = parts.take(size)?;
+        let second = parts.take(other)?;
+        Some(Merging {
+            first,
+            second,
+            passed_first,
+            passed_second,
+            room,
+        })
+    }
 
-// Runs the case at a place, and gives the place of the next. A case that is cut off, or has too long a room, is the last.
-pub fn run_one<W: Write>(out: &mut W, number: usize, file: &[u8], at: usize) -> io::Result<usize>
-    requires { at < length file.now }
-    ensures { IfOk result (λ next. (at < next) × (next ≤ length file.now)) }
-{
-    if file.len() - at < HEAD {
-        return Ok(file.len());
+    // Merges in a room that is filled, judges, and steps.
+    fn print<W: Write>(self, out: &mut W, number: usize) -> io::Result<()> {
+        let Merging {
+            first,
+            second,
+            passed_first,
+            passed_second,
+            room: size,
+        } = self;
+        let mut space = [0u8; LONGEST_ROOM];
+        let room = &mut space[..size];
+        rooms::fill(room);
+        let merged = Written::new(book::list_merge(first, second, room), room);
+        let judged = Told(book::list_judge(first, second));
+        let head = Told(book::list_head(first, second, passed_first, passed_second));
+        let part = Sums::of(book::list_step(first, second, passed_first, passed_second));
+        writeln!(out, "{number} {merged} {judged} {head} {part}")
     }
-    let start = at + HEAD;
-    let size = bytes::four(file, at);
-    let room_size = bytes::four(file, at + 4);
-    let passed = Passed {
-        first: bytes::eight(file, at + 8),
-        second: bytes::eight(file, at + 16),
-    };
-    let other = bytes::four(file, at + 24);
-    if file.len() - start < size {
-        return Ok(file.len());
-    }
-    let middle = start + size;
-    if file.len() - middle < other {
-        return Ok(file.len());
-    }
-    if LONGEST_ROOM < room_size {
-        return Ok(file.len());
-    }
-    let end = middle + other;
-    let mut room = [0u8; LONGEST_ROOM];
-    print_merge(
-        out,
-        number,
-        &file[start..middle],
-        &file[middle..end],
-        passed,
-        &mut room[0..room_size],
-    )?;
-    Ok(end)
 }

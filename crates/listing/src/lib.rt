@@ -7,16 +7,10 @@
 ghost use Rattle.std.specs.Prelude.{ℕ, ◌<◌};
 ghost use Rattle.names.specs.Names.{PositionAsk};
 
+use entries::Name;
 use std::io;
 use std::io::Write;
 use symbols::Rule;
-
-// An upper-case hex digit.
-fn digit(value: u8) -> u8
-    requires { value < 16 }
-{
-    if value < 10 { 48 + value } else { 55 + value }
-}
 
 // A byte from space to tilde as it is, but a backslash and any other as a backslash and two hex digits.
 fn say_byte<W: Write>(out: &mut W, byte: u8) -> io::Result<()> {
@@ -24,7 +18,7 @@ fn say_byte<W: Write>(out: &mut W, byte: u8) -> io::Result<()> {
     if is_plain {
         out.write_all(&[byte])
     } else {
-        out.write_all(&[b'\\', digit(byte / 16), digit(byte % 16)])
+        write!(out, "\\{byte:02X}")
     }
 }
 
@@ -46,13 +40,12 @@ fn say_line<W: Write>(
 ) -> io::Result<()>
     requires { 0 < k }
 {
-    let mut count = 0;
-    if position % k != 0 {
-        count = symbols::shared_symbols(Rule::Plain, before, name);
-    }
-    let block = position / k;
-    let length = name.len();
-    write!(out, "{position} {block} {count} {length} ")?;
+    let count = if position % k == 0 {
+        0
+    } else {
+        symbols::shared_symbols(Rule::Plain, before, name)
+    };
+    write!(out, "{position} {} {count} {} ", position / k, name.len())?;
     say_name(out, name)?;
     writeln!(out)
 }
@@ -61,26 +54,25 @@ fn say_line<W: Write>(
 fn say_lines<W: Write>(out: &mut W, book: &[u8], t: trailer::Trailer) -> io::Result<()>
     requires { (i : ℕ) → i < t.names → PositionAsk book.now t i }
 {
-    let n = numbers::wide16(t.names);
-    let k = numbers::wide16(t.block);
-    let mut before = [0u8; 200];
-    let mut before_len = 0;
+    let n = usize::from(t.names);
+    let k = usize::from(t.block);
+    let mut before = Name::new();
     for i in 0..n {
-        let entry = names::read_name(book, t, i);
-        let name = entry.name;
-        let len = entry.len;
-        say_line(out, i, k, &before[..before_len], &name[..len])?;
+        let name = names::read_name(book, t, i).name;
+        say_line(out, i, k, before.bytes(), name.bytes())?;
         before = name;
-        before_len = len;
     }
     Ok(())
 }
 
 // The first line: names, block size, nodes, bytes.
 fn say_head<W: Write>(out: &mut W, t: trailer::Trailer, bytes: usize) -> io::Result<()> {
-    let names = t.names;
-    let block = t.block;
-    let nodes = t.nodes;
+    let trailer::Trailer {
+        names,
+        block,
+        nodes,
+        ..
+    } = t;
     writeln!(
         out,
         "names {names} block {block} nodes {nodes} bytes {bytes}"
@@ -89,12 +81,9 @@ fn say_head<W: Write>(out: &mut W, t: trailer::Trailer, bytes: usize) -> io::Res
 
 // The listing of a book; of bytes that are none, the line `refused 2`.
 pub fn list<W: Write>(out: &mut W, book: &[u8]) -> io::Result<()> {
-    let checked = accept::check_book(book);
-    match checked {
-        accept::Checked::Sound(t) => {
-            say_head(out, t, book.len())?;
-            say_lines(out, book, t)
-        }
-        accept::Checked::Unsound => out.write_all(b"refused 2\n"),
-    }
+    let Some(t) = accept::check_book(book) else {
+        return out.write_all(b"refused 2\n");
+    };
+    say_head(out, t, book.len())?;
+    say_lines(out, book, t)
 }

@@ -11,12 +11,10 @@ const MOST: usize = 65536;
 fn make(rt: &(impl Print + Eprint), list: &[u8]) -> io::Result<()> {
     let mut room = [0u8; 65535];
     let answer = book::book_build(list, 16, &mut room);
-    let code = answer.code;
-    let first = answer.first;
-    if code == 0 {
-        rt.write_all(&room[..first])
+    if answer.code == 0 {
+        rt.write_all(&room[..answer.first])
     } else {
-        eprintln!(rt; "refused {code} {first}")
+        eprintln!(rt; "refused {} {}", answer.code, answer.first)
     }
 }
 

@@ -5,4 +5,4 @@ use Rattle.names.proofs.Rebuilding.{position-ask}
 use Rattle.listing.proofs.list.Goals as goal
 
 pub say_lines-requires : goal.say_lines-requires
-say_lines-requires g c = λ i h. position-ask _ _ i c.type_inv.book _ c.in-Sound.ensures.1 refl _ refl h
+say_lines-requires g c = λ i h. position-ask _ _ i c.type_inv.book _ c.in-Some.ensures.1 refl _ refl h

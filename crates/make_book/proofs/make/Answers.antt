@@ -6,8 +6,8 @@ use Rattle.answers.proofs.Calls.{build-within}
 use Rattle.make_book.proofs.make.Goals as goal
 
 pub slice_bounds-room-end : goal.slice_bounds-room-end
-slice_bounds-room-end g c = build-within PlainBook _ 16 _ _ c.book_build-answer.ensures c.if-code-eq0.true
+slice_bounds-room-end g c = build-within PlainBook _ 16 _ _ c.book_build-answer.ensures c.if-answer-eq0.true
 
 pub slice_bounds-write_all-end : goal.slice_bounds-write_all-end
 slice_bounds-write_all-end g c =
-    sym (length-take-le _ _ (build-within PlainBook _ 16 _ _ c.book_build-answer.ensures c.if-code-eq0.true))
+    sym (length-take-le _ _ (build-within PlainBook _ 16 _ _ c.book_build-answer.ensures c.if-answer-eq0.true))

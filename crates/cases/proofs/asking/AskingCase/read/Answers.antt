@@ -1,0 +1,10 @@
+-- The case of the questions takes at least its head, and its book stands in what it takes.
+-- Assumes nothing.
+use Rattle.cases.proofs.Taking.{case-case, head-taken, part-placed}
+use Rattle.cases.proofs.asking.AskingCase.read.Goals as goal
+
+pub returns : goal.returns
+returns c =
+    head-taken c.in_ok-size.ensures.0
+    (case-case (part-placed c.in_ok-asked.ensures.0)
+    (case-case c.in_ok-book.ensures.placed.0 (part-placed c.in_ok-question.ensures.0)))

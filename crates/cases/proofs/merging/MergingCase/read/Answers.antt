@@ -1,0 +1,13 @@
+-- A merge's case takes at least its head.
+-- Assumes nothing.
+use Rattle.cases.proofs.Taking.{case-case, head-taken, part-placed}
+use Rattle.cases.proofs.merging.MergingCase.read.Goals as goal
+
+pub returns : goal.returns
+returns c =
+    head-taken c.in_ok-size.ensures.0
+    (case-case (part-placed c.in_ok-room.ensures.0)
+    (case-case (part-placed c.in_ok-passed_first.ensures)
+    (case-case (part-placed c.in_ok-passed_second.ensures)
+    (case-case (part-placed c.in_ok-other.ensures.0)
+    (case-case (part-placed c.in_ok-first.ensures.0) (part-placed c.in_ok-second.ensures.0))))))
