@@ -52,8 +52,14 @@ module _ (b : Bytes) (n : ℕ) (q : Bytes) (at m i : ℕ) (w : Placing b n q at 
   abbrev asked : List ℕ
   asked = word plain q
 
-  pub placing-done : n ≤ i → SeatSays b q (record { place = n; name = None })
-  placing-done h = record { is = omega (arith, w.low, w.upto, place-le asked ws, words_count plain b, w.ask.count); name = omega (arith, w.ask.count) }
+  pub placing-done : n ≤ i → SeatSays b q (record { place = n; at = at; name = None })
+  placing-done h =
+      let last : i ≡ n = omega (arith, w.upto) in
+      record {
+        is = omega (arith, w.low, w.upto, place-le asked ws, words_count plain b, w.ask.count);
+        here = subst (λ (j : ℕ). Here b j at) last w.here;
+        name = omega (arith, w.ask.count);
+      }
 
   module _ (h : i < n) where
     inside : i < length (names_of b)
@@ -94,9 +100,10 @@ module _ (b : Bytes) (n : ℕ) (q : Bytes) (at m i : ℕ) (w : Placing b n q at 
       by_place : less (nth ws i) asked ≡ ltb i (place asked ws)
       by_place = place_at asked ws w.ask.known.rises i (omega (arith, words_count plain b, inside))
 
-      pub placing-found : not t ≡ true → (len : ℕ) → len ≡ length_at b at → SeatSays b q (record { place = i; name = Some (record { at = at; shared = s; len = len }) })
+      pub placing-found : not t ≡ true → (len : ℕ) → len ≡ length_at b at → SeatSays b q (record { place = i; at = at; name = Some (record { at = at; shared = s; len = len }) })
       placing-found f len le = record {
         is = omega (arith, w.low, ltb-false i (place asked ws) (sym by_place ∙ sym less-now ∙ not-true t f));
+        here = w.here;
         name = record { inside = inside; here = w.here; shares = shares-now; long = le ∙ here-length plain b i at w.ask.known w.here inside };
       }
 

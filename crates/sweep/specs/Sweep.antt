@@ -42,9 +42,10 @@ pub record FoundSays (b q : Bytes) (p : ℕ) (f : Found) : Type 0 where
   pub shares : f.shared ≡ shared (nth (words_of plain b) p) (word plain q)
   pub long : f.len ≡ length (nth (words_of plain b) p)
 
--- where the place is no name's, all names are less
+-- where entry number s.place stands, or where the entries end; where the place is no name's, all names are less
 pub record SeatSays (b q : Bytes) (s : Seat) : Type 0 where
   pub is : s.place ≡ place (word plain q) (words_of plain b)
+  pub here : Here b s.place s.at
   pub name : MatchOption s.name (length (names_of b) ≤ s.place) (FoundSays b q s.place)
 
 -- the name at the question's place, p, begins with the question

@@ -27,10 +27,11 @@ pub struct Found {
     pub len: usize,
 }
 
-// The question's place, and the name that has it, where one does.
+// The question's place; where the entry that has it stands, or where the entries end; and the name that has it, where one does.
 #[derive(Clone, Copy)]
 pub struct Seat {
     pub place: usize,
+    pub at: usize,
     pub name: Option<Found>,
 }
 
@@ -81,6 +82,7 @@ pub fn place_of(book: &[u8], n: usize, question: &[u8]) -> Seat
         if !met.less {
             return Seat {
                 place: i,
+                at,
                 name: Some(Found {
                     at,
                     shared: m,
@@ -92,6 +94,7 @@ pub fn place_of(book: &[u8], n: usize, question: &[u8]) -> Seat
     }
     Seat {
         place: n,
+        at,
         name: None,
     }
 }
