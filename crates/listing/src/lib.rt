@@ -7,10 +7,13 @@
 ghost use Rattle.std.specs.Prelude.{ℕ, ◌<◌};
 ghost use Rattle.names.specs.Names.{PositionAsk};
 
-use entries::Name;
+use entries::Entry;
 use std::io;
 use std::io::Write;
 use symbols::Rule;
+
+// The upper-case hex digits, each at its value.
+const DIGITS: [u8; 16] = *b"0123456789ABCDEF";
 
 // A byte from space to tilde as it is, but a backslash and any other as a backslash and two hex digits.
 fn say_byte<W: Write>(out: &mut W, byte: u8) -> io::Result<()> {
@@ -18,7 +21,11 @@ fn say_byte<W: Write>(out: &mut W, byte: u8) -> io::Result<()> {
     if is_plain {
         out.write_all(&[byte])
     } else {
-        write!(out, "\\{byte:02X}")
+        out.write_all(&[
+            b'\\',
+            DIGITS[usize::from(byte / 16)],
+            DIGITS[usize::from(byte % 16)],
+        ])
     }
 }
 
@@ -56,11 +63,12 @@ fn say_lines<W: Write>(out: &mut W, book: &[u8], t: trailer::Trailer) -> io::Res
 {
     let n = usize::from(t.names);
     let k = usize::from(t.block);
-    let mut before = Name::new();
+    let mut before: Option<Entry> = None;
     for i in 0..n {
-        let name = names::read_name(book, t, i).name;
-        say_line(out, i, k, before.bytes(), name.bytes())?;
-        before = name;
+        let entry = names::read_name(book, t, i);
+        let last = before.as_ref().map_or(&[][..], Entry::bytes);
+        say_line(out, i, k, last, entry.bytes())?;
+        before = Some(entry);
     }
     Ok(())
 }

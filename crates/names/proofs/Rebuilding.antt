@@ -1,6 +1,7 @@
 -- A name that is read back.
 --     position-..       an accepting check lets each position be asked
 --     BlockFound, found, place-ask, found-asks, found_name      where the block of a position starts, and what streams from there
+--     found-entries     how many entries are read from there on
 -- Assumes nothing.
 use Prim.Native.Nat.{ℕ, ◌*◌, ◌+◌, ◌/◌, ◌%◌, ◌<◌, ◌≤◌}
 use native.Mathlib.Nat.{div-add-mod', div-le_self}
@@ -22,7 +23,7 @@ use Rattle.trailer.specs.declared.Trailer.{Trailer}
 use Rattle.accept.specs.Parts.{check_on}
 use Rattle.std.specs.Prelude.{Option, Some}
 use Rattle.accept.proofs.Judging.{SoundBook, checked-sound}
-use Rattle.names.specs.Names.{Named, PlaceAsk, PositionAsk}
+use Rattle.names.specs.Names.{Named, PlaceAsk, PositionAsk, entries_to}
 
 -- ---- what can be asked
 
@@ -86,3 +87,7 @@ module _ {b : Bytes} {position table block rest start : ℕ} (f : BlockFound b p
 
   pub found_name : (name : Bytes) → NameIs b start rest name → Named (get_or (names_of b) position []) name
   found_name name n = f.gives name (subst (λ (o : ℕ). NameIs b o rest name) e n)
+
+-- from the block's first entry on
+pub found-entries : {b : Bytes} {k position table rest : ℕ} → PlaceAsk b k table position → rest ≡ position % k → (r : ℕ) → r ≡ rest + 1 → r ≡ entries_to (told b 1) position
+found-entries {b} {k} {position} a f r e = e ∙ omega (arith, f, ap (λ (n : ℕ). position % n) a.block)

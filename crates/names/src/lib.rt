@@ -1,7 +1,7 @@
 // A name read back from a book, from the start of its block on.
 #![tactic(auto)]
 
-ghost use Rattle.std.specs.Prelude.{◌≡◌, [], ◌/◌, ◌%◌, get_or};
+ghost use Rattle.std.specs.Prelude.{◌≡◌, [], ◌/◌, ◌%◌, get_or, take};
 ghost use Rattle.format.specs.Book.{names_of, told};
 ghost use Rattle.names.specs.Names.{Named, PlaceAsk, PositionAsk, Put, entries_to};
 
@@ -29,7 +29,7 @@ fn rest_of(k: usize, position: usize) -> usize
 // The name at a position of a book in blocks of k names, of which the block table at `table` tells where they begin.
 pub fn read_at(book: &[u8], k: usize, table: usize, position: usize) -> entries::Entry
     requires { PlaceAsk book.now k table position }
-    ensures named { Named (get_or (names_of book.now) position []) result.name }
+    ensures named { Named (get_or (names_of book.now) position []) (take result.len result.name) }
     ensures read_value { result.read ≡ entries_to (told book.now 1) position }
 {
     let block = block_of(k, position);
@@ -40,7 +40,7 @@ pub fn read_at(book: &[u8], k: usize, table: usize, position: usize) -> entries:
 // The same by what the book's trailer tells.
 pub fn read_name(book: &[u8], t: trailer::Trailer, position: usize) -> entries::Entry
     requires { PositionAsk book.now t position }
-    ensures named { Named (get_or (names_of book.now) position []) result.name }
+    ensures named { Named (get_or (names_of book.now) position []) (take result.len result.name) }
     ensures read_value { result.read ≡ entries_to (told book.now 1) position }
 {
     read_at(
@@ -57,7 +57,7 @@ pub fn put_name(book: &[u8], t: trailer::Trailer, position: usize, room: &mut [u
     ensures { Put (get_or (names_of book.now) position []) room.old result room.new }
 {
     let entry = read_name(book, t, position);
-    let name = entry.name.bytes();
+    let name = entry.bytes();
     let len = name.len();
     if room.len() < len {
         return None;

@@ -8,7 +8,7 @@ ghost use Rattle.notes.specs.Notes.{NoteMade, Noting, noted};
 use std::marker::Model;
 
 // The notes. A clause sees their bytes, of which `noted` tells what they say of a number.
-#[derive(Drop)]
+#[derive(Clone, Copy)]
 pub struct Notes {
     bytes: [u8; 250],
 }
@@ -17,6 +17,8 @@ impl Model for Notes {
     ghost Value = { List ℕ };
 
     ghost view = { λ s. s.bytes };
+
+    ghost inverse = { λ bytes. record { bytes = bytes } };
 }
 
 impl Notes {

@@ -117,7 +117,7 @@ fn put_blocks(card: &[u8], notes: &Notes, room: &mut [u8]) -> usize
 }
 
 // What was saved: so many bytes, and what was found of each block.
-#[derive(Drop)]
+#[derive(Clone, Copy)]
 pub struct Saved {
     pub size: usize,
     pub notes: Notes,

@@ -45,7 +45,7 @@ fn compare<const NEXT: bool>(book: &[u8], position: usize, visits: usize, questi
 {
     let k = trailer::block(book);
     let entry = names::read_at(book, k, trailer::blocks_at(book), position);
-    let name = entry.name.bytes();
+    let name = entry.bytes();
     let rule = trailer::rule(book);
     let shared = symbols::shared_symbols(rule, question, name);
     let symbol = if NEXT {

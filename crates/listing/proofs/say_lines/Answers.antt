@@ -3,5 +3,5 @@
 use Rattle.std.proofs.Common.{arith}
 use Rattle.listing.proofs.say_lines.Goals as goal
 
-pub read_name-name-requires : goal.read_name-name-requires
-read_name-name-requires c c' = c'.requires c'.loop-i.i (omega arith)
+pub read_name-entry-requires : goal.read_name-entry-requires
+read_name-entry-requires c c' = c'.requires c'.loop-i.i (omega arith)

@@ -2,7 +2,7 @@
 -- Assumes nothing.
 use mathlib.Core.Path.{refl}
 use native.Mathlib.Omega.{arith}
-use Rattle.names.proofs.Rebuilding.{found, found-asks, found_name}
+use Rattle.names.proofs.Rebuilding.{found, found-asks, found-entries, found_name}
 use Rattle.names.proofs.read_at.Goals as goal
 
 pub overflow_mul-block : goal.overflow_mul-block
@@ -19,4 +19,7 @@ name_of-requires c = found-asks (found c.requires c.block_of-block.ensures c.res
 
 pub returns-clause-named : goal.returns-clause-named
 returns-clause-named c =
-    found_name (found c.requires c.block_of-block.ensures c.rest_of.ensures) c.number_at-start.ensures.0 c.name_of.result.name c.name_of.ensures.name_is
+    found_name (found c.requires c.block_of-block.ensures c.rest_of.ensures) c.number_at-start.ensures.0 _ c.name_of.ensures.name_is
+
+pub returns-clause-read_value : goal.returns-clause-read_value
+returns-clause-read_value c = found-entries c.requires c.rest_of.ensures _ c.name_of.ensures.read_value
