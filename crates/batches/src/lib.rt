@@ -30,7 +30,9 @@ pub fn open_batch(book: &[u8], rows: usize, places: usize) -> Result<usize, Refu
     Ok(rows)
 }
 
-// What a row's question alone would get from a book that the batch's opening has accepted. Refusals: 11, 1, 10.
+// What a row's question alone would get from a book that the batch's opening has accepted. Refusals: 11, 1, 10. It stays a function: put into the
+// announcer's call, what it keeps lies below every level of the check before it (DECISIONS 193).
+#[inline(never)]
 pub fn answer_row(book: &[u8], questions: &[u8], row: Row) -> Result<Reply, Refusal>
     requires { Accepted book.now }
     ensures { (replied result).answer ≡ row_answer (opened book.now) questions.now (row_of row) }

@@ -24,7 +24,10 @@ fn judge_alone(list: &[u8]) -> Result<usize, Refusal>
     records::judge::<PlainRule>(list, list.len(), &mut [])
 }
 
-// Whether both lists read well: else refusal 5 or 6 with the record's number, of the first list before the second.
+// Whether both lists read well: else refusal 5 or 6 with the record's number, of the first list before the second. It is put into each of its three
+// callers: as a function of its own it gives its answer in memory that is cleared first, 16 bytes at a time, and then whoever only judges or
+// steps needs an aligned stack and xmm registers.
+#[inline(always)]
 pub fn judge_both(first: &[u8], second: &[u8]) -> Result<(), Unread>
     ensures { judged_both result ≡ judge_lists first.now second.now }
 {

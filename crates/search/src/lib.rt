@@ -8,7 +8,7 @@ ghost use Rattle.answers.specs.Questions.{ask, exact, nearest, place, range};
 ghost use Rattle.answers.specs.Widths.{last_kind, width};
 ghost use Rattle.descent.specs.Vocabulary.{asked_in};
 ghost use Rattle.paths.specs.Paths.{own_map};
-ghost use Rattle.spots.specs.Spots.{AtSpot, Askable, Looked};
+ghost use Rattle.spots.specs.Spots.{AtSpot, Looked};
 ghost use Rattle.search.specs.Asks.{AnswerAsk, number_of, pair_of, reply_of};
 
 use fields::Table;
@@ -88,12 +88,15 @@ fn seat(table: Table<'_>, question: &[u8], spot: Spot) -> usize
     past
 }
 
-// (position, 1) where a name equals the question, else (0, 0).
-fn ask_exact(table: Table<'_>, question: &[u8]) -> Reply
-    requires { Askable table.book.now table.stride table.step }
-    ensures result_value { pair_of result ≡ exact (asked_in table.entry.book.now question.now) (words_in table.entry.book.now) }
-    ensures looked { Looked table.entry.book.now question.now result.visits result.entries }
+// (position, 1) where a name equals the question, else (0, 0). It stays a function, and makes its table itself: what it keeps would else lie
+// below every level of the check before it (DECISIONS 193).
+#[inline(never)]
+fn ask_exact(book: &[u8], question: &[u8]) -> Reply
+    requires { AnswerAsk book.now }
+    ensures result_value { pair_of result ≡ exact (asked_in book.now question.now) (words_in book.now) }
+    ensures looked { Looked book.now question.now result.visits result.entries }
 {
+    let table = trailer::table_of(book);
     let met = spots::meet(table, question);
     let missed = Reply::of(met, 0, 0);
     if met.shared != question.len() {
@@ -106,22 +109,24 @@ fn ask_exact(table: Table<'_>, question: &[u8]) -> Reply
 }
 
 // (how many names are less, 0).
-fn ask_place(table: Table<'_>, question: &[u8]) -> Reply
-    requires { Askable table.book.now table.stride table.step }
-    ensures result_value { pair_of result ≡ (place (asked_in table.entry.book.now question.now) (words_in table.entry.book.now), 0) }
-    ensures looked { Looked table.entry.book.now question.now result.visits result.entries }
+fn ask_place(book: &[u8], question: &[u8]) -> Reply
+    requires { AnswerAsk book.now }
+    ensures result_value { pair_of result ≡ (place (asked_in book.now question.now) (words_in book.now), 0) }
+    ensures looked { Looked book.now question.now result.visits result.entries }
 {
+    let table = trailer::table_of(book);
     let spot = spots::locate(table, question);
     let before = seat(table, question, spot);
     Reply::of(spot.met, before, 0)
 }
 
 // (the question's place, how many names begin with it).
-fn ask_range(table: Table<'_>, question: &[u8]) -> Reply
-    requires { Askable table.book.now table.stride table.step }
-    ensures result_value { pair_of result ≡ range (asked_in table.entry.book.now question.now) (words_in table.entry.book.now) }
-    ensures looked { Looked table.entry.book.now question.now result.visits result.entries }
+fn ask_range(book: &[u8], question: &[u8]) -> Reply
+    requires { AnswerAsk book.now }
+    ensures result_value { pair_of result ≡ range (asked_in book.now question.now) (words_in book.now) }
+    ensures looked { Looked book.now question.now result.visits result.entries }
 {
+    let table = trailer::table_of(book);
     let spot = spots::locate(table, question);
     let first = seat(table, question, spot);
     if spot.met.shared < question.len() {
@@ -131,22 +136,27 @@ fn ask_range(table: Table<'_>, question: &[u8]) -> Reply
     Reply::of(spot.met, first, second)
 }
 
-// (the position reached, the symbols that its name and the question share).
-fn ask_nearest(table: Table<'_>, question: &[u8]) -> Reply
-    requires { Askable table.book.now table.stride table.step }
-    ensures result_value { pair_of result ≡ nearest (asked_in table.entry.book.now question.now) (words_in table.entry.book.now) }
-    ensures looked { Looked table.entry.book.now question.now result.visits result.entries }
+// (the position reached, the symbols that its name and the question share). It stays a function, as `ask_exact`.
+#[inline(never)]
+fn ask_nearest(book: &[u8], question: &[u8]) -> Reply
+    requires { AnswerAsk book.now }
+    ensures result_value { pair_of result ≡ nearest (asked_in book.now question.now) (words_in book.now) }
+    ensures looked { Looked book.now question.now result.visits result.entries }
 {
+    let table = trailer::table_of(book);
     let met = spots::meet(table, question);
     Reply::of(met, met.position, met.shared)
 }
 
 // (the greatest length of the names that begin with the question, 0): of those the node tells it, and no name of the range is read.
-fn ask_width(table: Table<'_>, question: &[u8]) -> Reply
-    requires { Askable table.book.now table.stride table.step }
-    ensures result_value { pair_of result ≡ (width (asked_in table.entry.book.now question.now) (words_in table.entry.book.now), 0) }
-    ensures looked { Looked table.entry.book.now question.now result.visits result.entries }
+// It stays a function, as `ask_exact`.
+#[inline(never)]
+fn ask_width(book: &[u8], question: &[u8]) -> Reply
+    requires { AnswerAsk book.now }
+    ensures result_value { pair_of result ≡ (width (asked_in book.now question.now) (words_in book.now), 0) }
+    ensures looked { Looked book.now question.now result.visits result.entries }
 {
+    let table = trailer::table_of(book);
     let spot = spots::locate(table, question);
     if spot.met.shared != question.len() {
         return Reply::of(spot.met, 0, 0);
@@ -161,16 +171,15 @@ pub fn answer(book: &[u8], kind: Asked, question: &[u8]) -> Reply
     ensures result_value { pair_of result ≡ ask (number_of kind) (asked_in book.now question.now) (words_in book.now) }
     ensures looked { Looked book.now question.now result.visits result.entries }
 {
-    let table = trailer::table_of(book);
     if matches!(kind, Asked::Exact | Asked::Place) {
         return match kind {
-            Asked::Exact => ask_exact(table, question),
-            _ => ask_place(table, question),
+            Asked::Exact => ask_exact(book, question),
+            _ => ask_place(book, question),
         };
     }
     match kind {
-        Asked::Range => ask_range(table, question),
-        Asked::Nearest => ask_nearest(table, question),
-        _ => ask_width(table, question),
+        Asked::Range => ask_range(book, question),
+        Asked::Nearest => ask_nearest(book, question),
+        _ => ask_width(book, question),
     }
 }

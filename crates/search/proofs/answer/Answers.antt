@@ -1,4 +1,4 @@
--- One kind of question for each number. What the table answers is answered of the book that it was made of.
+-- One kind of question for each number.
 use mathlib.Core.Path.{◌≡◌, ◌∙◌, ap, refl, sym}
 use mathlib.Core.Logic.{◌⊎◌, inl, inr}
 use Rattle.words.proofs.Words.{false≠true}
@@ -23,34 +23,32 @@ last Width a b c d = refl
 
 pub returns-in-Exact-kind-clause-result_value : goal.returns-in-Exact-kind-clause-result_value
 returns-in-Exact-kind-clause-result_value c =
-    by-exact _ _ _ (ap number_of c.in-Exact-kind.is) (rw c.table_of-table.ensures.book_same at c.ask_exact.ensures.result_value)
+    by-exact _ _ _ (ap number_of c.in-Exact-kind.is) c.ask_exact.ensures.result_value
 
 pub returns-in_default-kind : goal.returns-in_default-kind
 returns-in_default-kind c =
-    let own = c.table_of-table.ensures.book_same in
     record {
       result_value = by_place _ _ _ (elim c.match-matches.branch [
         | in-Exact w ↦ second _ w.in-Exact.is c.in_default-kind.not-Exact
         | in_default w ↦ absurd (false≠true (sym w.matches-is ∙ c.if-matches.true))
-      ]) (rw own at c.ask_place.ensures.result_value);
-      looked = rw own at c.ask_place.ensures.looked;
+      ]) c.ask_place.ensures.result_value;
+      looked = c.ask_place.ensures.looked;
     }
 
 pub returns-in-Range-clause-result_value : goal.returns-in-Range-clause-result_value
 returns-in-Range-clause-result_value c =
-    by-range _ _ _ (ap number_of c.in-Range.is) (rw c.table_of-table.ensures.book_same at c.ask_range.ensures.result_value)
+    by-range _ _ _ (ap number_of c.in-Range.is) c.ask_range.ensures.result_value
 
 pub returns-in-Nearest-clause-result_value : goal.returns-in-Nearest-clause-result_value
 returns-in-Nearest-clause-result_value c =
-    by-nearest _ _ _ (ap number_of c.in-Nearest.is) (rw c.table_of-table.ensures.book_same at c.ask_nearest.ensures.result_value)
+    by-nearest _ _ _ (ap number_of c.in-Nearest.is) c.ask_nearest.ensures.result_value
 
 pub returns-in_default-kind-2 : goal.returns-in_default-kind-2
 returns-in_default-kind-2 c =
-    let own = c.table_of-table.ensures.book_same in
     record {
       result_value = by_width _ _ _ (elim c.match-matches.branch [
         | in-Exact w ↦ absurd (false≠true (sym c.if-matches.false ∙ w.matches-is))
         | in_default w ↦ last _ w.in_default.not-Exact w.in_default.not-Place c.in_default-kind-2.not-Range c.in_default-kind-2.not-Nearest
-      ]) (rw own at c.ask_width.ensures.result_value);
-      looked = rw own at c.ask_width.ensures.looked;
+      ]) c.ask_width.ensures.result_value;
+      looked = c.ask_width.ensures.looked;
     }

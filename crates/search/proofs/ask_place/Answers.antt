@@ -1,11 +1,19 @@
--- How many names are less is what `seat` gives.
+-- How many names are less is what `seat` gives. What the table answers is answered of the book that it was made of.
 use Prim.Native.Nat.{ℕ}
 use mathlib.Core.Path.{ap}
-use Rattle.spots.proofs.Spots.{spot-at}
+use Rattle.spots.proofs.Spots.{own-askable, spot-at}
 use Rattle.search.proofs.ask_place.Goals as goal
 
 pub seat-before-requires : goal.seat-before-requires
-seat-before-requires c = spot-at c.requires c.locate-spot.ensures.spot_says
+seat-before-requires c =
+    let told = c.table_of-table.ensures in
+    let own = told.book_same in
+    rw own (spot-at (own-askable c.requires.parts c.requires.searchable told.map_told.0 told.map_told.1) (rw own at c.locate-spot.ensures.spot_says))
 
 pub returns : goal.returns
-returns c = rw c.of.ensures (record { result_value = ap (λ (n : ℕ). (n, 0)) c.seat-before.ensures; looked = c.locate-spot.ensures.looked })
+returns c =
+    let own = c.table_of-table.ensures.book_same in
+    rw c.of.ensures (record {
+      result_value = ap (λ (n : ℕ). (n, 0)) (rw own at c.seat-before.ensures);
+      looked = rw own at c.locate-spot.ensures.looked;
+    })
