@@ -14,9 +14,9 @@ use symbols::Rule;
 
 // How many symbols a name and the question share, and whether the name is less. Both hold of every name: neither says whether the other counts.
 #[derive(Clone, Copy)]
-struct Met {
-    shared: usize,
-    less: bool,
+pub struct Met {
+    pub shared: usize,
+    pub less: bool,
 }
 
 // A name, by its entry: where that stands, how many symbols the name and the question share, and the name's length.

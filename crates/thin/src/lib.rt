@@ -23,9 +23,9 @@ pub struct Fork {
 // What is left when forks have ended: how many are still open; the first name of what ended last, and where the question ends in it.
 #[derive(Clone, Copy)]
 pub struct Closed {
-    forks: usize,
-    first: u16,
-    reach: u16,
+    pub forks: usize,
+    pub first: u16,
+    pub reach: u16,
 }
 
 // The right edge: the forks that are open, the deepest last. No two have the same depth, so there is a place for each depth.
