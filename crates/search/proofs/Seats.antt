@@ -2,6 +2,7 @@
 --     seat-..              the place there: before or after the edge, a child, the end of the row
 --     range-.., width-.., nearest-is, exact-..   the other answers
 --     by-..                an answer by the number of its kind
+--     told-askable         the table that was made of an accepted book can be searched
 -- Assumes nothing.
 use Prim.Native.Nat.{ℕ, ◌+◌, ◌-◌, ◌*◌, ◌≤◌, ◌<◌}
 use native.Mathlib.Omega.{arith}
@@ -22,14 +23,16 @@ use Rattle.answers.specs.Widths.{width}
 use Rattle.answers.proofs.Nearest.{reached-most}
 use Rattle.answers.proofs.Widths.{ask-width}
 use Rattle.descent.specs.Vocabulary.{Searchable, Sought, asked, asked_in, from, node, upto}
-use Rattle.standing.specs.Maps.{Map, number_in, record_at}
+use Rattle.standing.specs.Maps.{Map, map_of, number_in, record_at}
 use Rattle.descent.proofs.Cuts.{exact-here, exact-nowhere, none-wide, range_none, whole-range, whole-width}
 use Rattle.descent.proofs.Rows.{sits-told}
 use Rattle.descent.proofs.Paths.{edge-after, edge-before, fork-child, fork-end, fork-wide}
 use Rattle.format.specs.Spans.{words_in}
 use Rattle.paths.specs.Paths.{AtFork, AtNode, SoughtAt}
 use Rattle.paths.proofs.Ways.{AtOffset, asked-at, asked-length, at_here, here-told, row_before, row_here, row-past}
-use Rattle.spots.specs.Spots.{AtSpot, NearSays, SpotSays}
+use Rattle.spots.specs.Spots.{AtSpot, Askable, NearSays, SpotSays}
+use Rattle.spots.proofs.Spots.{own-askable}
+use Rattle.search.specs.Asks.{AnswerAsk}
 
 -- ---- `seat`
 
@@ -192,3 +195,8 @@ module _ (q : List ℕ) (ws : Words) {p : Numbers} (kind : ℕ) where
 
   pub by_width : kind ≡ 5 → p ≡ (width q ws, 0) → p ≡ ask kind q ws
   by_width e f = by-kind 5 e (f ∙ sym (ask-width q ws))
+
+-- ---- the table that was made of the book
+
+pub told-askable : {t b : Bytes} {x y : ℕ} → t ≡ b → (x ≡ (map_of b).stride) × (y ≡ (map_of b).step) → AnswerAsk b → Askable t x y
+told-askable {t} {b} {x} {y} same told a = subst (λ (z : Bytes). Askable z x y) (sym same) (own-askable a.parts a.searchable told.0 told.1)

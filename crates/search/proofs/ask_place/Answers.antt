@@ -1,14 +1,12 @@
 -- How many names are less is what `seat` gives. What the table answers is answered of the book that it was made of.
 use Prim.Native.Nat.{ℕ}
 use mathlib.Core.Path.{ap}
-use Rattle.spots.proofs.Spots.{own-askable, spot-at}
+use Rattle.spots.proofs.Spots.{spot-at}
+use Rattle.search.proofs.Seats.{told-askable}
 use Rattle.search.proofs.ask_place.Goals as goal
 
 pub seat-before-requires : goal.seat-before-requires
-seat-before-requires c =
-    let told = c.table_of-table.ensures in
-    let own = told.book_same in
-    rw own (spot-at (own-askable c.requires.parts c.requires.searchable told.map_told.0 told.map_told.1) (rw own at c.locate-spot.ensures.spot_says))
+seat-before-requires c = spot-at (told-askable c.table_of-table.ensures.book_same c.table_of-table.ensures.map_told c.requires) c.locate-spot.ensures.spot_says
 
 pub returns : goal.returns
 returns c =
